@@ -1,0 +1,7 @@
+use Rattle.std.proofs.Common.{subst, sym, arith}
+use Rattle.civil.specs.Days.{IsPlausible}
+use Rattle.civil.proofs.Dates.{plausible}
+use Rattle.civil.proofs.Civil.day.Goals as goal
+
+pub returns-clause-ranges : goal.returns-clause-ranges
+returns-clause-ranges c = subst IsPlausible (sym c.entry.ensures) (plausible c.args.n (omega arith))

@@ -1,0 +1,13 @@
+-- Days and jiff's dates.
+use Rattle.std.specs.Prelude.{◌≡◌, ◌+◌, ◌%◌, pos}
+use Rattle.jiff_core.specs.declared.civil.date.Date.{Date}
+use Rattle.jiff_core.specs.Date.{ordinal, weekday_of}
+use Rattle.definitions.specs.declared.day.Day.{Day}
+
+-- jiff's date is this day
+pub record IsOn (date : Date) (d : Day) : Type 0 where
+  pub year : date.year ≡ pos d.year
+  pub month : date.month ≡ d.month
+  pub day : date.day ≡ d.day
+  pub weekday : (weekday_of date + 1) % 7 ≡ d.weekday
+  pub place : ordinal date ≡ d.day_of_year

@@ -1,0 +1,12 @@
+pub mod Calendar
+pub mod Vocabulary
+pub mod Jjy
+pub mod Allowed
+pub mod Walks
+pub mod Logs
+pub mod Costs
+pub mod Answers
+pub mod Lines
+pub mod Texts
+pub mod Owed
+pub mod Examples

@@ -1,0 +1,32 @@
+-- What a log says: the level at a millisecond, and the low milliseconds of a tenth of a second.
+use Rattle.std.specs.Prelude.{ℕ, zero, suc, ◌+◌, nat_lt, nat_le, if◌then◌else◌, List, [], ◌∷◌, filter, Option, Some, None}
+use Rattle.std.specs.List.{list_any}
+use Rattle.definitions.specs.declared.level.Level.{Level}
+use Rattle.definitions.specs.declared.level.Level.TheVariants.{High, Low, Unknown}
+
+-- a log: times in milliseconds, which rise, and the level from each time on
+abbrev pub Records : Type 0
+Records = List (ℕ × Level)
+
+-- the level of the last record
+abbrev pub last_level : Records → Level
+last_level [] = Unknown
+last_level (r ∷ []) = r.1
+last_level (r ∷ s ∷ rs) = last_level (s ∷ rs)
+
+-- The level at millisecond m is that of the last record not after it, where some record is later.
+abbrev pub level_at : Records → ℕ → Level
+level_at log m =
+    if list_any (λ r. nat_lt m r.0) log then last_level (filter (λ r. nat_le r.0 m) log) else Unknown
+
+-- one more millisecond of this level: its count where all so far is known
+abbrev pub count_level : Level → Option ℕ → Option ℕ
+count_level level None = None
+count_level Low (Some n) = Some (n + 1)
+count_level High (Some n) = Some n
+count_level Unknown (Some n) = None
+
+-- how many of the n milliseconds from m on are low, or none where one of them is unknown
+unfoldable pub low_count : Records → ℕ → ℕ → Option ℕ
+low_count log m zero = Some 0
+low_count log m (suc n) = count_level (level_at log (m + n)) (low_count log m n)

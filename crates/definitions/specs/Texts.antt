@@ -1,0 +1,92 @@
+-- The texts, as lists of bytes. Each line ends with LF (10).
+use Rattle.std.specs.Prelude.{ℕ, zero, suc, ◌+◌, ◌*◌, ◌/◌, ◌%◌, ◌==◌, if◌then◌else◌, List, [], ◌∷◌, ◌++◌, Option, Some, None, codes}
+use Rattle.std.specs.Fmt.{decimal}
+use Rattle.signal_base.specs.declared.window.Window.{Window}
+use Rattle.definitions.specs.declared.fields.Fields.{Fields}
+use Rattle.definitions.specs.declared.sequence.Sequence.{Sequence}
+use Rattle.definitions.specs.declared.answer.Answer.{Answer}
+use Rattle.definitions.specs.declared.answer.Answer.TheVariants.{Nothing, Decided, Undecided}
+use Rattle.definitions.specs.Calendar.{utc_fields}
+use Rattle.definitions.specs.Walks.{place_at}
+use Rattle.definitions.specs.Lines.{LineFault, Shape, NotRising, TooManyRecords}
+
+-- a line of these bytes
+abbrev pub line : List ℕ → List ℕ
+line bytes = bytes ++ 10 ∷ []
+
+-- the last two digits of a number
+abbrev pub two_digits : ℕ → List ℕ
+two_digits n = (48 + n / 10 % 10) ∷ (48 + n % 10) ∷ []
+
+-- YYYY-MM-DD
+abbrev pub date_text : ℕ → ℕ → ℕ → List ℕ
+date_text year month day =
+    two_digits (year / 100) ++ two_digits year ++ 45 ∷ two_digits month ++ 45 ∷ two_digits day
+
+-- YYYY-MM-DDThh:mmZ, in UTC
+abbrev pub fields_text : Fields → List ℕ
+fields_text f =
+    date_text f.year f.month f.day ++ 84 ∷ two_digits f.hour ++ 58 ∷ two_digits f.minute ++ 90 ∷ []
+
+abbrev pub minute_text : ℕ → List ℕ
+minute_text t = fields_text (utc_fields t)
+
+-- the first minute, the first second, and whether a leap second is announced
+abbrev pub sequence_text : Sequence → List ℕ
+sequence_text q =
+    minute_text q.first ++ 32 ∷ decimal q.second ++ 32 ∷ (if q.announced then codes "yes" else codes "no")
+
+-- the millisecond of the receivers' clock at which slot k begins
+abbrev pub slot_begin : Window → ℕ → ℕ
+slot_begin window k = window.start + window.phase + 1000 * k
+
+-- the line of a minute that begins in slot k
+abbrev pub minute_line : Window → Sequence → ℕ → List ℕ
+minute_line window q k =
+    if (place_at q k).1 == 0
+    then line (codes "minute " ++ minute_text (place_at q k).0 ++ codes " at " ++ decimal (slot_begin window k))
+    else []
+
+-- a line for each minute that begins in the first n slots, in order
+unfoldable pub minute_lines : Window → Sequence → ℕ → List ℕ
+minute_lines window q zero = []
+minute_lines window q (suc n) = minute_lines window q n ++ minute_line window q n
+
+abbrev pub phase_line : Window → List ℕ
+phase_line window = line (codes "phase " ++ decimal window.phase)
+
+abbrev pub sequence_line : Sequence → List ℕ
+sequence_line q = line (codes "sequence " ++ sequence_text q)
+
+abbrev pub next_line : Option ℕ → List ℕ
+next_line None = line (codes "next none")
+next_line (Some n) = line (codes "next " ++ decimal n)
+
+-- the report of an answer, for stations that send no DUT1
+abbrev pub report : Window → Answer → List ℕ
+report window Nothing = line (codes "none") ++ phase_line window
+report window (Decided c q next) =
+    line (codes "decided " ++ decimal c) ++ phase_line window ++ sequence_line q ++ next_line next
+    ++ minute_lines window q window.seconds
+report window (Undecided c q r) =
+    line (codes "undecided " ++ decimal c) ++ phase_line window ++ sequence_line q ++ sequence_line r
+
+-- the refusal of words that aren't of the grammar
+abbrev pub usage_line : List ℕ
+usage_line = line (codes "words: usage")
+
+abbrev pub fault_text : LineFault → List ℕ
+fault_text Shape = codes "shape"
+fault_text NotRising = codes "not rising"
+fault_text TooManyRecords = codes "too many records"
+
+-- the beginning of a refusal of the log of a receiver, by its number from 1 and its name
+abbrev pub log_text : ℕ → List ℕ → List ℕ
+log_text number name = codes "log " ++ decimal number ++ 32 ∷ name ++ codes ": "
+
+abbrev pub log_too_large_line : ℕ → List ℕ → List ℕ
+log_too_large_line number name = line (log_text number name ++ codes "too large")
+
+abbrev pub log_fault_line : ℕ → List ℕ → ℕ → LineFault → List ℕ
+log_fault_line number name at fault =
+    line (log_text number name ++ codes "line " ++ decimal at ++ codes ": " ++ fault_text fault)

@@ -1,0 +1,60 @@
+-- The words that the telegrams share: sets of symbols, weights of seconds, decimal fields and parity.
+use Rattle.std.specs.Prelude.{ℕ, ◌+◌, ◌/◌, ◌%◌, ◌^◌, Bool, false, ◌==◌, ◌&&◌, ◌||◌, nat_lt, nat_le, if◌then◌else◌, List, [], ◌∷◌, sum_by, Option, option_map, find}
+use Rattle.std.specs.Option.{option_map_or}
+
+-- A set of symbols is a mask in which bit x stands for symbol x.
+-- the set of one symbol
+abbrev pub only : ℕ → ℕ
+only x = 2 ^ x
+
+-- the set of the symbols 0 and 1
+abbrev pub free : ℕ
+free = 3
+
+-- the second isn't scored
+abbrev pub unscored : ℕ
+unscored = 255
+
+-- the minute has no such second
+abbrev pub no_second : ℕ
+no_second = 0
+
+-- The weights of some consecutive seconds, the first of them given: pairs of a second and its weight.
+abbrev pub weights_from : ℕ → List ℕ → List (ℕ × ℕ)
+weights_from second [] = []
+weights_from second (w ∷ ws) = (second, w) ∷ weights_from (second + 1) ws
+
+-- A number is written digit by digit: the weights 1 to 8 carry the units, 10 to 80 the tens, 100 and 200 the
+-- hundreds, each digit in binary.
+-- the bit of the number's digits that has this weight
+abbrev pub digit_bit : ℕ → ℕ → ℕ
+digit_bit value weight =
+    if nat_lt weight 10 then value % 10 / weight % 2
+    else if nat_lt weight 100 then value / 10 % 10 / (weight / 10) % 2
+    else value / 100 % 10 / (weight / 100) % 2
+
+-- the weight of a second, where the table has it
+abbrev pub weight_of : List (ℕ × ℕ) → ℕ → Option ℕ
+weight_of weights second = option_map (λ w. w.1) (find (λ w. w.0 == second) weights)
+
+-- a field of a telegram: the weights of its seconds, and its value
+abbrev pub Field : Type 0
+Field = List (ℕ × ℕ) × ℕ
+
+-- the bit that a second carries: that of the field that has it, and 0 in a second of no field
+abbrev pub carried_bit : List Field → ℕ → ℕ
+carried_bit [] second = 0
+carried_bit (f ∷ fs) second = option_map_or (digit_bit f.1) (weight_of f.0 second) (carried_bit fs second)
+
+-- how many ones a field has
+abbrev pub ones : List (ℕ × ℕ) → ℕ → ℕ
+ones weights value = sum_by (λ w. digit_bit value w.1) weights
+
+-- the second is one of these
+abbrev pub is_one_of : List ℕ → ℕ → Bool
+is_one_of [] second = false
+is_one_of (s ∷ ss) second = (s == second) || is_one_of ss second
+
+-- the second is one of those from first to last
+abbrev pub is_within : ℕ → ℕ → ℕ → Bool
+is_within first last second = nat_le first second && nat_le second last

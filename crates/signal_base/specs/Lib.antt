@@ -1,0 +1,4 @@
+pub mod Mask
+pub mod Number
+pub mod Waveform
+pub mod Table
