@@ -1,11 +1,12 @@
 -- What a sequence costs: how far it is from what the receivers heard.
-use Rattle.std.specs.Prelude.{ℕ, zero, suc, ◌+◌, ◌*◌, Bool, false, ◌==◌, if◌then◌else◌, List, [], ◌∷◌, map, filter, sum_by, min, slice_index, slice_index_or, Option, Some, None}
+use Rattle.std.specs.Prelude.{ℕ, zero, suc, ◌+◌, ◌*◌, Bool, false, ◌==◌, if◌then◌else◌, List, [], ◌∷◌, map, filter, sum_by, fold, min, slice_index, slice_index_or, Option, Some, None, unwrap_or}
+use Rattle.std.specs.List.{range_with_len}
 use Rattle.signal_base.specs.declared.station.Station.{Station}
 use Rattle.signal_base.specs.declared.tuning.Tuning.{Tuning}
 use Rattle.signal_base.specs.declared.tuning.CostTable.{CostTable}
-use Rattle.signal_base.specs.declared.station.Station.TheVariants.{Dcf77, Msf, Wwvb, Jjy}
+use Rattle.signal_base.specs.declared.station.Station.TheVariants.{Jjy}
 use Rattle.signal_base.specs.Mask.{has_bit}
-use Rattle.signal_base.specs.Waveform.{waveform}
+use Rattle.signal_base.specs.Waveform.{symbol_count, waveform}
 use Rattle.definitions.specs.Vocabulary.{unscored}
 use Rattle.definitions.specs.Logs.{Records, low_count}
 use Rattle.definitions.specs.Walks.{set_at}
@@ -15,6 +16,12 @@ use Rattle.definitions.specs.declared.sequence.Sequence.{Sequence}
 pub record Reception : Type 0 where
   pub tuning : Tuning
   pub log : Records
+
+-- the receivers, from their tunings and what each of them heard
+abbrev pub receptions : List Tuning → List Records → List Reception
+receptions [] logs = []
+receptions (t ∷ ts) [] = []
+receptions (t ∷ ts) (l ∷ ls) = record { tuning = t; log = l } ∷ receptions ts ls
 
 -- f 0 + f 1 + .. up to, and without, f n
 unfoldable pub total_below : ℕ → (ℕ → ℕ) → ℕ
@@ -39,24 +46,25 @@ abbrev pub slot_cost : CostTable → List Reception → Station → ℕ → ℕ 
 slot_cost table receptions station begin k x =
     sum_by (λ r. second_cost table r (begin + r.tuning.delay + 1000 * k) (waveform station x)) receptions
 
--- the least of some costs
-abbrev pub least : List ℕ → ℕ
-least [] = 0
-least (c ∷ []) = c
-least (c ∷ d ∷ cs) = min c (least (d ∷ cs))
+-- the least of some costs, if there are any
+abbrev pub least : List ℕ → Option ℕ
+least [] = None
+least (c ∷ cs) = Some (fold min c cs)
+
+-- the lesser of what is the least so far and one more
+abbrev pub with_cost : Option ℕ → ℕ → Option ℕ
+with_cost None c = Some c
+with_cost (Some b) c = Some (min b c)
 
 -- the symbols of a station
 abbrev pub symbols_of : Station → List ℕ
-symbols_of Dcf77 = 0 ∷ 1 ∷ 2 ∷ []
-symbols_of Msf = 0 ∷ 1 ∷ 2 ∷ 3 ∷ 4 ∷ []
-symbols_of Wwvb = 0 ∷ 1 ∷ 2 ∷ []
-symbols_of Jjy = 0 ∷ 1 ∷ 2 ∷ []
+symbols_of station = range_with_len 0 (symbol_count station)
 
 -- what a set of symbols costs, from the costs of the symbols: the cheapest of the set, and nothing where the
 -- second isn't scored
 abbrev pub set_cost : Station → (ℕ → ℕ) → ℕ → ℕ
 set_cost station costs set =
-    if set == unscored then 0 else least (map costs (filter (has_bit set) (symbols_of station)))
+    if set == unscored then 0 else unwrap_or (least (map costs (filter (has_bit set) (symbols_of station)))) 0
 
 -- what a sequence costs over n slots, from the costs of the symbols in each slot
 abbrev pub sequence_cost : (ℕ → ℕ → ℕ) → ℕ → Sequence → ℕ

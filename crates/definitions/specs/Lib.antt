@@ -6,6 +6,7 @@ pub mod Walks
 pub mod Logs
 pub mod Costs
 pub mod Answers
+pub mod Ends
 pub mod Lines
 pub mod Texts
 pub mod Owed

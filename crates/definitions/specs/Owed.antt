@@ -1,5 +1,7 @@
 -- What a run of `decode DATE LOG` owes: a status, and the bytes that it adds to standard output.
 use Rattle.std.specs.Prelude.{ℕ, ◌+◌, ◌*◌, ◌≡◌, ◌≢◌, ◌<◌, ◌≤◌, false, List, [], ◌∷◌, length, codes}
+use Rattle.signal_base.specs.declared.dut.Dut.TheVariants.{Absent}
+use Rattle.signal_base.specs.declared.dut.StationDut.{StationDut}
 use Rattle.signal_base.specs.declared.station.Station.TheVariants.{Jjy}
 use Rattle.signal_base.specs.declared.window.Window.{Window}
 use Rattle.signal_base.specs.Table.{difference_table}
@@ -10,7 +12,7 @@ use Rattle.definitions.specs.declared.answer.Answer.TheVariants.{Nothing, Decide
 use Rattle.definitions.specs.Calendar.{day_at, century_days, minutes_per_day}
 use Rattle.definitions.specs.Logs.{Records}
 use Rattle.definitions.specs.Walks.{IsWalkable}
-use Rattle.definitions.specs.Costs.{Reception, slot_cost, sequence_cost}
+use Rattle.definitions.specs.Costs.{Reception, receptions, slot_cost, sequence_cost}
 use Rattle.definitions.specs.Answers.{IsAnswer}
 use Rattle.definitions.specs.Lines.{LineFault, IsLog, IsRefused}
 use Rattle.definitions.specs.Texts.{date_text, report, usage_line, log_too_large_line, log_fault_line}
@@ -44,7 +46,7 @@ day_window day =
 
 -- the one receiver, which neither lags nor weighs
 abbrev pub receptions_of : Records → List Reception
-receptions_of log = record { tuning = record { delay = 0; weight = 1 }; log = log } ∷ []
+receptions_of log = receptions (record { delay = 0; weight = 1 } ∷ []) (log ∷ [])
 
 -- what a sequence costs by this log
 abbrev pub day_cost : Records → Sequence → ℕ
@@ -70,13 +72,17 @@ log_limit = 8_000_000
 abbrev pub receiver_name : List ℕ
 receiver_name = codes "a"
 
+-- JJY tells nothing of DUT1
+abbrev pub no_duts : List StationDut
+no_duts = record { station = Jjy; dut = Absent } ∷ []
+
 -- the status and the text that are owed for a log of these bytes
 pub data OwesForLog (day : ℕ) (bytes : List ℕ) (status : ℕ) (text : List ℕ) : Type 0 where
   Too_large : log_limit < length bytes → status ≡ 5 → text ≡ log_too_large_line 1 receiver_name → OwesForLog day bytes status text
   Refused : length bytes ≤ log_limit → (number : ℕ) → (fault : LineFault) → IsRefused bytes number fault
       → status ≡ 5 → text ≡ log_fault_line 1 receiver_name number fault → OwesForLog day bytes status text
   Answered : length bytes ≤ log_limit → (log : Records) → IsLog bytes log → (answer : Answer) → IsDayAnswer day log answer
-      → status ≡ status_of answer → text ≡ report (day_window day) answer → OwesForLog day bytes status text
+      → status ≡ status_of answer → text ≡ report (day_window day) no_duts answer → OwesForLog day bytes status text
 
 -- The status and the text that are owed for these words, where contents are the bytes of each file.
 pub data Owes (words : List (List ℕ)) (contents : List ℕ → List ℕ) (status : ℕ) (text : List ℕ) : Type 0 where

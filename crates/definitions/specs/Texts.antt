@@ -1,6 +1,12 @@
 -- The texts, as lists of bytes. Each line ends with LF (10).
-use Rattle.std.specs.Prelude.{ℕ, zero, suc, ◌+◌, ◌*◌, ◌/◌, ◌%◌, ◌==◌, if◌then◌else◌, List, [], ◌∷◌, ◌++◌, Option, Some, None, codes}
-use Rattle.std.specs.Fmt.{decimal}
+use Rattle.std.specs.Prelude.{ℕ, zero, suc, ◌+◌, ◌*◌, ◌/◌, ◌%◌, Bool, true, false, ◌==◌, nat_lt, if◌then◌else◌, List, [], ◌∷◌, ◌++◌, length, Option, Some, None, codes}
+use Rattle.std.specs.Fmt.{decimal, signed_decimal}
+use Rattle.std.specs.List.{flat_map}
+use Rattle.signal_base.specs.declared.station.Station.{Station}
+use Rattle.signal_base.specs.declared.station.Station.TheVariants.{Dcf77, Msf, Wwvb, Jjy}
+use Rattle.signal_base.specs.declared.dut.Dut.{Dut}
+use Rattle.signal_base.specs.declared.dut.Dut.TheVariants.{Absent, Free, Tied, Tenths}
+use Rattle.signal_base.specs.declared.dut.StationDut.{StationDut}
 use Rattle.signal_base.specs.declared.window.Window.{Window}
 use Rattle.definitions.specs.declared.fields.Fields.{Fields}
 use Rattle.definitions.specs.declared.sequence.Sequence.{Sequence}
@@ -40,17 +46,17 @@ sequence_text q =
 abbrev pub slot_begin : Window → ℕ → ℕ
 slot_begin window k = window.start + window.phase + 1000 * k
 
--- the line of a minute that begins in slot k
-abbrev pub minute_line : Window → Sequence → ℕ → List ℕ
-minute_line window q k =
-    if (place_at q k).1 == 0
-    then line (codes "minute " ++ minute_text (place_at q k).0 ++ codes " at " ++ decimal (slot_begin window k))
+-- the line of slot k, where a minute begins there
+abbrev pub minute_line : Window → ℕ × ℕ → ℕ → List ℕ
+minute_line window place k =
+    if place.1 == 0
+    then line (codes "minute " ++ minute_text place.0 ++ codes " at " ++ decimal (slot_begin window k))
     else []
 
 -- a line for each minute that begins in the first n slots, in order
 unfoldable pub minute_lines : Window → Sequence → ℕ → List ℕ
 minute_lines window q zero = []
-minute_lines window q (suc n) = minute_lines window q n ++ minute_line window q n
+minute_lines window q (suc n) = minute_lines window q n ++ minute_line window (place_at q n) n
 
 abbrev pub phase_line : Window → List ℕ
 phase_line window = line (codes "phase " ++ decimal window.phase)
@@ -62,14 +68,52 @@ abbrev pub next_line : Option ℕ → List ℕ
 next_line None = line (codes "next none")
 next_line (Some n) = line (codes "next " ++ decimal n)
 
--- the report of an answer, for stations that send no DUT1
-abbrev pub report : Window → Answer → List ℕ
-report window Nothing = line (codes "none") ++ phase_line window
-report window (Decided c q next) =
-    line (codes "decided " ++ decimal c) ++ phase_line window ++ sequence_line q ++ next_line next
-    ++ minute_lines window q window.seconds
-report window (Undecided c q r) =
+-- a station's name
+abbrev pub station_name : Station → List ℕ
+station_name Dcf77 = codes "dcf77"
+station_name Msf = codes "msf"
+station_name Wwvb = codes "wwvb"
+station_name Jjy = codes "jjy"
+
+-- whether a station sends DUT1
+abbrev pub sends_dut : Dut → Bool
+sends_dut Absent = false
+sends_dut Free = true
+sends_dut Tied = true
+sends_dut (Tenths d) = true
+
+abbrev pub dut_text : Dut → List ℕ
+dut_text Absent = []
+dut_text Free = codes "free"
+dut_text Tied = codes "undecided"
+dut_text (Tenths d) = signed_decimal d
+
+-- the line of a station that sends DUT1, with its name where there are several stations
+abbrev pub dut_line : Bool → StationDut → List ℕ
+dut_line several d =
+    if sends_dut d.dut
+    then line (codes "dut1 " ++ (if several then station_name d.station ++ 32 ∷ [] else []) ++ dut_text d.dut)
+    else []
+
+abbrev pub dut_lines : List StationDut → List ℕ
+dut_lines duts = flat_map (dut_line (nat_lt 1 (length duts))) duts
+
+-- the report of an answer up to its minutes, with what each station of the window tells of DUT1
+abbrev pub report_head : Window → List StationDut → Answer → List ℕ
+report_head window duts Nothing = line (codes "none") ++ phase_line window
+report_head window duts (Decided c q next) =
+    line (codes "decided " ++ decimal c) ++ phase_line window ++ sequence_line q ++ next_line next ++ dut_lines duts
+report_head window duts (Undecided c q r) =
     line (codes "undecided " ++ decimal c) ++ phase_line window ++ sequence_line q ++ sequence_line r
+
+-- the minutes of a decided answer
+abbrev pub report_minutes : Window → Answer → List ℕ
+report_minutes window Nothing = []
+report_minutes window (Decided c q next) = minute_lines window q window.seconds
+report_minutes window (Undecided c q r) = []
+
+abbrev pub report : Window → List StationDut → Answer → List ℕ
+report window duts answer = report_head window duts answer ++ report_minutes window answer
 
 -- the refusal of words that aren't of the grammar
 abbrev pub usage_line : List ℕ

@@ -5,6 +5,11 @@ use Rattle.definitions.specs.declared.sequence.Sequence.{Sequence}
 use Rattle.definitions.specs.Calendar.{century_minutes, minute_length}
 use Rattle.definitions.specs.Allowed.{jjy_allowed, IsSent}
 
+-- the numbers that a sequence can have
+pub record IsSequence (q : Sequence) : Type 0 where
+  pub first_minute : q.first < century_minutes
+  pub first_second : q.second ≤ 60
+
 -- the second after (minute, second)
 abbrev pub next_place : Bool → ℕ × ℕ → ℕ × ℕ
 next_place announced place =

@@ -1,0 +1,5 @@
+pub mod SearchLaws
+pub mod KeyLaws
+pub mod WordLaws
+pub mod DayLaws
+pub mod EndingLaws

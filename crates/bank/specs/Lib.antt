@@ -1,0 +1,4 @@
+pub mod Found
+pub mod Plain
+pub mod Words
+pub mod RunEnds

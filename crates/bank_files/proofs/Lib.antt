@@ -1,0 +1,4 @@
+pub mod Telling
+pub mod Lasting
+mod Pieces
+mod Storing

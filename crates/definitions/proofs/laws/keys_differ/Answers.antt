@@ -1,0 +1,12 @@
+-- A key names its sequence and its cost.
+use Rattle.definitions.proofs.KeyLaws.{key_of_injective, sequence_of-key_of, cost_of-key_of}
+use Rattle.definitions.proofs.laws.keys_differ.Goals as goal
+
+pub returns-clause-differ : goal.returns-clause-differ
+returns-clause-differ g = λ c d q r is also apart e. apart (key_of_injective c d q r is also e)
+
+pub returns-clause-sequence : goal.returns-clause-sequence
+returns-clause-sequence g = sequence_of-key_of
+
+pub returns-clause-cost : goal.returns-clause-cost
+returns-clause-cost g = cost_of-key_of

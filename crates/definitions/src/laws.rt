@@ -1,0 +1,35 @@
+//! What follows from the definitions: that a key, an answer, a date and words each speak of one thing.
+
+ghost use Rattle.std.specs.Prelude.{ℕ, ◌≡◌, ◌≢◌, ◌<◌, List};
+ghost use Rattle.definitions.specs.declared.sequence.Sequence.{Sequence};
+ghost use Rattle.definitions.specs.declared.answer.Answer.{Answer};
+ghost use Rattle.definitions.specs.Calendar.{day_at, century_days};
+ghost use Rattle.definitions.specs.Logs.{Records};
+ghost use Rattle.definitions.specs.Walks.{IsSequence, key_of};
+ghost use Rattle.definitions.specs.Ends.{sequence_of, cost_of};
+ghost use Rattle.definitions.specs.Owed.{IsDayAnswer, IsDecode, day_text};
+
+/// Two different sequences have different keys, whatever they cost, and a key gives its sequence and cost back.
+pub fn keys_differ()
+    ensures differ { (c d : ℕ) (q r : Sequence) → IsSequence q → IsSequence r → q ≢ r → key_of c q ≢ key_of d r }
+    ensures sequence { (c : ℕ) (q : Sequence) → IsSequence q → sequence_of (key_of c q) ≡ q }
+    ensures cost { (c : ℕ) (q : Sequence) → IsSequence q → cost_of (key_of c q) ≡ c }
+{}
+
+/// There is at most one answer for a day and a log.
+pub fn answer_is_one()
+    ensures { (day : ℕ) (log : Records) (a b : Answer) → day < century_days
+        → IsDayAnswer day log a → IsDayAnswer day log b → a ≡ b }
+{}
+
+/// Different days of the century have different dates.
+pub fn days_differ()
+    ensures { (m n : ℕ) → m < century_days → n < century_days
+        → day_text (day_at m) ≡ day_text (day_at n) → m ≡ n }
+{}
+
+/// Words ask for one day and one log.
+pub fn words_are_one()
+    ensures { (words : List (List ℕ)) (m n : ℕ) (log other : List ℕ)
+        → IsDecode words m log → IsDecode words n other → (m ≡ n) × (log ≡ other) }
+{}

@@ -1,0 +1,10 @@
+-- What becomes of a text.
+use Rattle.std.specs.Prelude.{ℕ, List, ◌⊎◌}
+use Rattle.definitions.specs.Logs.{Records}
+use Rattle.definitions.specs.Lines.{IsLog, IsRefused, LineFault}
+
+-- it is a log, or it is refused for its first bad line
+abbrev pub HasOutcome : List ℕ → Type 0
+HasOutcome text =
+    ((log : Records) × IsLog text log)
+    ⊎ ((line : ℕ) × (fault : LineFault) × IsRefused text line fault)

@@ -1,0 +1,7 @@
+//! What each symbol of a station costs in each slot of a window, by what the receivers heard.
+#![tactic(auto)]
+
+mod grid;
+mod receivers;
+
+pub use grid::{CostGrid, GridFault};
