@@ -1,26 +1,22 @@
 -- The answer for a day.
-use Rattle.std.proofs.Common.{◌≡◌, ℕ, ◌+◌, ◌-◌, ◌*◌, ◌%◌, ◌^◌, ◌<◌, ◌≤◌, ◌⊎◌, inl, inr, Option, Some, None, List, [], ◌∷◌, map, length, get_or, refl, sym, ap, ◌∙◌, subst, arith, false, zero-add}
+use Rattle.std.proofs.Common.{◌≡◌, ℕ, ◌-◌, ◌<◌, ◌≤◌, ◌⊎◌, inl, inr, Option, map, length, get_or, sym, ap, ◌∙◌, subst, arith, zero-add}
 use Rattle.std.specs.List.{range_with_len}
-use Rattle.std.specs.Option.{ForSome}
 use Rattle.std.proofs.lemmas.Bool.{cases_order}
 use Rattle.std.proofs.lemmas.List.FromFn.{length-map-range_with_len, get_or-map-range_with_len}
 use Rattle.std.proofs.Math.ListN.{get_or-eq_default}
 use Rattle.signal_base.specs.declared.station.Station.TheVariants.{Jjy}
-use Rattle.signal_base.specs.declared.tuning.CostTable.{CostTable}
-use Rattle.signal_base.specs.declared.window.Window.{Window}
 use Rattle.signal_base.specs.Table.{difference_table}
 use Rattle.definitions.specs.declared.sequence.Sequence.{Sequence}
 use Rattle.definitions.specs.declared.answer.Answer.{Answer}
 use Rattle.definitions.specs.declared.answer.Answer.TheVariants.{Nothing, Decided, Undecided}
-use Rattle.definitions.specs.Calendar.{century_days, century_minutes, minute_length}
+use Rattle.definitions.specs.Calendar.{century_days, minute_length}
 use Rattle.definitions.specs.Logs.{Records}
-use Rattle.definitions.specs.Walks.{IsSequence, IsWalkable, key_of, set_at}
-use Rattle.definitions.specs.Costs.{receptions, slot_cost, sequence_cost, set_cost}
+use Rattle.definitions.specs.Walks.{IsSequence, key_of, set_at}
+use Rattle.definitions.specs.Costs.{slot_cost, set_cost}
 use Rattle.definitions.specs.Answers.{IsAnswer}
 use Rattle.definitions.specs.Ends.{AreLeastTwo, IsKey, answer_from}
 use Rattle.definitions.specs.Owed.{IsOfDay, day_cost, day_window, receptions_of}
 use Rattle.definitions.proofs.CostLaws.{set_cost_same, total_below_same}
-use Rattle.definitions.proofs.KeyLaws.{key_index}
 use Rattle.definitions.proofs.EndLaws.{answer_is}
 use Rattle.symbol_cost.specs.Grid.{Grid, HasCosts, IsPriced, cost_at}
 use Rattle.texts.specs.Writing.{IsReportable}

@@ -1,11 +1,9 @@
 -- How the ends of the parts of a run are the end of the whole.
-use Rattle.std.proofs.Common.{◌≡◌, ◌≢◌, ℕ, ◌<◌, ◌≤◌, ◌⊎◌, inl, inr, ⊎_elim, List, [], ◌∷◌, length, Result, Ok, Err, refl, sym, ap, ◌∙◌, subst, codes, arith}
-use Rattle.bank_files.specs.Told.{Told, Holds, Finds, Tells, AppendsFront, appended, output_name}
-use Rattle.bank_files.specs.Fault.{HasFault}
+use Rattle.std.proofs.Common.{◌≡◌, ◌≢◌, ℕ, ◌≤◌, inl, inr, ⊎_elim, List, [], ◌∷◌, length, Result, Ok, Err, subst}
+use Rattle.bank_files.specs.Told.{Told, Holds, Tells, AppendsFront, appended, output_name}
 use Rattle.bank_files.specs.Files.{KeepsCounts, KeepsAll}
-use Rattle.bank_files.proofs.Telling.{Finds-holds}
 use Rattle.bank_files.proofs.Lasting.{HasFault-from}
-use Rattle.definitions.specs.Owed.{IsDecode, IsFileWord, Owes, OwesForLog, Bad_words, Decodes, Refused, log_limit}
+use Rattle.definitions.specs.Owed.{IsDecode, IsFileWord, OwesForLog, Bad_words, Decodes, Refused, log_limit}
 use Rattle.definitions.specs.Lines as lines
 use Rattle.pulse_log.specs.declared.fault.LogFault.{LogFault}
 use Rattle.pulse_log.specs.declared.fault.LogFault.TheVariants.{Shape, NotRising, TooManyRecords}
@@ -14,7 +12,7 @@ use Rattle.pulse_log.specs.Reading.{IsFaultOf}
 use Rattle.definitions.specs.Texts.{usage_line}
 use Rattle.bank.specs.declared.stop.Stop.{Stop}
 use Rattle.bank.specs.declared.stop.Stop.TheVariants.{Failed, NoMemory}
-use Rattle.bank.specs.RunEnds.{EndsWith, EndsForLog, EndsForWords, TellsLog, ReadFails, IsOneOf, IsOwedFor, Printed, PrintsNothing}
+use Rattle.bank.specs.RunEnds.{EndsWith, EndsForLog, EndsForWords, IsOneOf, IsOwedFor}
 
 -- a word that names a file isn't standard output
 pub not_output : (word : List ℕ) → IsFileWord word → word ≢ output_name

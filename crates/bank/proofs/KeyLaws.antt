@@ -1,5 +1,5 @@
 -- The least two keys, while sequences come one by one.
-use Rattle.std.proofs.Common.{◌≡◌, ◌≢◌, ℕ, zero, ◌+◌, ◌<◌, ◌≤◌, ◌⊎◌, inl, inr, ⊎_elim, Bool, true, false, nat_lt, nat_eq, min, Option, Some, None, List, refl, sym, ap, ◌∙◌, subst, arith}
+use Rattle.std.proofs.Common.{◌≡◌, ◌≢◌, ℕ, ◌+◌, ◌<◌, ◌⊎◌, inl, inr, ⊎_elim, Bool, true, false, nat_lt, nat_eq, min, Option, Some, None, List, refl, sym, ap, ◌∙◌, subst, arith}
 use Rattle.std.proofs.lemmas.Bool.{ltb-true, ltb-false, cases_order}
 use Rattle.std.proofs.lemmas.Bool.Decides.{nat_tests}
 use Rattle.signal_base.specs.declared.window.Window.{Window}
@@ -8,8 +8,8 @@ use Rattle.definitions.specs.Calendar.{minute_length}
 use Rattle.definitions.specs.Walks.{IsWalkable, key_of}
 use Rattle.definitions.specs.Ends.{AreLeastTwo, IsKey}
 use Rattle.definitions.proofs.KeyLaws.{same_sequence}
-use Rattle.bank.specs.Found.{first_with, second_with, lesser_with}
-use Rattle.bank.specs.Plain.{plain, IsPlain, IsBefore, IsSeen, row_cost}
+use Rattle.bank.specs.Found.{first_with, second_with}
+use Rattle.bank.specs.Plain.{plain, IsPlain, IsSeen, row_cost}
 
 module _ (P Q : ℕ → Type 0) (more : (n : ℕ) → P n → Q n) where
   -- the same keys

@@ -3,3 +3,4 @@ pub mod KeyLaws
 pub mod WordLaws
 pub mod DayLaws
 pub mod EndingLaws
+pub mod OwedLaws

@@ -1,6 +1,5 @@
 -- The costs of walks, and the least two of the keys that come.
-use Rattle.std.proofs.Common.{◌≡◌, ◌≢◌, ℕ, ◌+◌, ◌-◌, ◌/◌, ◌%◌, ◌<◌, ◌≤◌, ◌⊎◌, inl, inr, Bool, true, false, nat_lt, nat_eq, Option, Some, None, option_map, MatchOption, List, [], ◌∷◌, ◌++◌, length, map, get_or, slice_index, refl, sym, ap, ◌∙◌, subst, arith, zero-add}
-use Rattle.std.specs.List.{range_with_len}
+use Rattle.std.proofs.Common.{◌≡◌, ℕ, ◌+◌, ◌/◌, ◌%◌, ◌<◌, ◌⊎◌, inl, inr, Bool, true, false, nat_lt, Option, None, option_map, MatchOption, List, [], ◌∷◌, ◌++◌, length, get_or, slice_index, refl, sym, ap, ◌∙◌, subst, arith, zero-add}
 use Rattle.std.proofs.lemmas.Bool.{ltb-true, ltb-false, cases_order}
 use Rattle.std.proofs.Math.ListN.{get_or-append, length-append}
 use Rattle.std.proofs.lemmas.List.{get_or_push}
@@ -12,7 +11,7 @@ use Rattle.definitions.specs.Calendar.{century_minutes, zone_fields}
 use Rattle.definitions.specs.Allowed.{IsSent, jjy_allowed, jjy_facts}
 use Rattle.definitions.specs.Jjy.{jjy_second}
 use Rattle.definitions.specs.Walks.{place_at, set_at}
-use Rattle.definitions.proofs.PlaceLaws.{place_at-plain, plain_place}
+use Rattle.definitions.proofs.PlaceLaws.{place_at-plain}
 use Rattle.bank.specs.Plain.{AreSets, plain, sent_sets}
 
 -- what a second of a minute carries, as the search looks it up

@@ -1,5 +1,5 @@
 -- What the words say.
-use Rattle.std.proofs.Common.{◌≡◌, ℕ, ◌+◌, ◌*◌, ◌/◌, ◌%◌, ◌<◌, ◌≤◌, List, [], ◌∷◌, length, get_or, refl, sym, ap, ◌∙◌, arith}
+use Rattle.std.proofs.Common.{◌≡◌, ℕ, ◌<◌, List, [], ◌∷◌, length, get_or, refl, arith}
 use Rattle.definitions.specs.Texts.{date_text}
 use Rattle.bank.specs.Words.{read_year, read_month, read_day}
 

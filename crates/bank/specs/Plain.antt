@@ -1,5 +1,5 @@
 -- The sequences that aren't announced, and those of them that the search has seen.
-use Rattle.std.specs.Prelude.{ℕ, ◌≡◌, ◌<◌, ◌⊎◌, Bool, false, nat_lt, if◌then◌else◌, ◌+◌, List, length, slice_index_or, Option, None}
+use Rattle.std.specs.Prelude.{ℕ, ◌≡◌, ◌<◌, ◌⊎◌, false, nat_lt, if◌then◌else◌, ◌+◌, List, length, slice_index_or, Option, None}
 use Rattle.signal_base.specs.declared.window.Window.{Window}
 use Rattle.definitions.specs.declared.sequence.Sequence.{Sequence}
 use Rattle.definitions.specs.Calendar.{century_minutes}

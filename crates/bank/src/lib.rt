@@ -3,6 +3,7 @@
 
 mod decide;
 mod found;
+mod laws;
 mod program;
 mod search;
 mod stop;
@@ -10,4 +11,5 @@ mod stop;
 mod tests;
 mod words;
 
+pub use laws::owed_is_one;
 pub use program::run;

@@ -42,6 +42,10 @@ pub fn run<F: Files>(alloc: Global, words: &[String], files: &mut F) -> u8
     // Where the log's contents are told, what is printed is what the definitions owe for them, and the status too.
     ensures owed { result ≢ 6 → result ≢ 7 → (contents : List ℕ → List ℕ) → TellsLog F.told files.old (texts_of words.now) contents
         → (text : List ℕ) × Owes (texts_of words.now) contents result text × Printed F.told files.old files.new text }
+    // Nothing else is printed or answered: one status and one text are owed, and these are they.
+    ensures exactly { result ≢ 6 → result ≢ 7 → (contents : List ℕ → List ℕ) → TellsLog F.told files.old (texts_of words.now) contents
+        → (status : ℕ) (text : List ℕ) → Owes (texts_of words.now) contents status text
+        → (result ≡ status) × Printed F.told files.old files.new text }
     // Without a fault of the log or of standard output there is no other end, but for want of memory.
     ensures failed { result ≡ 6 → WriteFails F.write_faults files.old files.new ⊎ ReadFails F.read_faults files.old files.new (texts_of words.now) }
     ensures front { result ≡ 6 → PrintsNothing F.told files.old files.new

@@ -1,13 +1,12 @@
-use Rattle.std.proofs.Common.{sym, subst, ◌∙◌}
+use Rattle.std.proofs.Common.{sym, subst}
 use Rattle.signal_base.specs.declared.window.Window.{Window}
 use Rattle.signal_base.specs.declared.tuning.CostTable.{CostTable}
 use Rattle.signal_base.specs.declared.station.Station.TheVariants.{Jjy}
 use Rattle.definitions.specs.declared.answer.Answer.{Answer}
 use Rattle.definitions.specs.Ends.{AreLeastTwo, IsKey}
 use Rattle.definitions.specs.Costs.{slot_cost}
-use Rattle.definitions.specs.Owed.{IsDayAnswer, day_cost, day_window, receptions_of}
+use Rattle.definitions.specs.Owed.{IsDayAnswer, day_cost, receptions_of}
 use Rattle.symbol_cost.specs.Grid.{HasCosts, IsPriced}
-use Rattle.texts.specs.Writing.{IsReportable}
 use Rattle.bank.specs.Plain.{IsPlain, row_cost}
 use Rattle.bank.proofs.DayLaws.{priced, day_answer, reportable}
 use Rattle.bank.proofs.decide.decide.Goals as goal

@@ -1,6 +1,5 @@
-use Rattle.std.proofs.Common.{ℕ}
 use Rattle.bank.specs.Words.{texts_of}
-use Rattle.bank.proofs.EndingLaws.{not_output, words_refused, words_accepted}
+use Rattle.bank.proofs.EndingLaws.{words_refused, words_accepted}
 use Rattle.bank.proofs.program.decode_words.Goals as goal
 
 pub returns-in-None-clause-ends : goal.returns-in-None-clause-ends

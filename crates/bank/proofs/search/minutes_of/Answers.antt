@@ -1,4 +1,4 @@
-use Rattle.std.proofs.Common.{◌≡◌, ℕ, ◌+◌, ◌<◌, ◌++◌, ◌∷◌, [], None, length, get_or, below_more, arith, ◌∙◌, ap}
+use Rattle.std.proofs.Common.{◌≡◌, length, arith}
 use Rattle.bank.proofs.SearchLaws.{sets_more}
 use Rattle.bank.proofs.search.minutes_of.Goals as goal
 

@@ -1,8 +1,8 @@
-use Rattle.std.proofs.Common.{◌≡◌, ℕ, ◌+◌, ◌⊎◌, inl, inr, ⊎_elim, Option, sym, ap, subst, ◌∙◌, arith}
+use Rattle.std.proofs.Common.{◌≡◌, ℕ, ◌+◌, ◌⊎◌, inl, inr, ⊎_elim, sym, ap, subst, ◌∙◌, arith}
 use Rattle.definitions.specs.Walks.{key_of}
 use Rattle.definitions.specs.Ends.{AreLeastTwo}
 use Rattle.bank.specs.declared.found.Found.{Found}
-use Rattle.bank.specs.Plain.{plain, IsSeen, row_cost}
+use Rattle.bank.specs.Plain.{plain, IsSeen}
 use Rattle.bank.proofs.KeyLaws.{keep_least, with_key, seen_more, seen_less, seen_here, next_minute, same_minute}
 use Rattle.bank.proofs.search.search_minute.Goals.{in-Some, in-None}
 use Rattle.bank.proofs.search.search_minute.Goals as goal

@@ -1,4 +1,4 @@
-use Rattle.std.proofs.Common.{◌≡◌, ℕ, ◌+◌, ◌-◌, ◌/◌, ◌%◌, ◌<◌, Option, None, List, option_map, MatchOption, slice_index, length, sym, subst, ap, ◌∙◌, arith}
+use Rattle.std.proofs.Common.{◌≡◌, ℕ, ◌+◌, ◌-◌, ◌/◌, ◌%◌, ◌<◌, Option, List, option_map, MatchOption, slice_index, length, sym, subst, ap, ◌∙◌, arith}
 use Rattle.definitions.specs.Allowed.{IsSent}
 use Rattle.definitions.specs.Walks.{place_at, set_at}
 use Rattle.bank.specs.Plain.{plain, sent_sets}

@@ -1,4 +1,4 @@
-use Rattle.std.proofs.Common.{◌≡◌, List, ℕ, sym, ap, ◌∙◌, arith}
+use Rattle.std.proofs.Common.{sym, ap, ◌∙◌, arith}
 use Rattle.definitions.specs.Calendar.{day_at}
 use Rattle.civil.proofs.Dates.{plausible}
 use Rattle.bank.specs.Words.{read_year, read_month, read_day}

@@ -1,4 +1,4 @@
-use Rattle.std.proofs.Common.{◌≡◌, ◌∷◌, [], List, ℕ, length, string_bytes, codes, refl, sym, ap, ◌∙◌, arith}
+use Rattle.std.proofs.Common.{◌≡◌, length, string_bytes, codes, refl, sym, ap, ◌∙◌, arith}
 use Rattle.definitions.specs.Calendar.{day_at}
 use Rattle.definitions.specs.Owed.{day_text}
 use Rattle.bank.specs.Words.{texts_of}
