@@ -8,3 +8,7 @@ returns-clause-date c = refl
 
 pub returns-clause-telegram : goal.returns-clause-telegram
 returns-clause-telegram c = refl
+
+pub returns-clause-facts : goal.returns-clause-facts
+unfolding day_at
+returns-clause-facts c = refl
