@@ -16,8 +16,9 @@ made_by f n xs long each =
 pub filled_more : (f : ℕ → ℕ) (n : ℕ) (xs : List ℕ) (i v : ℕ) → i < n → length xs ≡ n → ((k : ℕ) → k < i → get_or xs k 0 ≡ f k) → v ≡ f i
     → (length (set xs i v) ≡ n) × ((k : ℕ) → k < i + 1 → get_or (set xs i v) k 0 ≡ f k)
 filled_more f n xs i v within long each new =
-    let inside : i < length xs = omega arith in
-    (length-set xs i v ∙ long,
-    below_more (λ k. get_or (set xs i v) k 0 ≡ f k) i
-    (λ k h. let other : k ≢ i = omega arith in rw get_or-set_other (each k h))
-    (rw get_or-set_same new))
+    let inside : i < length xs = omega arith in (
+      length-set xs i v ∙ long,
+      below_more (λ k. get_or (set xs i v) k 0 ≡ f k) i
+          (λ k h. let other : k ≢ i = omega arith in rw get_or-set_other (each k h))
+          (rw get_or-set_same new),
+    )
