@@ -4,3 +4,6 @@ pub mod PlaceLaws
 pub mod CostLaws
 pub mod AnswerLaws
 pub mod DateLaws
+pub mod ParityLaws
+pub mod WaveLaws
+pub mod ListingLaws

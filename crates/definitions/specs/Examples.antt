@@ -1,22 +1,53 @@
--- Worked examples.
-use Rattle.std.specs.Prelude.{ℕ, ◌==◌, if◌then◌else◌, List, [], ◌∷◌, ◌++◌, map, codes, false}
+-- Worked examples: the facts of a minute, and the listing of its seconds.
+use Rattle.std.specs.Prelude.{ℕ, List, [], ◌∷◌, ◌++◌, codes, true, false}
+use Rattle.definitions.specs.declared.dcf77.DcfFacts.{DcfFacts}
+use Rattle.definitions.specs.declared.msf.MsfFacts.{MsfFacts}
+use Rattle.definitions.specs.declared.wwvb.WwvbFacts.{WwvbFacts}
 use Rattle.definitions.specs.declared.jjy.JjyFacts.{JjyFacts}
-use Rattle.definitions.specs.Vocabulary.{only, free, unscored, no_second}
 
--- the set that a character of a listing stands for
-abbrev pub listed : ℕ → ℕ
-listed c =
-    if c == 48 then only 0
-    else if c == 49 then only 1
-    else if c == 77 then only 2
-    else if c == 63 then free
-    else if c == 42 then unscored
-    else no_second
+-- DCF77 at 2016-12-31T23:59Z, with a leap second: 01:00 on Sunday 2017-01-01 follows
+abbrev pub dcf77_new_year : DcfFacts
+dcf77_new_year =
+    record { minute = 0; hour = 1; day = 1; weekday = 0; month = 1; year = 17; summer = false; change = false; leap = true; long = true }
 
--- 15:45 on Monday, day 162 of 2024
+abbrev pub dcf77_new_year_listing : List ℕ
+dcf77_new_year_listing = codes "encode dcf77 2016-12-31T23:59Z 61" ++ 10 ∷ codes "0???????????????00111000000001000001100000111100001110100010-" ++ 10 ∷ []
+
+-- DCF77 at 2024-03-31T00:59Z: summer time begins, and 03:00 on that Sunday follows
+abbrev pub dcf77_spring : DcfFacts
+dcf77_spring =
+    record { minute = 0; hour = 3; day = 31; weekday = 0; month = 3; year = 24; summer = true; change = true; leap = false; long = false }
+
+abbrev pub dcf77_spring_listing : List ℕ
+dcf77_spring_listing = codes "encode dcf77 2024-03-31T00:59Z 60" ++ 10 ∷ codes "0???????????????1100100000000110000010001111111000001001000-" ++ 10 ∷ []
+
+-- MSF at 2016-12-31T23:59Z, with a leap second: 00:00 on Sunday 2017-01-01 follows
+abbrev pub msf_new_year : MsfFacts
+msf_new_year =
+    record { minute = 0; hour = 0; day = 1; weekday = 0; month = 1; year = 17; summer = false; change = false; long = true }
+
+abbrev pub msf_new_year_listing : List ℕ
+msf_new_year_listing = codes "encode msf 2016-12-31T23:59Z 61" ++ 10 ∷ codes "M????????????????00002022200002000002000000000000000002333320" ++ 10 ∷ []
+
+-- MSF at 2024-07-15T12:00Z: 13:01 on that Monday follows
+abbrev pub msf_summer : MsfFacts
+msf_summer =
+    record { minute = 1; hour = 13; day = 15; weekday = 1; month = 7; year = 24; summer = true; change = false; long = false }
+
+abbrev pub msf_summer_listing : List ℕ
+msf_summer_listing = codes "encode msf 2024-07-15T12:00Z 60" ++ 10 ∷ codes "M????????????????0020020000222020202002020022000000202332330" ++ 10 ∷ []
+
+-- WWVB at 2024-02-29T12:34Z, day 60 of a leap year
+abbrev pub wwvb_leap_day : WwvbFacts
+wwvb_leap_day =
+    record { minute = 34; hour = 12; day_of_year = 60; year = 24; us_code = 0; leap = false; long = false }
+
+abbrev pub wwvb_leap_day_listing : List ℕ
+wwvb_leap_day_listing = codes "encode wwvb 2024-02-29T12:34Z 60" ++ 10 ∷ codes "M01100100M000100010M000000110M000000???M????00010M010001000M" ++ 10 ∷ []
+
+-- JJY at 2024-06-10T06:45Z: 15:45 on Monday, day 162
 abbrev pub jjy_quarter_to_four : JjyFacts
 jjy_quarter_to_four = record { minute = 45; hour = 15; day_of_year = 162; year = 24; weekday = 1; leap = false; long = false }
 
--- its listing, and no second 60
-abbrev pub sets_of : List ℕ
-sets_of = map listed (codes "M10000101M000100101M000100110M001000110M*********M??????000M" ++ 32 ∷ [])
+abbrev pub jjy_quarter_to_four_listing : List ℕ
+jjy_quarter_to_four_listing = codes "encode jjy 2024-06-10T06:45Z 60" ++ 10 ∷ codes "M10000101M000100101M000100110M001000110M*********M??????000M" ++ 10 ∷ []

@@ -1,5 +1,9 @@
 pub mod Calendar
+pub mod Summer
 pub mod Vocabulary
+pub mod Dcf77
+pub mod Msf
+pub mod Wwvb
 pub mod Jjy
 pub mod Allowed
 pub mod Walks
@@ -9,5 +13,7 @@ pub mod Answers
 pub mod Ends
 pub mod Lines
 pub mod Texts
+pub mod Listing
 pub mod Owed
 pub mod Examples
+pub mod Known

@@ -1,6 +1,8 @@
 //! What follows from the definitions: that a key, an answer, a date and words each speak of one thing.
 
 ghost use Rattle.std.specs.Prelude.{ℕ, ◌≡◌, ◌≢◌, ◌<◌, List};
+ghost use Rattle.signal_base.specs.declared.station.Station.{Station};
+ghost use Rattle.signal_base.specs.Waveform.{symbol_count, waveform};
 ghost use Rattle.definitions.specs.declared.sequence.Sequence.{Sequence};
 ghost use Rattle.definitions.specs.declared.answer.Answer.{Answer};
 ghost use Rattle.definitions.specs.Calendar.{day_at, century_days};
@@ -32,4 +34,10 @@ pub fn days_differ()
 pub fn words_are_one()
     ensures { (words : List (List ℕ)) (m n : ℕ) (log other : List ℕ)
         → IsDecode words m log → IsDecode words n other → (m ≡ n) × (log ≡ other) }
+{}
+
+/// Different symbols of a station have different waveforms.
+pub fn waveforms_differ()
+    ensures { (station : Station) (x y : ℕ) → x < symbol_count station → y < symbol_count station
+        → waveform station x ≡ waveform station y → x ≡ y }
 {}

@@ -4,20 +4,33 @@
 
 mod answer;
 mod day;
+mod dcf77;
 mod examples;
 mod fields;
 mod jjy;
+mod known;
 mod laws;
 mod level;
+mod msf;
+mod parity;
 mod sequence;
+mod wwvb;
 mod zone;
 
 pub use answer::Answer;
 pub use day::Day;
-pub use examples::jjy_example;
+pub use dcf77::DcfFacts;
+pub use examples::{
+    dcf77_in_spring, dcf77_with_a_leap_second, jjy_at_quarter_to_four, msf_in_summer,
+    msf_with_a_leap_second, wwvb_on_a_leap_day,
+};
 pub use fields::Fields;
 pub use jjy::JjyFacts;
-pub use laws::{answer_is_one, days_differ, keys_differ, words_are_one};
+pub use known::{american_changes, european_changes, known_weekdays, last_minutes};
+pub use laws::{answer_is_one, days_differ, keys_differ, waveforms_differ, words_are_one};
 pub use level::Level;
+pub use msf::MsfFacts;
+pub use parity::{dcf77_groups_are_even, msf_groups_are_odd};
 pub use sequence::Sequence;
+pub use wwvb::WwvbFacts;
 pub use zone::Zone;

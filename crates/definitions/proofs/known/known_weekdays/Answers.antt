@@ -1,0 +1,7 @@
+use Rattle.std.proofs.Common.{refl}
+use Rattle.definitions.specs.Calendar.{day_at}
+use Rattle.definitions.proofs.known.known_weekdays.Goals as goal
+
+pub returns : goal.returns
+unfolding day_at
+returns c = refl
