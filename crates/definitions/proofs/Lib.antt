@@ -7,3 +7,4 @@ pub mod DateLaws
 pub mod ParityLaws
 pub mod WaveLaws
 pub mod ListingLaws
+pub mod SetLaws

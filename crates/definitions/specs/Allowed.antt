@@ -1,7 +1,9 @@
 -- What a second of a minute may carry.
-use Rattle.std.specs.Prelude.{ℕ, ◌+◌, ◌*◌, ◌/◌, ◌%◌, ◌<◌, ◌≤◌, Bool, ◌&&◌, nat_lt}
+use Rattle.std.specs.Prelude.{ℕ, ◌+◌, ◌*◌, ◌/◌, ◌%◌, ◌^◌, ◌≡◌, ◌⊎◌, ◌<◌, ◌≤◌, Bool, ◌&&◌, nat_lt}
 use Rattle.signal_base.specs.declared.station.Station.{Station}
 use Rattle.signal_base.specs.declared.station.Station.TheVariants.{Dcf77, Msf, Wwvb, Jjy}
+use Rattle.signal_base.specs.Waveform.{symbol_count}
+use Rattle.definitions.specs.Vocabulary.{unscored}
 use Rattle.definitions.specs.declared.dcf77.DcfFacts.{DcfFacts}
 use Rattle.definitions.specs.declared.msf.MsfFacts.{MsfFacts}
 use Rattle.definitions.specs.declared.wwvb.WwvbFacts.{WwvbFacts}
@@ -104,3 +106,7 @@ jjy_allowed announced place = jjy_second (jjy_facts announced place.0) place.1
 -- the minute is one of the century, and JJY can encode its year
 abbrev pub IsSent : ℕ → Type 0
 IsSent t = (t < century_minutes) × ((zone_fields Japan t).year ≤ 2099)
+
+-- a second may carry some of the station's symbols, or it isn't scored
+abbrev pub IsSetOf : Station → ℕ → Type 0
+IsSetOf station set = (set ≡ unscored) ⊎ ((0 < set) × (set < 2 ^ symbol_count station))

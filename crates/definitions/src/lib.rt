@@ -27,7 +27,9 @@ pub use examples::{
 pub use fields::Fields;
 pub use jjy::JjyFacts;
 pub use known::{american_changes, european_changes, known_weekdays, last_minutes};
-pub use laws::{answer_is_one, days_differ, keys_differ, waveforms_differ, words_are_one};
+pub use laws::{
+    answer_is_one, days_differ, each_second_is_sent, keys_differ, waveforms_differ, words_are_one,
+};
 pub use level::Level;
 pub use msf::MsfFacts;
 pub use parity::{dcf77_groups_are_even, msf_groups_are_odd};
