@@ -1,15 +1,11 @@
 -- The least key and the least of the others, kept while keys come.
-use Rattle.std.specs.Prelude.{ℕ, ◌==◌, nat_lt, min, if◌then◌else◌, Option, Some, None}
+use Rattle.std.specs.Prelude.{ℕ, ◌==◌, nat_lt, if◌then◌else◌, Option, Some, None}
+use Rattle.definitions.specs.Costs.{lesser_with}
 
 -- the least with one more key
 abbrev pub first_with : Option ℕ → ℕ → Option ℕ
 first_with None n = Some n
 first_with (Some k) n = if nat_lt n k then Some n else Some k
-
--- the lesser of a key and one more
-abbrev pub lesser_with : Option ℕ → ℕ → Option ℕ
-lesser_with None n = Some n
-lesser_with (Some l) n = Some (min l n)
 
 -- the least of the others with one more key; a key that came before changes nothing
 abbrev pub second_with : Option ℕ → Option ℕ → ℕ → Option ℕ

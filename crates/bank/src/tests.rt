@@ -135,3 +135,21 @@ fn ends_at_a_failing_file(rt: HostRuntime) -> Result<(), Fail> {
     }
     Ok(())
 }
+
+// A clean log is read in two calls, and the report is written in three.
+#[test]
+fn keeps_what_was_written_before_a_fault(rt: HostRuntime) -> Result<(), Fail> {
+    let log = clean_log(rt.alloc())?;
+    let head = "decided 0\nphase 0\nsequence 2024-06-10T06:16Z 0 no\nnext 1200\n";
+    let minute =
+        "decided 0\nphase 0\nsequence 2024-06-10T06:16Z 0 no\nnext 1200\nminute 2024-06-10T06:16Z at 0\n";
+    for (call, text) in [(2, ""), (3, ""), (4, head), (5, minute)] {
+        let mut files = MemoryFiles::make(rt.alloc())?;
+        files.put("a.log", log.as_bytes())?;
+        files.fail(call)?;
+        let words = words(rt.alloc(), "2024-06-10", "a.log")?;
+        assert_eq!(rt; run(rt.alloc(), &words, &mut files), 6, "call {call}");
+        assert!(rt; printed(&files, text), "call {call}");
+    }
+    Ok(())
+}

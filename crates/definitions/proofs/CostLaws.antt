@@ -6,7 +6,7 @@ use Rattle.signal_base.specs.declared.tuning.Tuning.{Tuning}
 use Rattle.definitions.specs.declared.level.Level.{Level}
 use Rattle.definitions.specs.declared.level.Level.TheVariants.{High, Low, Unknown}
 use Rattle.definitions.specs.Logs.{Records, low_count, count_level, level_at}
-use Rattle.definitions.specs.Costs.{receptions, total_below, least, with_cost, set_cost}
+use Rattle.definitions.specs.Costs.{receptions, total_below, least, lesser_with, set_cost}
 use Rattle.signal_base.specs.declared.station.Station.{Station}
 use Rattle.signal_base.specs.Waveform.{symbol_count}
 use Rattle.definitions.specs.Vocabulary.{unscored}
@@ -69,7 +69,7 @@ fold_more b [] c = refl
 fold_more b (d ∷ cs) c = fold_more (min b d) cs c
 
 -- one more cost
-pub least_more : (cs : List ℕ) (c : ℕ) → least (cs ++ c ∷ []) ≡ with_cost (least cs) c
+pub least_more : (cs : List ℕ) (c : ℕ) → least (cs ++ c ∷ []) ≡ lesser_with (least cs) c
 least_more [] c = refl
 least_more (b ∷ cs) c = ap Some (fold_more b cs c)
 
@@ -95,7 +95,7 @@ abbrev pub least_below : (ℕ → ℕ) → ℕ → ℕ → Option ℕ
 least_below costs set n = least (map costs (filter (has_bit set) (range_with_len 0 n)))
 
 -- one more symbol that the set has
-pub least_below-in : (costs : ℕ → ℕ) (set n : ℕ) → has_bit set n ≡ true → least_below costs set (n + 1) ≡ with_cost (least_below costs set n) (costs n)
+pub least_below-in : (costs : ℕ → ℕ) (set n : ℕ) → has_bit set n ≡ true → least_below costs set (n + 1) ≡ lesser_with (least_below costs set n) (costs n)
 least_below-in costs set n e =
     ap least (chosen_more costs set n ∙ rw e refl) ∙ least_more (map costs (filter (has_bit set) (range_with_len 0 n))) (costs n)
 
@@ -104,9 +104,9 @@ pub least_below-out : (costs : ℕ → ℕ) (set n : ℕ) → has_bit set n ≡ 
 least_below-out costs set n e = ap least (chosen_more costs set n ∙ rw e (append-nil (map costs (filter (has_bit set) (range_with_len 0 n)))))
 
 -- the lesser of small costs is small
-pub with_cost_bound : (n : ℕ) (o : Option ℕ) (c : ℕ) → IsAtMost n o → c ≤ n → IsAtMost n (with_cost o c)
-with_cost_bound n None c h small = small
-with_cost_bound n (Some b) c h small = omega arith
+pub lesser_with_bound : (n : ℕ) (o : Option ℕ) (c : ℕ) → IsAtMost n o → c ≤ n → IsAtMost n (lesser_with o c)
+lesser_with_bound n None c h small = small
+lesser_with_bound n (Some b) c h small = omega arith
 
 pub unwrap_bound : (n : ℕ) (o : Option ℕ) → IsAtMost n o → unwrap_or o 0 ≤ n
 unwrap_bound n None h = omega arith

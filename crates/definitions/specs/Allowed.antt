@@ -85,12 +85,16 @@ jjy_facts announced t =
       long = announced && is_leap_end t;
     }
 
+-- the set of symbols that second s of the minute t may carry at JJY
+abbrev pub jjy_allowed : Bool → ℕ × ℕ → ℕ
+jjy_allowed announced place = jjy_second (jjy_facts announced place.0) place.1
+
 -- the set of symbols that second s of the minute t may carry at a station
 abbrev pub allowed : Station → Bool → ℕ × ℕ → ℕ
 allowed Dcf77 announced place = dcf_second (dcf_facts announced place.0) place.1
 allowed Msf announced place = msf_second (msf_facts announced place.0) place.1
 allowed Wwvb announced place = wwvb_second (wwvb_facts announced place.0) place.1
-allowed Jjy announced place = jjy_second (jjy_facts announced place.0) place.1
+allowed Jjy announced place = jjy_allowed announced place
 
 -- the year that a station encodes in the minute t
 abbrev pub encoded_year : Station → ℕ → ℕ
@@ -98,10 +102,6 @@ encoded_year Dcf77 t = (central_fields (t + 1)).year
 encoded_year Msf t = (uk_fields (t + 1)).year
 encoded_year Wwvb t = (utc_fields t).year
 encoded_year Jjy t = (zone_fields Japan t).year
-
--- the set of symbols that second s of the minute t may carry at JJY
-abbrev pub jjy_allowed : Bool → ℕ × ℕ → ℕ
-jjy_allowed announced place = jjy_second (jjy_facts announced place.0) place.1
 
 -- the minute is one of the century, and JJY can encode its year
 abbrev pub IsSent : ℕ → Type 0

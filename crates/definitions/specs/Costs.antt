@@ -51,10 +51,10 @@ abbrev pub least : List ℕ → Option ℕ
 least [] = None
 least (c ∷ cs) = Some (fold min c cs)
 
--- the lesser of what is the least so far and one more
-abbrev pub with_cost : Option ℕ → ℕ → Option ℕ
-with_cost None c = Some c
-with_cost (Some b) c = Some (min b c)
+-- the lesser of a number that there may be and one more
+abbrev pub lesser_with : Option ℕ → ℕ → Option ℕ
+lesser_with None c = Some c
+lesser_with (Some b) c = Some (min b c)
 
 -- the symbols of a station
 abbrev pub symbols_of : Station → List ℕ

@@ -9,6 +9,7 @@ ghost use Rattle.definitions.specs.Jjy.{is_call_minute, is_marked, jjy_bit, jjy_
 ghost use Rattle.jjy_code.specs.Facts.{AreInRange};
 
 pub use definitions::JjyFacts;
+use signal_base::UNSCORED;
 
 // Seconds and their weights.
 const MINUTE: [(u8, u8); 7] = [(1, 40), (2, 20), (3, 10), (5, 8), (6, 4), (7, 2), (8, 1)];
@@ -41,14 +42,12 @@ const YEAR: [(u8, u8); 8] = [
 
 const WEEKDAY: [(u8, u8); 3] = [(50, 4), (51, 2), (52, 1)];
 
-// The set of the marker, of the symbols 0 and 1, and of no symbol; a second that isn't scored.
+// The set of the marker, of the symbols 0 and 1, and of no symbol.
 const MARKER: u8 = 4;
 
 const FREE: u8 = 3;
 
 const NO_SECOND: u8 = 0;
-
-const UNSCORED: u8 = 255;
 
 /// The sets of symbols that the seconds of a minute may carry, as masks. The last is empty unless the minute has
 /// 61 seconds.

@@ -4,7 +4,7 @@ ghost use Rattle.std.specs.Prelude.{◌≡◌, ◌+◌, ◌<◌, ◌≤◌, ℕ,
 ghost use Rattle.std.specs.List.{All};
 ghost use Rattle.signal_base.specs.declared.station.Station.{Station};
 ghost use Rattle.signal_base.specs.Mask.{has_bit};
-ghost use Rattle.definitions.specs.Costs.{least, receptions, set_cost, slot_cost, symbols_of, with_cost};
+ghost use Rattle.definitions.specs.Costs.{least, lesser_with, receptions, set_cost, slot_cost, symbols_of};
 ghost use Rattle.symbol_cost.specs.Grid.{HasCosts, IsPriced, AreRows, IsTuned, cost_at};
 
 use crate::receivers::{Row, row_of};
@@ -146,7 +146,7 @@ fn has(set: u8, x: u8) -> bool
 
 // The lesser of what is the least so far and one more cost.
 fn lesser(least: Option<u32>, cost: u32) -> Option<u32>
-    ensures { result ≡ with_cost least cost }
+    ensures { result ≡ lesser_with least cost }
 {
     match least {
         None => Some(cost),

@@ -1,6 +1,6 @@
 -- What is told of the files of the machine.
 use Rattle.std.specs.Prelude.{◌≢◌}
-use Rattle.bank_files.specs.Told.{Told, Untold, Missing}
+use Rattle.bank_files.specs.Told.{Untold, Missing}
 
 -- of which nothing is told, that isn't told to be missing
 pub untold_is_there : Untold ≢ Missing

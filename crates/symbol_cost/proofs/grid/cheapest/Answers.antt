@@ -1,7 +1,7 @@
 use Rattle.std.proofs.Common.{◌≡◌, ℕ, true, false, get_or, Option, sym, subst, ap, ◌∙◌}
 use Rattle.signal_base.specs.Mask.{has_bit}
-use Rattle.definitions.specs.Costs.{with_cost}
-use Rattle.definitions.proofs.CostLaws.{IsAtMost, least_below-in, least_below-out, with_cost_bound}
+use Rattle.definitions.specs.Costs.{lesser_with}
+use Rattle.definitions.proofs.CostLaws.{IsAtMost, least_below-in, least_below-out, lesser_with_bound}
 use Rattle.symbol_cost.proofs.grid.cheapest.Goals.{then-has, else-has}
 use Rattle.symbol_cost.proofs.grid.cheapest.Goals as goal
 
@@ -16,8 +16,8 @@ loop-x-preserved c =
           let is = w.least-is ∙ w.lesser-least.ensures in
           let chosen : has_bit set x ≡ true = sym c.has.ensures ∙ w.if-has.true in
           record {
-            least = is ∙ ap (λ (o : Option ℕ). with_cost o (f x)) before.least ∙ sym (least_below-in f set x chosen);
-            bound = subst (λ (o : Option ℕ). IsAtMost 1_600_000 o) (sym is) (with_cost_bound 1_600_000 c.loop-x.least (f x) before.bound (c.requires x));
+            least = is ∙ ap (λ (o : Option ℕ). lesser_with o (f x)) before.least ∙ sym (least_below-in f set x chosen);
+            bound = subst (λ (o : Option ℕ). IsAtMost 1_600_000 o) (sym is) (lesser_with_bound 1_600_000 c.loop-x.least (f x) before.bound (c.requires x));
           })
       | else-has w ↦ (
           let left_out : has_bit set x ≡ false = sym c.has.ensures ∙ w.if-has.false in
