@@ -45,6 +45,25 @@ wwvb_leap_day =
 abbrev pub wwvb_leap_day_listing : List ℕ
 wwvb_leap_day_listing = codes "encode wwvb 2024-02-29T12:34Z 60" ++ 10 ∷ codes "M01100100M000100010M000000110M000000???M????00010M010001000M" ++ 10 ∷ []
 
+-- WWVB at 2016-12-31T23:59Z, with a leap second: day 366 of a leap year
+abbrev pub wwvb_new_year : WwvbFacts
+wwvb_new_year =
+    record { minute = 59; hour = 23; day_of_year = 366; year = 16; us_code = 0; leap = true; long = true }
+
+abbrev pub wwvb_new_year_listing : List ℕ
+wwvb_new_year_listing = codes "encode wwvb 2016-12-31T23:59Z 61" ++ 10 ∷ codes "M10101001M001000011M001100110M011000???M????00001M011001100MM" ++ 10 ∷ []
+
+-- JJY at 2016-12-31T23:59Z, with a leap second: 08:59 on Sunday, day 1 of 2017
+abbrev pub jjy_new_year : JjyFacts
+jjy_new_year = record { minute = 59; hour = 8; day_of_year = 1; year = 17; weekday = 0; leap = true; long = true }
+
+abbrev pub jjy_new_year_listing : List ℕ
+jjy_new_year_listing = codes "encode jjy 2016-12-31T23:59Z 61" ++ 10 ∷ codes "M10101001M000001000M000000000M000100100M000010111M0001100000M" ++ 10 ∷ []
+
+-- MSF at 2085-12-31T23:59Z, with a leap second: 00:00 on 2086-01-01 follows, a year of the eighties
+abbrev pub msf_eighties : MsfFacts
+msf_eighties = record { minute = 0; hour = 0; day = 1; weekday = 2; month = 1; year = 86; summer = false; change = false; long = true }
+
 -- JJY at 2024-06-10T06:45Z: 15:45 on Monday, day 162
 abbrev pub jjy_quarter_to_four : JjyFacts
 jjy_quarter_to_four = record { minute = 45; hour = 15; day_of_year = 162; year = 24; weekday = 1; leap = false; long = false }

@@ -1,7 +1,9 @@
 -- Dates that the public knows: days of ten dates, and what is around a change of summer time.
-use Rattle.std.specs.Prelude.{ℕ, ◌+◌, ◌-◌, ◌*◌, Bool, List, [], ◌∷◌, map}
+use Rattle.std.specs.Prelude.{ℕ, ◌+◌, ◌-◌, ◌*◌, Bool, false, List, [], ◌∷◌, map}
+use Rattle.signal_base.specs.declared.station.Station.TheVariants.{Wwvb}
 use Rattle.definitions.specs.declared.day.Day.{Day}
 use Rattle.definitions.specs.Calendar.{minutes_per_day}
+use Rattle.definitions.specs.Allowed.{allowed}
 use Rattle.definitions.specs.Summer.{is_eu_summer, is_eu_change, us_code}
 
 -- how many days after the first these dates come
@@ -30,3 +32,7 @@ eu_around n =
 -- WWVB's two bits on the day before, on this day and on the day after
 abbrev pub us_around : ℕ → List ℕ
 us_around n = map (λ k. us_code (k * minutes_per_day)) ((n - 1) ∷ n ∷ (n + 1) ∷ [])
+
+-- what WWVB's seconds 57 and 58 may carry on a day
+abbrev pub us_seconds : ℕ → List ℕ
+us_seconds n = map (λ s. allowed Wwvb false (n * minutes_per_day, s)) (57 ∷ 58 ∷ [])

@@ -5,7 +5,8 @@ ghost use Rattle.std.specs.Prelude.{◌≡◌, ◌∷◌, ◌-◌, [], map, true
 ghost use Rattle.signal_base.specs.declared.station.Station.TheVariants.{Dcf77, Msf, Wwvb, Jjy};
 ghost use Rattle.definitions.specs.Calendar.{day_at, century_minutes};
 ghost use Rattle.definitions.specs.Allowed.{encoded_year};
-ghost use Rattle.definitions.specs.Known.{eu_around, known_days, known_numbers, us_around};
+ghost use Rattle.definitions.specs.Vocabulary.{only};
+ghost use Rattle.definitions.specs.Known.{eu_around, known_days, known_numbers, us_around, us_seconds};
 
 /// Weekdays and days of the year, from 2000 to 2099.
 pub fn known_weekdays()
@@ -32,6 +33,14 @@ pub fn american_changes()
     ensures to_2007 { us_around 2864 ≡ 3 ∷ 1 ∷ 0 ∷ [] }
     ensures of_2099 { us_around 36226 ≡ 0 ∷ 2 ∷ 3 ∷ [] }
     ensures to_2099 { us_around 36464 ≡ 3 ∷ 1 ∷ 0 ∷ [] }
+{}
+
+/// WWVB's seconds 57 and 58 on the days about the changes of 2007.
+pub fn american_seconds()
+    ensures winter { us_seconds 2625 ≡ only 0 ∷ only 0 ∷ [] }
+    ensures begins { us_seconds 2626 ≡ only 1 ∷ only 0 ∷ [] }
+    ensures summer { us_seconds 2627 ≡ only 1 ∷ only 1 ∷ [] }
+    ensures ends { us_seconds 2864 ≡ only 0 ∷ only 1 ∷ [] }
 {}
 
 /// The last minute in which each station can encode the year, and the minute after it.

@@ -21,12 +21,15 @@ pub use answer::Answer;
 pub use day::Day;
 pub use dcf77::DcfFacts;
 pub use examples::{
-    dcf77_in_spring, dcf77_with_a_leap_second, jjy_at_quarter_to_four, msf_in_summer,
-    msf_with_a_leap_second, wwvb_on_a_leap_day,
+    dcf77_in_spring, dcf77_with_a_leap_second, jjy_at_quarter_to_four, jjy_with_a_leap_second,
+    msf_in_summer, msf_longer_by_second_17, msf_with_a_leap_second, wwvb_on_a_leap_day,
+    wwvb_with_a_leap_second,
 };
 pub use fields::Fields;
 pub use jjy::JjyFacts;
-pub use known::{american_changes, european_changes, known_weekdays, last_minutes};
+pub use known::{
+    american_changes, american_seconds, european_changes, known_weekdays, last_minutes,
+};
 pub use laws::{
     answer_is_one, days_differ, each_second_is_sent, keys_differ, waveforms_differ, words_are_one,
 };
