@@ -137,4 +137,4 @@ of_day day q century is =
 
 -- a day's answer is the only one
 pub day_answer_is_one : (day : ℕ) (log : Records) (a b : Answer) → day < century_days → IsDayAnswer day log a → IsDayAnswer day log b → a ≡ b
-day_answer_is_one day log a b century x y = answer_is_one (IsOfDay day) (day_cost log) (λ q is. of_day day q century is) a b x y
+day_answer_is_one day log a b century x y = answer_is_one (IsOfDay day) (day_cost day log) (λ q is. of_day day q century is) a b x y

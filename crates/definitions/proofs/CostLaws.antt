@@ -6,7 +6,8 @@ use Rattle.signal_base.specs.declared.tuning.Tuning.{Tuning}
 use Rattle.definitions.specs.declared.level.Level.{Level}
 use Rattle.definitions.specs.declared.level.Level.TheVariants.{High, Low, Unknown}
 use Rattle.definitions.specs.Logs.{Records, low_count, count_level, level_at}
-use Rattle.definitions.specs.Costs.{receptions, total_below, least, lesser_with, set_cost}
+use Rattle.definitions.specs.Receivers.{receptions}
+use Rattle.definitions.specs.Costs.{total_below, least, lesser_with, set_cost}
 use Rattle.signal_base.specs.declared.station.Station.{Station}
 use Rattle.signal_base.specs.Waveform.{symbol_count}
 use Rattle.definitions.specs.Vocabulary.{unscored}

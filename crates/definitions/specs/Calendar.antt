@@ -1,9 +1,7 @@
 -- The calendar: days one after another from Saturday 2000-01-01, by month lengths and the Gregorian leap rule.
-use Rattle.std.specs.Prelude.{ℕ, zero, suc, ◌+◌, ◌/◌, ◌%◌, Bool, ◌==◌, ◌&&◌, ◌||◌, not, nat_lt, if◌then◌else◌, Option, Some, None}
+use Rattle.std.specs.Prelude.{ℕ, zero, suc, ◌+◌, ◌/◌, ◌%◌, Bool, ◌==◌, ◌&&◌, ◌||◌, not, nat_lt, if◌then◌else◌}
 use Rattle.definitions.specs.declared.day.Day.{Day}
 use Rattle.definitions.specs.declared.fields.Fields.{Fields}
-use Rattle.definitions.specs.declared.zone.Zone.{Zone}
-use Rattle.definitions.specs.declared.zone.Zone.TheVariants.{Utc, Japan}
 
 -- the Gregorian rule
 abbrev pub is_leap_year : ℕ → Bool
@@ -67,19 +65,6 @@ fields_on d t =
 
 abbrev pub utc_fields : ℕ → Fields
 utc_fields t = fields_on (day_at (t / minutes_per_day)) t
-
--- by how many minutes a zone's time is ahead of UTC
-abbrev pub zone_shift : Zone → ℕ
-zone_shift Utc = 0
-zone_shift Japan = 540
-
--- the fields in a zone's time
-abbrev pub zone_fields : Zone → ℕ → Fields
-zone_fields zone t = utc_fields (t + zone_shift zone)
-
--- the same, and none in the year 2100
-abbrev pub local_fields : Zone → ℕ → Option Fields
-local_fields zone t = if nat_lt (zone_fields zone t).year 2100 then Some (zone_fields zone t) else None
 
 -- June or December, the months at whose end a leap second may come
 abbrev pub is_leap_month : Fields → Bool

@@ -1,5 +1,6 @@
 pub mod Calendar
 pub mod Summer
+pub mod Zones
 pub mod Vocabulary
 pub mod Dcf77
 pub mod Msf
@@ -7,13 +8,19 @@ pub mod Wwvb
 pub mod Jjy
 pub mod Allowed
 pub mod Walks
+pub mod Dut1
 pub mod Logs
+pub mod Receivers
+pub mod Phase
 pub mod Costs
 pub mod Answers
 pub mod Ends
+pub mod Blocks
 pub mod Lines
 pub mod Texts
 pub mod Listing
+pub mod Feed
+pub mod Refusals
 pub mod Owed
 pub mod Examples
 pub mod Known

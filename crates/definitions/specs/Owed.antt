@@ -12,10 +12,12 @@ use Rattle.definitions.specs.declared.answer.Answer.TheVariants.{Nothing, Decide
 use Rattle.definitions.specs.Calendar.{day_at, century_days, minutes_per_day}
 use Rattle.definitions.specs.Logs.{Records}
 use Rattle.definitions.specs.Walks.{IsWalkable}
-use Rattle.definitions.specs.Costs.{Reception, receptions, slot_cost, sequence_cost}
+use Rattle.definitions.specs.Receivers.{Receiver}
+use Rattle.definitions.specs.Costs.{bank_costs, sequence_cost}
 use Rattle.definitions.specs.Answers.{IsAnswer}
 use Rattle.definitions.specs.Lines.{LineFault, IsLog, IsRefused}
-use Rattle.definitions.specs.Texts.{date_text, report, usage_line, log_too_large_line, log_fault_line}
+use Rattle.definitions.specs.Texts.{date_text, report}
+use Rattle.definitions.specs.Refusals.{usage_line, log_too_large_line, log_fault_line}
 
 -- a word that names a file isn't empty and doesn't begin with -
 abbrev pub IsFileWord : List ℕ → Type 0
@@ -45,19 +47,19 @@ day_window day =
     }
 
 -- the one receiver, which neither lags nor weighs
-abbrev pub receptions_of : Records → List Reception
-receptions_of log = receptions (record { delay = 0; weight = 1 } ∷ []) (log ∷ [])
+abbrev pub bank_of : Records → List Receiver
+bank_of log = record { station = Jjy; heard = record { tuning = record { delay = 0; weight = 1 }; log = log } } ∷ []
 
 -- what a sequence costs by this log
-abbrev pub day_cost : Records → Sequence → ℕ
-day_cost log q = sequence_cost (slot_cost difference_table (receptions_of log) Jjy 0) 120 q
+abbrev pub day_cost : ℕ → Records → Sequence → ℕ
+day_cost day log q = sequence_cost (bank_costs difference_table (bank_of log) 0) (day_window day) q
 
 -- the walkable sequences of the day that aren't announced
 abbrev pub IsOfDay : ℕ → Sequence → Type 0
 IsOfDay day q = IsWalkable (day_window day) q × (q.announced ≡ false)
 
 abbrev pub IsDayAnswer : ℕ → Records → Answer → Type 0
-IsDayAnswer day log answer = IsAnswer (IsOfDay day) (day_cost log) answer
+IsDayAnswer day log answer = IsAnswer (IsOfDay day) (day_cost day log) answer
 
 abbrev pub status_of : Answer → ℕ
 status_of (Decided c q next) = 0

@@ -1,8 +1,7 @@
 -- Summer time in Europe and in the United States: its changes are found by weekday, day after day.
 use Rattle.std.specs.Prelude.{ℕ, zero, suc, ◌+◌, ◌/◌, ◌%◌, Bool, false, true, ◌==◌, ◌&&◌, ◌||◌, nat_lt, nat_le, if◌then◌else◌}
 use Rattle.definitions.specs.declared.day.Day.{Day}
-use Rattle.definitions.specs.declared.fields.Fields.{Fields}
-use Rattle.definitions.specs.Calendar.{first_day, next_day, day_at, month_length, utc_fields, minutes_per_day}
+use Rattle.definitions.specs.Calendar.{first_day, next_day, day_at, month_length, minutes_per_day}
 
 abbrev pub is_sunday_of : ℕ → Day → Bool
 is_sunday_of month d = (d.month == month) && (d.weekday == 0)
@@ -46,13 +45,6 @@ is_eu_change t =
 unfoldable pub eu_change_within : ℕ → ℕ → Bool
 eu_change_within t zero = false
 eu_change_within t (suc n) = is_eu_change (t + suc n) || eu_change_within t n
-
--- Central European time is an hour ahead of UTC and in summer two, the United Kingdom's none and in summer one.
-abbrev pub central_fields : ℕ → Fields
-central_fields t = utc_fields (t + (if is_eu_summer t then 120 else 60))
-
-abbrev pub uk_fields : ℕ → Fields
-uk_fields t = utc_fields (t + (if is_eu_summer t then 60 else 0))
 
 -- The United States: to 2006 from the first Sunday of April to the last of October, from 2007 on from the second
 -- Sunday of March to the first of November. The rule is kept to 2099.

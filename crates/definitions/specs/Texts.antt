@@ -14,7 +14,6 @@ use Rattle.definitions.specs.declared.answer.Answer.{Answer}
 use Rattle.definitions.specs.declared.answer.Answer.TheVariants.{Nothing, Decided, Undecided}
 use Rattle.definitions.specs.Calendar.{utc_fields}
 use Rattle.definitions.specs.Walks.{place_at}
-use Rattle.definitions.specs.Lines.{LineFault, Shape, NotRising, TooManyRecords}
 
 -- a line of these bytes
 abbrev pub line : List ℕ → List ℕ
@@ -46,17 +45,18 @@ sequence_text q =
 abbrev pub slot_begin : Window → ℕ → ℕ
 slot_begin window k = window.start + window.phase + 1000 * k
 
--- the line of slot k, where a minute begins there
-abbrev pub minute_line : Window → ℕ × ℕ → ℕ → List ℕ
-minute_line window place k =
-    if place.1 == 0
-    then line (codes "minute " ++ minute_text place.0 ++ codes " at " ++ decimal (slot_begin window k))
-    else []
+-- the line of the minute t that begins in slot k
+abbrev pub minute_line : Window → ℕ → ℕ → List ℕ
+minute_line window t k = line (codes "minute " ++ minute_text t ++ codes " at " ++ decimal (slot_begin window k))
 
--- a line for each minute that begins in the first n slots, in order
-unfoldable pub minute_lines : Window → Sequence → ℕ → List ℕ
-minute_lines window q zero = []
-minute_lines window q (suc n) = minute_lines window q n ++ minute_line window (place_at q n) n
+-- a text for a place in slot k, where a minute begins there
+abbrev pub at_minute : (ℕ → ℕ → List ℕ) → ℕ × ℕ → ℕ → List ℕ
+at_minute text place k = if place.1 == 0 then text place.0 k else []
+
+-- the texts of the minutes that begin in the first n slots, in order
+unfoldable pub at_minutes : (ℕ → ℕ → List ℕ) → Sequence → ℕ → List ℕ
+at_minutes text q zero = []
+at_minutes text q (suc n) = at_minutes text q n ++ at_minute text (place_at q n) n
 
 abbrev pub phase_line : Window → List ℕ
 phase_line window = line (codes "phase " ++ decimal window.phase)
@@ -109,28 +109,25 @@ report_head window duts (Undecided c q r) =
 -- the minutes of a decided answer
 abbrev pub report_minutes : Window → Answer → List ℕ
 report_minutes window Nothing = []
-report_minutes window (Decided c q next) = minute_lines window q window.seconds
+report_minutes window (Decided c q next) = at_minutes (minute_line window) q window.seconds
 report_minutes window (Undecided c q r) = []
 
 abbrev pub report : Window → List StationDut → Answer → List ℕ
 report window duts answer = report_head window duts answer ++ report_minutes window answer
 
--- the refusal of words that aren't of the grammar
-abbrev pub usage_line : List ℕ
-usage_line = line (codes "words: usage")
+-- what is told of a certificate that holds: that it does, and the report of its answer
+abbrev pub certified_report : Window → List StationDut → Answer → List ℕ
+certified_report window duts answer = line (codes "certified") ++ report window duts answer
 
-abbrev pub fault_text : LineFault → List ℕ
-fault_text Shape = codes "shape"
-fault_text NotRising = codes "not rising"
-fault_text TooManyRecords = codes "too many records"
+-- the answer of a trial, by its sequences alone
+abbrev pub trial_answer : Answer → List ℕ
+trial_answer Nothing = line (codes "none")
+trial_answer (Decided c q next) = line (codes "decided") ++ line (codes "first " ++ sequence_text q)
+trial_answer (Undecided c q r) =
+    line (codes "undecided") ++ line (codes "first " ++ sequence_text q) ++ line (codes "other " ++ sequence_text r)
 
--- the beginning of a refusal of the log of a receiver, by its number from 1 and its name
-abbrev pub log_text : ℕ → List ℕ → List ℕ
-log_text number name = codes "log " ++ decimal number ++ 32 ∷ name ++ codes ": "
-
-abbrev pub log_too_large_line : ℕ → List ℕ → List ℕ
-log_too_large_line number name = line (log_text number name ++ codes "too large")
-
-abbrev pub log_fault_line : ℕ → List ℕ → ℕ → LineFault → List ℕ
-log_fault_line number name at fault =
-    line (log_text number name ++ codes "line " ++ decimal at ++ codes ": " ++ fault_text fault)
+-- the summary of a trial: its number and station, how many receivers heard it, what was sent, and the answer
+abbrev pub trial_summary : ℕ → Station → ℕ → Sequence → Answer → List ℕ
+trial_summary number station count sent answer =
+    line (codes "trial " ++ decimal number) ++ line (codes "station " ++ station_name station)
+    ++ line (codes "receivers " ++ decimal count) ++ line (codes "sent " ++ sequence_text sent) ++ trial_answer answer

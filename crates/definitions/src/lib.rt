@@ -3,6 +3,7 @@
 #![tactic(auto)]
 
 mod answer;
+mod block;
 mod day;
 mod dcf77;
 mod examples;
@@ -18,6 +19,7 @@ mod wwvb;
 mod zone;
 
 pub use answer::Answer;
+pub use block::{Block, Span};
 pub use day::Day;
 pub use dcf77::DcfFacts;
 pub use examples::{

@@ -1,0 +1,56 @@
+-- The phase of a window: how far after a whole second of the receivers' clock the station's seconds begin.
+use Rattle.std.specs.Prelude.{ℕ, zero, suc, ◌+◌, ◌-◌, ◌*◌, ◌%◌, Bool, true, false, ◌&&◌, nat_lt, nat_le, if◌then◌else◌, List, [], ◌∷◌, map, filter, sum_by, min}
+use Rattle.signal_base.specs.declared.station.Station.{Station}
+use Rattle.signal_base.specs.declared.station.Station.TheVariants.{Dcf77, Msf, Wwvb, Jjy}
+use Rattle.definitions.specs.declared.level.Level.{Level}
+use Rattle.definitions.specs.declared.level.Level.TheVariants.{High, Low, Unknown}
+use Rattle.definitions.specs.Logs.{Records}
+use Rattle.definitions.specs.Receivers.{Receiver}
+
+abbrev pub is_fall : Level → Level → Bool
+is_fall High Low = true
+is_fall before after = false
+
+abbrev pub is_rise : Level → Level → Bool
+is_rise Low High = true
+is_rise before after = false
+
+-- The carrier falls as a second begins; at JJY it rises.
+abbrev pub begins_second : Station → Level → Level → Bool
+begins_second Dcf77 before after = is_fall before after
+begins_second Msf before after = is_fall before after
+begins_second Wwvb before after = is_fall before after
+begins_second Jjy before after = is_rise before after
+
+-- the times of the records of a log that may begin a second, by each record and the one before it
+abbrev pub start_edges : Station → Records → List ℕ
+start_edges station [] = []
+start_edges station (r ∷ []) = []
+start_edges station (r ∷ s ∷ rs) =
+    if begins_second station r.1 s.1
+    then s.0 ∷ start_edges station (s ∷ rs)
+    else start_edges station (s ∷ rs)
+
+-- the offsets of a receiver's start edges in a window of n seconds, in milliseconds from a whole second of the window
+abbrev pub offsets : ℕ → ℕ → Receiver → List ℕ
+offsets start n r =
+    let begin = start + r.heard.tuning.delay in
+    map (λ e. (e - begin) % 1000)
+    (filter (λ e. nat_le begin e && nat_lt e (begin + 1000 * n)) (start_edges r.station r.heard.log))
+
+-- how far two offsets are apart, on a circle of a second
+abbrev pub circular_distance : ℕ → ℕ → ℕ
+circular_distance x y = min ((x - y) + (y - x)) (1000 - ((x - y) + (y - x)))
+
+-- how well a phase fits the start edges: each within 50 ms of it counts the milliseconds that are left
+abbrev pub fit : ℕ → ℕ → List Receiver → ℕ → ℕ
+fit start n bank f = sum_by (λ r. sum_by (λ o. 50 - circular_distance o f) (offsets start n r)) bank
+
+-- the least of the numbers up to n at which a function is greatest
+unfoldable pub first_peak : (ℕ → ℕ) → ℕ → ℕ
+first_peak f zero = 0
+first_peak f (suc n) = if nat_lt (f (first_peak f n)) (f (suc n)) then suc n else first_peak f n
+
+-- the phase: the least from 0 to 999 that fits best
+abbrev pub phase_of : ℕ → ℕ → List Receiver → ℕ
+phase_of start n bank = first_peak (fit start n bank) 999
