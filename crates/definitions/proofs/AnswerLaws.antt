@@ -1,13 +1,15 @@
 -- There is at most one answer.
-use Rattle.std.proofs.Common.{◌≡◌, ◌≢◌, ℕ, ◌<◌, ◌≤◌, ◌⊎◌, inl, inr, Bool, true, false, Option, Some, None, MatchOption, refl, sym, ap, ◌∙◌, subst, arith}
+use Rattle.std.proofs.Common.{◌≡◌, ◌≢◌, ℕ, ◌<◌, ◌≤◌, ◌⊎◌, inl, inr, Bool, true, false, Option, Some, None, MatchOption, refl, sym, ap, ◌∙◌, subst, ◌&&◌, if◌then◌else◌, arith}
 use Rattle.std.proofs.lemmas.Bool.{cases_eq}
 use Rattle.definitions.specs.declared.sequence.Sequence.{Sequence}
 use Rattle.definitions.specs.declared.answer.Answer.{Answer}
 use Rattle.definitions.specs.declared.answer.Answer.TheVariants.{Nothing, Decided, Undecided}
-use Rattle.definitions.specs.Calendar.{century_days, minute_length}
+use Rattle.definitions.specs.Calendar.{century_days, century_minutes, minute_length, is_leap_end}
 use Rattle.definitions.specs.Logs.{Records}
-use Rattle.definitions.specs.Walks.{IsSequence, key_of}
-use Rattle.definitions.specs.Answers.{IsAnswer, IsDecided, IsUndecided, IsNext}
+use Rattle.signal_base.specs.declared.window.Window.{Window}
+use Rattle.definitions.specs.Walks.{IsSequence, IsWalkable, IsLegal, key_of}
+use Rattle.definitions.specs.Costs.{Costs, sequence_cost}
+use Rattle.definitions.specs.Answers.{IsAdmitted, IsAnswer, IsDecided, IsUndecided, IsNext, IsWindowAnswer}
 use Rattle.definitions.specs.Owed.{IsOfDay, IsDayAnswer, day_cost}
 use Rattle.definitions.proofs.KeyLaws.{same_sequence, cost_of-key_of, cost_of-le}
 
@@ -138,3 +140,21 @@ of_day day q century is =
 -- a day's answer is the only one
 pub day_answer_is_one : (day : ℕ) (log : Records) (a b : Answer) → day < century_days → IsDayAnswer day log a → IsDayAnswer day log b → a ≡ b
 day_answer_is_one day log a b century x y = answer_is_one (IsOfDay day) (day_cost day log) (λ q is. of_day day q century is) a b x y
+
+length_bound : (b : Bool) → (if b then 61 else 60) ≤ 61
+length_bound true = omega arith
+length_bound false = omega arith
+
+-- a walkable sequence has the numbers of one
+pub walkable_sequence : (window : Window) (q : Sequence) → window.to ≤ century_minutes → IsWalkable window q → IsSequence q
+walkable_sequence window q end is =
+    let before = is.before_end in
+    let short = is.second in
+    record { first_minute = omega arith; first_second = omega (arith, short, length_bound (q.announced && is_leap_end q.first)) }
+
+-- a window's answer is the only one
+pub window_answer_is_one : (window : Window) (costs : Costs) (ceiling : ℕ) (a b : Answer) → window.to ≤ century_minutes
+    → IsWindowAnswer window costs ceiling a → IsWindowAnswer window costs ceiling b → a ≡ b
+window_answer_is_one window costs ceiling a b end x y =
+    answer_is_one (IsAdmitted (IsLegal window) (sequence_cost costs window) ceiling) (sequence_cost costs window)
+    (λ q is. walkable_sequence window q end is.0.0) a b x y

@@ -8,3 +8,6 @@ pub mod ParityLaws
 pub mod WaveLaws
 pub mod ListingLaws
 pub mod SetLaws
+pub mod SeasonLaws
+pub mod PhaseLaws
+pub mod Dut1Laws

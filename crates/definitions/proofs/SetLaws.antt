@@ -1,7 +1,7 @@
 -- Each second that a minute has may carry something.
-use Rattle.std.proofs.Common.{ℕ, zero, suc, ◌+◌, ◌*◌, ◌/◌, ◌%◌, ◌-◌, ◌<◌, inl, inr, Bool, true, false, ◌&&◌, ◌||◌, ◌==◌, nat_lt, if◌then◌else◌, List, [], ◌∷◌, Option, Some, None, refl, sym, subst, arith}
+use Rattle.std.proofs.Common.{ℕ, zero, suc, ◌+◌, ◌*◌, ◌/◌, ◌%◌, ◌-◌, ◌<◌, ◌≤◌, ◌≡◌, inl, inr, Bool, true, false, ◌&&◌, ◌||◌, ◌==◌, nat_lt, if◌then◌else◌, List, [], ◌∷◌, Option, Some, None, refl, sym, ap, subst, arith}
 use Rattle.std.specs.Option.{option_map_or}
-use Rattle.std.proofs.lemmas.Bool.{lt-ltb}
+use Rattle.std.proofs.lemmas.Bool.{lt-ltb, le-ltb}
 use Rattle.signal_base.specs.declared.station.Station.{Station}
 use Rattle.signal_base.specs.declared.station.Station.TheVariants.{Dcf77, Msf, Wwvb, Jjy}
 use Rattle.definitions.specs.declared.dcf77.DcfFacts.{DcfFacts}
@@ -9,31 +9,33 @@ use Rattle.definitions.specs.declared.msf.MsfFacts.{MsfFacts}
 use Rattle.definitions.specs.declared.wwvb.WwvbFacts.{WwvbFacts}
 use Rattle.definitions.specs.declared.jjy.JjyFacts.{JjyFacts}
 use Rattle.definitions.specs.Vocabulary.{only, free, no_second, Field, digit_bit, weight_of, carried_bit, ones, is_within}
-use Rattle.definitions.specs.Allowed.{IsSetOf}
+use Rattle.definitions.specs.Calendar.{minute_length, minutes_per_day}
+use Rattle.definitions.specs.Summer.{season_at, us_begins, us_ends, us_code}
+use Rattle.definitions.specs.Allowed.{IsSetOf, allowed, dcf_facts, msf_facts, wwvb_facts, jjy_facts}
 use Rattle.definitions.specs.Dcf77 as dcf
 use Rattle.definitions.specs.Msf as msf
 use Rattle.definitions.specs.Wwvb as wwvb
 use Rattle.definitions.specs.Jjy as jjy
 
 -- what holds of both holds of either
-either : (P : ℕ → Type 0) (c : Bool) (a b : ℕ) → P a → P b → P (if c then a else b)
+pub either : (P : ℕ → Type 0) (c : Bool) (a b : ℕ) → P a → P b → P (if c then a else b)
 either P true a b p q = p
 either P false a b p q = q
 
 -- a number that is a bit
-IsBit : ℕ → Type 0
+unfoldable pub IsBit : ℕ → Type 0
 IsBit n = n < 2
 
 mod_bit : (n : ℕ) → IsBit (n % 2)
 unfolding IsBit
 mod_bit n = omega arith
 
-flag : (c : Bool) → IsBit (if c then 1 else 0)
+pub flag : (c : Bool) → IsBit (if c then 1 else 0)
 unfolding IsBit
 flag true = omega arith
 flag false = omega arith
 
-no_flag : (c : Bool) → IsBit (if c then 0 else 1)
+pub no_flag : (c : Bool) → IsBit (if c then 0 else 1)
 unfolding IsBit
 no_flag true = omega arith
 no_flag false = omega arith
@@ -47,7 +49,7 @@ mapped : (g : ℕ → ℕ) (o : Option ℕ) (d : ℕ) → ((w : ℕ) → IsBit (
 mapped g None d p q = q
 mapped g (Some w) d p q = p w
 
-carried : (fields : List Field) (s : ℕ) → IsBit (carried_bit fields s)
+pub carried : (fields : List Field) (s : ℕ) → IsBit (carried_bit fields s)
 unfolding IsBit
 carried [] s = omega arith
 carried (f ∷ fs) s = mapped (digit_bit f.1) (weight_of f.0 s) (carried_bit fs s) (digit f.1) (carried fs s)
@@ -96,7 +98,7 @@ dcf_bit f s =
     (either IsBit (s == 58) _ _ (mod_bit (dcf.date_ones f))
     (carried (dcf.dcf_fields f) s))))))))
 
-pub dcf_set : (f : DcfFacts) (s : ℕ) → s < (if f.long then 61 else 60) → IsSetOf Dcf77 (dcf.dcf_second f s)
+dcf_set : (f : DcfFacts) (s : ℕ) → s < (if f.long then 61 else 60) → IsSetOf Dcf77 (dcf.dcf_second f s)
 dcf_set f s lt =
     in_minute Dcf77 s (if f.long then 61 else 60) _ lt
     (either (IsSetOf Dcf77) (s == (if f.long then 60 else 59)) _ _ (inr (omega arith, omega arith))
@@ -120,7 +122,7 @@ code_set f s =
     (either (IsSetOf Msf) (is_within 1 16 s) _ _ (free_set Msf)
     (pair_set (msf.bit_a f s) (msf.bit_b f s) (bit_a f s) (bit_b f s)))
 
-pub msf_set : (f : MsfFacts) (s : ℕ) → s < (if f.long then 61 else 60) → IsSetOf Msf (msf.msf_second f s)
+msf_set : (f : MsfFacts) (s : ℕ) → s < (if f.long then 61 else 60) → IsSetOf Msf (msf.msf_second f s)
 msf_set f s lt =
     in_minute Msf s (if f.long then 61 else 60) _ lt
     (either (IsSetOf Msf) (f.long && (s == 17)) _ _ (inr (omega arith, omega arith))
@@ -137,7 +139,7 @@ wwvb_bit f s lt =
     (either IsBit (s == 57) _ _ (half f.us_code lt)
     (either IsBit (s == 58) _ _ (mod_bit f.us_code) (carried (wwvb.wwvb_fields f) s))))
 
-pub wwvb_set : (f : WwvbFacts) (s : ℕ) → f.us_code < 4 → s < (if f.long then 61 else 60) → IsSetOf Wwvb (wwvb.wwvb_second f s)
+wwvb_set : (f : WwvbFacts) (s : ℕ) → f.us_code < 4 → s < (if f.long then 61 else 60) → IsSetOf Wwvb (wwvb.wwvb_second f s)
 wwvb_set f s code lt =
     in_minute Wwvb s (if f.long then 61 else 60) _ lt
     (either (IsSetOf Wwvb) (wwvb.is_marked s) _ _ (inr (omega arith, omega arith))
@@ -150,10 +152,34 @@ jjy_bit f s =
     (either IsBit (s == 37) _ _ (mod_bit (ones jjy.minute_weights f.minute))
     (either IsBit (is_within 53 54 s) _ _ (flag f.leap) (carried (jjy.jjy_fields f) s)))
 
-pub jjy_set : (f : JjyFacts) (s : ℕ) → s < (if f.long then 61 else 60) → IsSetOf Jjy (jjy.jjy_second f s)
+jjy_set : (f : JjyFacts) (s : ℕ) → s < (if f.long then 61 else 60) → IsSetOf Jjy (jjy.jjy_second f s)
 jjy_set f s lt =
     in_minute Jjy s (if f.long then 61 else 60) _ lt
     (either (IsSetOf Jjy) (jjy.is_marked f s) _ _ (inr (omega arith, omega arith))
     (either (IsSetOf Jjy) (jjy.is_call_minute f && is_within 40 48 s) _ _ (inl refl)
     (either (IsSetOf Jjy) (jjy.is_call_minute f && is_within 50 55 s) _ _ (free_set Jjy)
     (bit_set Jjy (jjy.jjy_bit f s) (jjy_bit f s)))))
+
+code_small : (t : ℕ) → us_code t < 4
+code_small t =
+    let s = season_at us_begins us_ends (t / minutes_per_day) in
+    either (λ n. n < 4) (us_begins s.0) _ _ (omega arith)
+    (either (λ n. n < 4) (us_ends s.0) _ _ (omega arith)
+    (either (λ n. n < 4) s.1 _ _ (omega arith) (omega arith)))
+
+-- each second of a minute may carry something
+pub sent : (station : Station) (announced : Bool) (t s : ℕ) → s < minute_length announced t → IsSetOf station (allowed station announced (t, s))
+sent Dcf77 announced t s lt = dcf_set (dcf_facts announced t) s lt
+sent Msf announced t s lt = msf_set (msf_facts announced t) s lt
+sent Wwvb announced t s lt = wwvb_set (wwvb_facts announced t) s (code_small t) lt
+sent Jjy announced t s lt = jjy_set (jjy_facts announced t) s lt
+
+past : (s n set : ℕ) → n ≤ s → (if nat_lt s n then set else no_second) ≡ no_second
+past s n set le = ap (λ c. if c then set else no_second) (le-ltb s n le)
+
+-- and none comes after them
+pub ends : (station : Station) (announced : Bool) (t s : ℕ) → minute_length announced t ≤ s → allowed station announced (t, s) ≡ no_second
+ends Dcf77 announced t s le = past s (minute_length announced t) _ le
+ends Msf announced t s le = past s (minute_length announced t) _ le
+ends Wwvb announced t s le = past s (minute_length announced t) _ le
+ends Jjy announced t s le = past s (minute_length announced t) _ le

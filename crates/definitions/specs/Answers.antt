@@ -3,7 +3,13 @@ use Rattle.std.specs.Prelude.{ℕ, ◌≡◌, ◌≢◌, ◌<◌, ◌≤◌, Opt
 use Rattle.definitions.specs.declared.sequence.Sequence.{Sequence}
 use Rattle.definitions.specs.declared.answer.Answer.{Answer}
 use Rattle.definitions.specs.declared.answer.Answer.TheVariants.{Nothing, Decided, Undecided}
-use Rattle.definitions.specs.Walks.{key_of}
+use Rattle.signal_base.specs.declared.window.Window.{Window}
+use Rattle.definitions.specs.Walks.{IsLegal, key_of}
+use Rattle.definitions.specs.Costs.{Costs, sequence_cost}
+
+-- a sequence is admitted: it is legal, and doesn't cost more than the ceiling
+abbrev pub IsAdmitted : (Sequence → Type 0) → (Sequence → ℕ) → ℕ → Sequence → Type 0
+IsAdmitted legal cost ceiling q = legal q × (cost q ≤ ceiling)
 
 -- some other admitted sequence costs n, and none of them less
 pub record IsNext (admitted : Sequence → Type 0) (cost : Sequence → ℕ) (q : Sequence) (n : ℕ) : Type 0 where
@@ -29,3 +35,8 @@ abbrev pub IsAnswer : (Sequence → Type 0) → (Sequence → ℕ) → Answer �
 IsAnswer admitted cost Nothing = (q : Sequence) → ¬ (admitted q)
 IsAnswer admitted cost (Decided c q next) = IsDecided admitted cost q next × (c ≡ cost q)
 IsAnswer admitted cost (Undecided c q r) = IsUndecided admitted cost q r × (c ≡ cost q)
+
+-- the answer for a window, under costs and a ceiling
+abbrev pub IsWindowAnswer : Window → Costs → ℕ → Answer → Type 0
+IsWindowAnswer window costs ceiling answer =
+    IsAnswer (IsAdmitted (IsLegal window) (sequence_cost costs window) ceiling) (sequence_cost costs window) answer

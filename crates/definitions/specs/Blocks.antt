@@ -1,5 +1,5 @@
 -- Blocks of sequences that a search treats as one: the items, their children, and the least that each can cost.
-use Rattle.std.specs.Prelude.{ℕ, zero, suc, ◌+◌, ◌-◌, ◌*◌, ◌/◌, ◌^◌, ◌≡◌, ◌<◌, ◌≤◌, Bool, true, false, nat_lt, if◌then◌else◌, min, List, [], ◌∷◌, ◌++◌, map, sum_by, Option, Some, None}
+use Rattle.std.specs.Prelude.{ℕ, zero, suc, ◌+◌, ◌-◌, ◌*◌, ◌/◌, ◌^◌, ◌≡◌, ◌<◌, ◌≤◌, Bool, true, false, nat_lt, if◌then◌else◌, min, List, [], ◌∷◌, ◌++◌, sum_by, Option, Some, None}
 use Rattle.std.specs.List.{range_with_len, flat_map}
 use Rattle.signal_base.specs.declared.station.Station.{Station}
 use Rattle.signal_base.specs.declared.window.Window.{Window}
@@ -98,10 +98,8 @@ IsUnionBound costs window b (Some n) =
     × (n ≡ union_cost costs window unions)
 
 abbrev pub IsBoundBy : Span → Costs → Window → Block → Option ℕ → Type 0
-IsBoundBy Year costs window b bound = IsUnionBound costs window b bound
-IsBoundBy Day costs window b bound = IsUnionBound costs window b bound
-IsBoundBy Hour costs window b bound = IsUnionBound costs window b bound
 IsBoundBy Minute costs window b bound = IsMinuteBound costs window b bound
+IsBoundBy span costs window b bound = IsUnionBound costs window b bound
 
 -- the bound of a block, or none
 abbrev pub IsBound : Costs → Window → Block → Option ℕ → Type 0

@@ -1,5 +1,5 @@
 -- The feed of a decided answer: a sentence ZDA of NMEA 0183 for each minute.
-use Rattle.std.specs.Prelude.{ℕ, ◌+◌, ◌/◌, ◌%◌, List, [], ◌∷◌, ◌++◌, fold, codes, bit_xor, true}
+use Rattle.std.specs.Prelude.{ℕ, ◌/◌, ◌%◌, List, [], ◌∷◌, ◌++◌, fold, codes, bit_xor, true}
 use Rattle.std.specs.Fmt.{digit_glyph}
 use Rattle.definitions.specs.declared.fields.Fields.{Fields}
 use Rattle.definitions.specs.declared.sequence.Sequence.{Sequence}

@@ -1,5 +1,6 @@
 pub mod Calendar
 pub mod Summer
+pub mod Seasons
 pub mod Zones
 pub mod Vocabulary
 pub mod Dcf77
@@ -24,3 +25,4 @@ pub mod Refusals
 pub mod Owed
 pub mod Examples
 pub mod Known
+pub mod Heard

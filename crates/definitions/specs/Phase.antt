@@ -1,26 +1,18 @@
 -- The phase of a window: how far after a whole second of the receivers' clock the station's seconds begin.
 use Rattle.std.specs.Prelude.{ℕ, zero, suc, ◌+◌, ◌-◌, ◌*◌, ◌%◌, Bool, true, false, ◌&&◌, nat_lt, nat_le, if◌then◌else◌, List, [], ◌∷◌, map, filter, sum_by, min}
 use Rattle.signal_base.specs.declared.station.Station.{Station}
-use Rattle.signal_base.specs.declared.station.Station.TheVariants.{Dcf77, Msf, Wwvb, Jjy}
+use Rattle.signal_base.specs.declared.station.Station.TheVariants.{Jjy}
 use Rattle.definitions.specs.declared.level.Level.{Level}
-use Rattle.definitions.specs.declared.level.Level.TheVariants.{High, Low, Unknown}
+use Rattle.definitions.specs.declared.level.Level.TheVariants.{High, Low}
 use Rattle.definitions.specs.Logs.{Records}
 use Rattle.definitions.specs.Receivers.{Receiver}
 
-abbrev pub is_fall : Level → Level → Bool
-is_fall High Low = true
-is_fall before after = false
-
-abbrev pub is_rise : Level → Level → Bool
-is_rise Low High = true
-is_rise before after = false
-
 -- The carrier falls as a second begins; at JJY it rises.
 abbrev pub begins_second : Station → Level → Level → Bool
-begins_second Dcf77 before after = is_fall before after
-begins_second Msf before after = is_fall before after
-begins_second Wwvb before after = is_fall before after
-begins_second Jjy before after = is_rise before after
+begins_second Jjy Low High = true
+begins_second Jjy before after = false
+begins_second station High Low = true
+begins_second station before after = false
 
 -- the times of the records of a log that may begin a second, by each record and the one before it
 abbrev pub start_edges : Station → Records → List ℕ
@@ -49,7 +41,7 @@ fit start n bank f = sum_by (λ r. sum_by (λ o. 50 - circular_distance o f) (of
 -- the least of the numbers up to n at which a function is greatest
 unfoldable pub first_peak : (ℕ → ℕ) → ℕ → ℕ
 first_peak f zero = 0
-first_peak f (suc n) = if nat_lt (f (first_peak f n)) (f (suc n)) then suc n else first_peak f n
+first_peak f (suc n) = let p = first_peak f n in if nat_lt (f p) (f (suc n)) then suc n else p
 
 -- the phase: the least from 0 to 999 that fits best
 abbrev pub phase_of : ℕ → ℕ → List Receiver → ℕ

@@ -15,38 +15,30 @@ bad_word_line word = line (codes "words: bad " ++ word)
 abbrev pub empty_range_line : List ℕ
 empty_range_line = line (codes "words: --to is before --from")
 
--- what is wrong with a configuration
-abbrev pub configuration_line : List ℕ → List ℕ
-configuration_line what = line (codes "configuration: " ++ what)
-
 -- a key of a configuration, of a receiver by its number from 1 or of none
 abbrev pub key_text : Option ℕ → List ℕ → List ℕ
 key_text None key = key
 key_text (Some receiver) key = codes "receiver " ++ decimal receiver ++ 32 ∷ key
 
--- what is wrong with a key
-pub data KeyFault : Type 0 where
-  Missing : KeyFault
-  WrongKind : KeyFault
-  OutOfRange : KeyFault
-
-abbrev pub key_fault_text : KeyFault → List ℕ
-key_fault_text Missing = codes "missing "
-key_fault_text WrongKind = codes "wrong kind "
-key_fault_text OutOfRange = codes "out of range "
-
--- the refusals of a configuration
+-- the refusals of a configuration: the whole of it, or a key
 pub data ConfigurationFault : Type 0 where
   TooLarge : ConfigurationFault
   NotToml : ConfigurationFault
-  BadKey : KeyFault → Option ℕ → List ℕ → ConfigurationFault
+  MissingKey : Option ℕ → List ℕ → ConfigurationFault
+  WrongKind : Option ℕ → List ℕ → ConfigurationFault
+  OutOfRange : Option ℕ → List ℕ → ConfigurationFault
   UnknownKey : ConfigurationFault
 
+abbrev pub configuration_fault_text : ConfigurationFault → List ℕ
+configuration_fault_text TooLarge = codes "too large"
+configuration_fault_text NotToml = codes "not toml"
+configuration_fault_text (MissingKey receiver key) = codes "missing " ++ key_text receiver key
+configuration_fault_text (WrongKind receiver key) = codes "wrong kind " ++ key_text receiver key
+configuration_fault_text (OutOfRange receiver key) = codes "out of range " ++ key_text receiver key
+configuration_fault_text UnknownKey = codes "unknown key"
+
 abbrev pub configuration_fault_line : ConfigurationFault → List ℕ
-configuration_fault_line TooLarge = configuration_line (codes "too large")
-configuration_fault_line NotToml = configuration_line (codes "not toml")
-configuration_fault_line (BadKey fault receiver key) = configuration_line (key_fault_text fault ++ key_text receiver key)
-configuration_fault_line UnknownKey = configuration_line (codes "unknown key")
+configuration_fault_line fault = line (codes "configuration: " ++ configuration_fault_text fault)
 
 -- a bad line of a log
 abbrev pub fault_text : LineFault → List ℕ

@@ -1,48 +1,54 @@
 //! Worked examples, computed from the definitions alone. A minute is counted from 2000-01-01T00:00Z: its day and what
 //! of the day has passed.
 
-ghost use Rattle.std.specs.Prelude.{◌≡◌, ◌+◌, ◌*◌, ◌∷◌, [], map, true, false};
+ghost use Rattle.std.specs.Prelude.{◌≡◌, ◌+◌, ◌*◌, ◌∷◌, ◌++◌, [], codes, map, true, false};
 ghost use Rattle.signal_base.specs.declared.station.Station.TheVariants.{Dcf77, Msf, Wwvb, Jjy};
 ghost use Rattle.definitions.specs.Allowed.{dcf_facts, msf_facts, wwvb_facts, jjy_facts};
 ghost use Rattle.definitions.specs.Msf.{msf_second};
 ghost use Rattle.definitions.specs.Vocabulary.{free, only};
 ghost use Rattle.definitions.specs.Listing.{listing};
-ghost use Rattle.definitions.specs.Examples.{dcf77_new_year, dcf77_new_year_listing, dcf77_spring, dcf77_spring_listing, jjy_new_year, jjy_new_year_listing, jjy_quarter_to_four, jjy_quarter_to_four_listing, msf_eighties, msf_new_year, msf_new_year_listing, msf_summer, msf_summer_listing, wwvb_leap_day, wwvb_leap_day_listing, wwvb_new_year, wwvb_new_year_listing};
+ghost use Rattle.definitions.specs.Examples.{dcf77_new_year, dcf77_spring, jjy_new_year, jjy_quarter_to_four, msf_eighties, msf_new_year, msf_summer, wwvb_leap_day, wwvb_new_year};
 
 /// DCF77 at 2016-12-31T23:59Z, the minute with the leap second.
 pub fn dcf77_with_a_leap_second()
     ensures facts { dcf_facts true (6209 * 1440 + 1439) ≡ dcf77_new_year }
-    ensures listing { listing Dcf77 true (6209 * 1440 + 1439) ≡ dcf77_new_year_listing }
+    ensures listing { listing Dcf77 true (6209 * 1440 + 1439)
+        ≡ codes "encode dcf77 2016-12-31T23:59Z 61" ++ 10 ∷ codes "0???????????????00111000000001000001100000111100001110100010-" ++ 10 ∷ [] }
 {}
 
 /// DCF77 at 2024-03-31T00:59Z, the minute before summer time.
 pub fn dcf77_in_spring()
     ensures facts { dcf_facts false (8856 * 1440 + 59) ≡ dcf77_spring }
-    ensures listing { listing Dcf77 false (8856 * 1440 + 59) ≡ dcf77_spring_listing }
+    ensures listing { listing Dcf77 false (8856 * 1440 + 59)
+        ≡ codes "encode dcf77 2024-03-31T00:59Z 60" ++ 10 ∷ codes "0???????????????1100100000000110000010001111111000001001000-" ++ 10 ∷ [] }
 {}
 
 /// MSF at 2016-12-31T23:59Z, the minute with the leap second.
 pub fn msf_with_a_leap_second()
     ensures facts { msf_facts true (6209 * 1440 + 1439) ≡ msf_new_year }
-    ensures listing { listing Msf true (6209 * 1440 + 1439) ≡ msf_new_year_listing }
+    ensures listing { listing Msf true (6209 * 1440 + 1439)
+        ≡ codes "encode msf 2016-12-31T23:59Z 61" ++ 10 ∷ codes "M????????????????00002022200002000002000000000000000002333320" ++ 10 ∷ [] }
 {}
 
 /// MSF at 2024-07-15T12:00Z, in summer time.
 pub fn msf_in_summer()
     ensures facts { msf_facts false (8962 * 1440 + 720) ≡ msf_summer }
-    ensures listing { listing Msf false (8962 * 1440 + 720) ≡ msf_summer_listing }
+    ensures listing { listing Msf false (8962 * 1440 + 720)
+        ≡ codes "encode msf 2024-07-15T12:00Z 60" ++ 10 ∷ codes "M????????????????0020020000222020202002020022000000202332330" ++ 10 ∷ [] }
 {}
 
 /// WWVB at 2024-02-29T12:34Z.
 pub fn wwvb_on_a_leap_day()
     ensures facts { wwvb_facts false (8825 * 1440 + 754) ≡ wwvb_leap_day }
-    ensures listing { listing Wwvb false (8825 * 1440 + 754) ≡ wwvb_leap_day_listing }
+    ensures listing { listing Wwvb false (8825 * 1440 + 754)
+        ≡ codes "encode wwvb 2024-02-29T12:34Z 60" ++ 10 ∷ codes "M01100100M000100010M000000110M000000???M????00010M010001000M" ++ 10 ∷ [] }
 {}
 
 /// JJY at 2024-06-10T06:45Z, in Japan 15:45.
 pub fn jjy_at_quarter_to_four()
     ensures facts { jjy_facts false (8927 * 1440 + 405) ≡ jjy_quarter_to_four }
-    ensures listing { listing Jjy false (8927 * 1440 + 405) ≡ jjy_quarter_to_four_listing }
+    ensures listing { listing Jjy false (8927 * 1440 + 405)
+        ≡ codes "encode jjy 2024-06-10T06:45Z 60" ++ 10 ∷ codes "M10000101M000100101M000100110M001000110M*********M??????000M" ++ 10 ∷ [] }
 {}
 
 /// MSF at 2085-12-31T23:59Z, the seconds about the one that a minute of 61 seconds has more.
@@ -53,11 +59,13 @@ pub fn msf_longer_by_second_17()
 /// WWVB at 2016-12-31T23:59Z, the minute with the leap second.
 pub fn wwvb_with_a_leap_second()
     ensures facts { wwvb_facts true (6209 * 1440 + 1439) ≡ wwvb_new_year }
-    ensures listing { listing Wwvb true (6209 * 1440 + 1439) ≡ wwvb_new_year_listing }
+    ensures listing { listing Wwvb true (6209 * 1440 + 1439)
+        ≡ codes "encode wwvb 2016-12-31T23:59Z 61" ++ 10 ∷ codes "M10101001M001000011M001100110M011000???M????00001M011001100MM" ++ 10 ∷ [] }
 {}
 
 /// JJY at 2016-12-31T23:59Z, the minute with the leap second.
 pub fn jjy_with_a_leap_second()
     ensures facts { jjy_facts true (6209 * 1440 + 1439) ≡ jjy_new_year }
-    ensures listing { listing Jjy true (6209 * 1440 + 1439) ≡ jjy_new_year_listing }
+    ensures listing { listing Jjy true (6209 * 1440 + 1439)
+        ≡ codes "encode jjy 2016-12-31T23:59Z 61" ++ 10 ∷ codes "M10101001M000001000M000000000M000100100M000010111M0001100000M" ++ 10 ∷ [] }
 {}

@@ -1,16 +1,25 @@
 //! Dates that the public knows, computed from the definitions alone. A day is named by how many days it comes after
 //! 2000-01-01.
 
-ghost use Rattle.std.specs.Prelude.{◌≡◌, ◌∷◌, ◌-◌, [], map, true, false};
+ghost use Rattle.std.specs.Prelude.{◌≡◌, ◌∷◌, ◌-◌, ◌+◌, ◌*◌, [], map, true, false};
 ghost use Rattle.signal_base.specs.declared.station.Station.TheVariants.{Dcf77, Msf, Wwvb, Jjy};
-ghost use Rattle.definitions.specs.Calendar.{day_at, century_minutes};
+ghost use Rattle.definitions.specs.Calendar.{day_at, century_minutes, is_leap_end, minute_length, utc_fields};
 ghost use Rattle.definitions.specs.Allowed.{encoded_year};
 ghost use Rattle.definitions.specs.Vocabulary.{only};
-ghost use Rattle.definitions.specs.Known.{eu_around, known_days, known_numbers, us_around, us_seconds};
+ghost use Rattle.definitions.specs.Known.{dcf77_around, eu_around, us_around, us_seconds};
 
 /// Weekdays and days of the year, from 2000 to 2099.
 pub fn known_weekdays()
-    ensures { map day_at known_numbers ≡ known_days }
+    ensures of_2000_01_01 { day_at 0 ≡ record { year = 2000; month = 1; day = 1; weekday = 6; day_of_year = 1 } }
+    ensures of_2000_02_29 { day_at 59 ≡ record { year = 2000; month = 2; day = 29; weekday = 2; day_of_year = 60 } }
+    ensures of_2004_07_04 { day_at 1646 ≡ record { year = 2004; month = 7; day = 4; weekday = 0; day_of_year = 186 } }
+    ensures of_2010_10_10 { day_at 3935 ≡ record { year = 2010; month = 10; day = 10; weekday = 0; day_of_year = 283 } }
+    ensures of_2016_12_31 { day_at 6209 ≡ record { year = 2016; month = 12; day = 31; weekday = 6; day_of_year = 366 } }
+    ensures of_2020_02_29 { day_at 7364 ≡ record { year = 2020; month = 2; day = 29; weekday = 6; day_of_year = 60 } }
+    ensures of_2024_12_25 { day_at 9125 ≡ record { year = 2024; month = 12; day = 25; weekday = 3; day_of_year = 360 } }
+    ensures of_2038_01_19 { day_at 13898 ≡ record { year = 2038; month = 1; day = 19; weekday = 2; day_of_year = 19 } }
+    ensures of_2050_05_05 { day_at 18387 ≡ record { year = 2050; month = 5; day = 5; weekday = 4; day_of_year = 125 } }
+    ensures of_2099_12_31 { day_at 36524 ≡ record { year = 2099; month = 12; day = 31; weekday = 4; day_of_year = 365 } }
 {}
 
 /// The days on which European summer time begins or ends.
@@ -35,12 +44,33 @@ pub fn american_changes()
     ensures to_2099 { us_around 36464 ≡ 3 ∷ 1 ∷ 0 ∷ [] }
 {}
 
-/// WWVB's seconds 57 and 58 on the days about the changes of 2007.
+/// WWVB's seconds 57 and 58 around the changes of 2006 and 2007.
 pub fn american_seconds()
-    ensures winter { us_seconds 2625 ≡ only 0 ∷ only 0 ∷ [] }
-    ensures begins { us_seconds 2626 ≡ only 1 ∷ only 0 ∷ [] }
-    ensures summer { us_seconds 2627 ≡ only 1 ∷ only 1 ∷ [] }
-    ensures ends { us_seconds 2864 ≡ only 0 ∷ only 1 ∷ [] }
+    ensures of_2006 { us_seconds 2283 ≡ (only 0, only 0) ∷ (only 1, only 0) ∷ (only 1, only 1) ∷ [] }
+    ensures to_2006 { us_seconds 2493 ≡ (only 1, only 1) ∷ (only 0, only 1) ∷ (only 0, only 0) ∷ [] }
+    ensures of_2007 { us_seconds 2626 ≡ (only 0, only 0) ∷ (only 1, only 0) ∷ (only 1, only 1) ∷ [] }
+    ensures to_2007 { us_seconds 2864 ≡ (only 1, only 1) ∷ (only 0, only 1) ∷ (only 0, only 0) ∷ [] }
+{}
+
+/// DCF77's minutes around the changes of 2024: 03:00 follows 01:59, and 02:00 comes twice.
+pub fn dcf77_around_its_changes()
+    ensures spring { dcf77_around 8856 ≡ (1, 59, false, true) ∷ (3, 0, true, true) ∷ (3, 1, true, false) ∷ [] }
+    ensures autumn { dcf77_around 9066 ≡ (2, 59, true, true) ∷ (2, 0, false, true) ∷ (2, 1, false, false) ∷ [] }
+{}
+
+/// The fields of 2024-06-10T06:16Z, a Monday.
+pub fn fields_of_a_minute()
+    ensures { utc_fields (8927 * 1440 + 376)
+        ≡ record { year = 2024; month = 6; day = 10; weekday = 1; day_of_year = 162; hour = 6; minute = 16 } }
+{}
+
+/// The end of 2016, whose last minute had a leap second.
+pub fn leap_second_of_2016()
+    ensures before { is_leap_end (6209 * 1440 + 1438) ≡ false }
+    ensures last { is_leap_end (6209 * 1440 + 1439) ≡ true }
+    ensures after { is_leap_end (6209 * 1440 + 1440) ≡ false }
+    ensures long { minute_length true (6209 * 1440 + 1439) ≡ 61 }
+    ensures plain { minute_length false (6209 * 1440 + 1439) ≡ 60 }
 {}
 
 /// The last minute in which each station can encode the year, and the minute after it.

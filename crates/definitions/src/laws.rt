@@ -1,22 +1,21 @@
 //! What follows from the definitions: that a key, an answer, a date and words each speak of one thing.
 
-ghost use Rattle.std.specs.Prelude.{ℕ, ◌≡◌, ◌≢◌, ◌<◌, if◌then◌else◌, List};
+ghost use Rattle.std.specs.Prelude.{ℕ, ◌≡◌, ◌≢◌, ◌<◌, ◌≤◌, Bool, true, List, ℤ};
 ghost use Rattle.signal_base.specs.declared.station.Station.{Station};
+ghost use Rattle.signal_base.specs.declared.window.Window.{Window};
+ghost use Rattle.signal_base.specs.Mask.{has_bit};
 ghost use Rattle.signal_base.specs.Waveform.{symbol_count, waveform};
-ghost use Rattle.signal_base.specs.declared.station.Station.TheVariants.{Dcf77, Msf, Wwvb, Jjy};
-ghost use Rattle.definitions.specs.declared.dcf77.DcfFacts.{DcfFacts};
-ghost use Rattle.definitions.specs.declared.msf.MsfFacts.{MsfFacts};
-ghost use Rattle.definitions.specs.declared.wwvb.WwvbFacts.{WwvbFacts};
-ghost use Rattle.definitions.specs.declared.jjy.JjyFacts.{JjyFacts};
-ghost use Rattle.definitions.specs.Allowed.{IsSetOf};
-ghost use Rattle.definitions.specs.Dcf77.{dcf_second};
-ghost use Rattle.definitions.specs.Msf.{msf_second};
-ghost use Rattle.definitions.specs.Wwvb.{wwvb_second};
-ghost use Rattle.definitions.specs.Jjy.{jjy_second};
 ghost use Rattle.definitions.specs.declared.sequence.Sequence.{Sequence};
 ghost use Rattle.definitions.specs.declared.answer.Answer.{Answer};
-ghost use Rattle.definitions.specs.Calendar.{day_at, century_days};
+ghost use Rattle.definitions.specs.Calendar.{day_at, century_days, century_minutes, minute_length};
+ghost use Rattle.definitions.specs.Vocabulary.{free, no_second};
+ghost use Rattle.definitions.specs.Allowed.{IsSetOf, allowed};
+ghost use Rattle.definitions.specs.Dut1.{dut1_symbol, is_dut1_second};
 ghost use Rattle.definitions.specs.Logs.{Records};
+ghost use Rattle.definitions.specs.Receivers.{Receiver};
+ghost use Rattle.definitions.specs.Phase.{fit, phase_of};
+ghost use Rattle.definitions.specs.Costs.{Costs};
+ghost use Rattle.definitions.specs.Answers.{IsWindowAnswer};
 ghost use Rattle.definitions.specs.Walks.{IsSequence, key_of};
 ghost use Rattle.definitions.specs.Ends.{sequence_of, cost_of};
 ghost use Rattle.definitions.specs.Owed.{IsDayAnswer, IsDecode, day_text};
@@ -32,6 +31,19 @@ pub fn keys_differ()
 pub fn answer_is_one()
     ensures { (day : ℕ) (log : Records) (a b : Answer) → day < century_days
         → IsDayAnswer day log a → IsDayAnswer day log b → a ≡ b }
+{}
+
+/// There is at most one answer for a window, costs and a ceiling.
+pub fn window_answer_is_one()
+    ensures { (window : Window) (costs : Costs) (ceiling : ℕ) (a b : Answer) → window.to ≤ century_minutes
+        → IsWindowAnswer window costs ceiling a → IsWindowAnswer window costs ceiling b → a ≡ b }
+{}
+
+/// The phase is one of the milliseconds of a second; none fits the start edges better, and no lesser one as well.
+pub fn phase_fits_best()
+    ensures range { (start n : ℕ) (bank : List Receiver) → phase_of start n bank < 1000 }
+    ensures best { (start n : ℕ) (bank : List Receiver) (f : ℕ) → f < 1000 → fit start n bank f ≤ fit start n bank (phase_of start n bank) }
+    ensures first { (start n : ℕ) (bank : List Receiver) (f : ℕ) → f < phase_of start n bank → fit start n bank f < fit start n bank (phase_of start n bank) }
 {}
 
 /// Different days of the century have different dates.
@@ -52,10 +64,14 @@ pub fn waveforms_differ()
         → waveform station x ≡ waveform station y → x ≡ y }
 {}
 
-/// Each second that a minute has may carry some of the station's symbols, or it isn't scored.
+/// Each second that a minute has may carry some of the station's symbols, or it isn't scored; after them comes none.
 pub fn each_second_is_sent()
-    ensures dcf77 { (f : DcfFacts) (s : ℕ) → s < (if f.long then 61 else 60) → IsSetOf Dcf77 (dcf_second f s) }
-    ensures msf { (f : MsfFacts) (s : ℕ) → s < (if f.long then 61 else 60) → IsSetOf Msf (msf_second f s) }
-    ensures wwvb { (f : WwvbFacts) (s : ℕ) → f.us_code < 4 → s < (if f.long then 61 else 60) → IsSetOf Wwvb (wwvb_second f s) }
-    ensures jjy { (f : JjyFacts) (s : ℕ) → s < (if f.long then 61 else 60) → IsSetOf Jjy (jjy_second f s) }
+    ensures sent { (station : Station) (announced : Bool) (t s : ℕ) → s < minute_length announced t → IsSetOf station (allowed station announced (t, s)) }
+    ensures ends { (station : Station) (announced : Bool) (t s : ℕ) → minute_length announced t ≤ s → allowed station announced (t, s) ≡ no_second }
+{}
+
+/// The seconds that tell DUT1 may carry a 0 or a 1, and each value of it is told by these.
+pub fn dut1_is_told_by_free_seconds()
+    ensures sets { (station : Station) (announced : Bool) (t s : ℕ) → is_dut1_second station s ≡ true → allowed station announced (t, s) ≡ free }
+    ensures symbols { (station : Station) (d : ℤ) (s : ℕ) → has_bit free (dut1_symbol station d s) ≡ true }
 {}

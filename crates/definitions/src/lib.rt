@@ -8,12 +8,14 @@ mod day;
 mod dcf77;
 mod examples;
 mod fields;
+mod heard;
 mod jjy;
 mod known;
 mod laws;
 mod level;
 mod msf;
 mod parity;
+mod seasons;
 mod sequence;
 mod wwvb;
 mod zone;
@@ -28,16 +30,23 @@ pub use examples::{
     wwvb_with_a_leap_second,
 };
 pub use fields::Fields;
+pub use heard::{
+    blocks_of_a_window, dut1_heard, feed_in_spring, phase_of_rises, receivers_at_odds,
+    two_pulses_cost, unknown_tenths_cost_nothing, walk_through_a_leap_second,
+};
 pub use jjy::JjyFacts;
 pub use known::{
-    american_changes, american_seconds, european_changes, known_weekdays, last_minutes,
+    american_changes, american_seconds, dcf77_around_its_changes, european_changes,
+    fields_of_a_minute, known_weekdays, last_minutes, leap_second_of_2016,
 };
 pub use laws::{
-    answer_is_one, days_differ, each_second_is_sent, keys_differ, waveforms_differ, words_are_one,
+    answer_is_one, days_differ, dut1_is_told_by_free_seconds, each_second_is_sent, keys_differ,
+    phase_fits_best, waveforms_differ, window_answer_is_one, words_are_one,
 };
 pub use level::Level;
 pub use msf::MsfFacts;
 pub use parity::{dcf77_groups_are_even, msf_groups_are_odd};
+pub use seasons::summer_lies_between_its_changes;
 pub use sequence::Sequence;
 pub use wwvb::WwvbFacts;
 pub use zone::Zone;

@@ -3,10 +3,7 @@ use Rattle.std.proofs.Common.{◌≡◌, ◌+◌, ◌*◌, true, refl, ◌∙◌
 use Rattle.definitions.specs.Calendar.{day_at}
 use Rattle.definitions.specs.Summer.{season_at, eu_change_within}
 use Rattle.definitions.specs.Allowed.{wwvb_facts}
-use Rattle.definitions.specs.Examples.{wwvb_new_year, wwvb_new_year_listing}
-use Rattle.signal_base.specs.declared.station.Station.TheVariants.{Wwvb}
-use Rattle.definitions.specs.Wwvb.{wwvb_second}
-use Rattle.definitions.specs.Listing.{listing, listing_of}
+use Rattle.definitions.specs.Examples.{wwvb_new_year}
 use Rattle.definitions.proofs.ListingLaws.{wwvb_listing}
 use Rattle.definitions.proofs.examples.wwvb_with_a_leap_second.Goals as goal
 
@@ -17,12 +14,6 @@ facts = refl
 pub returns-clause-facts : goal.returns-clause-facts
 returns-clause-facts c = facts
 
-shown : listing_of Wwvb true (6209 * 1440 + 1439) (wwvb_second wwvb_new_year) ≡ wwvb_new_year_listing
-unfolding day_at
-shown = refl
-
-listed : listing Wwvb true (6209 * 1440 + 1439) ≡ wwvb_new_year_listing
-listed = wwvb_listing true (6209 * 1440 + 1439) wwvb_new_year facts ∙ shown
-
 pub returns-clause-listing : goal.returns-clause-listing
-returns-clause-listing c = listed
+unfolding day_at
+returns-clause-listing c = wwvb_listing true (6209 * 1440 + 1439) wwvb_new_year facts ∙ refl

@@ -1,0 +1,67 @@
+-- The seconds that tell DUT1 are free, and its symbols are 0 and 1.
+use Rattle.std.proofs.Common.{◌≡◌, ℕ, zero, suc, ◌-◌, ◌≤◌, Bool, true, false, ◌||◌, ◌&&◌, ◌==◌, nat_lt, nat_le, if◌then◌else◌, ℤ, pos, negsuc, unsigned_abs, [], ◌∷◌, refl, arith}
+use Rattle.std.proofs.lemmas.Bool.{and_parts, leb-true, lt-ltb, le-ltb, ne_eqb}
+use Rattle.std.proofs.lemmas.Bool.Decides.{nat_tests}
+use Rattle.signal_base.specs.declared.station.Station.{Station}
+use Rattle.signal_base.specs.declared.station.Station.TheVariants.{Dcf77, Msf, Wwvb, Jjy}
+use Rattle.signal_base.specs.Mask.{has_bit}
+use Rattle.definitions.specs.declared.msf.MsfFacts.{MsfFacts}
+use Rattle.definitions.specs.declared.wwvb.WwvbFacts.{WwvbFacts}
+use Rattle.definitions.specs.Vocabulary.{free, only, no_second, weights_from, is_within}
+use Rattle.definitions.specs.Allowed.{allowed, msf_facts, wwvb_facts}
+use Rattle.definitions.specs.Dut1.{is_dut1_second, dut1_symbol, wwvb_sign}
+use Rattle.definitions.specs.Msf.{code_second, msf_second}
+use Rattle.definitions.specs.Wwvb.{wwvb_second}
+use Rattle.definitions.proofs.SetLaws.{IsBit, either, flag, no_flag, carried}
+
+msf_free : (f : MsfFacts) (s : ℕ) → is_within 1 16 s ≡ true → msf_second f s ≡ free
+msf_free f s e = by_length f.long
+  where
+    from : 1 ≤ s
+    from = leb-true 1 s (and_parts (nat_le 1 s) (nat_le s 16) e).0
+
+    to : s ≤ 16
+    to = leb-true s 16 (and_parts (nat_le 1 s) (nat_le s 16) e).1
+
+    code : code_second f s ≡ free
+    code = rw (ne_eqb s 0 (λ z. omega (arith, from, z)), e) refl
+
+    by_length : (long : Bool)
+        → (if nat_lt s (if long then 61 else 60)
+        then (if long && (s == 17) then only 0 else if long && nat_lt 17 s then code_second f (s - 1) else code_second f s)
+        else no_second)
+        ≡ free
+    by_length true =
+        rw (lt-ltb s 61 (omega (arith, to)), ne_eqb s 17 (λ z. omega (arith, to, z)), le-ltb 17 s (omega (arith, to)), code) refl
+    by_length false = rw (lt-ltb s 60 (omega (arith, to)), code) refl
+
+wwvb_free : (f : WwvbFacts) (s : ℕ) → (is_within 36 38 s || is_within 40 43 s) ≡ true → wwvb_second f s ≡ free
+wwvb_free f s e = grind (arith, nat_tests)
+
+pub dut1_sets : (station : Station) (announced : Bool) (t s : ℕ) → is_dut1_second station s ≡ true → allowed station announced (t, s) ≡ free
+dut1_sets Dcf77 announced t s e = absurd cc
+dut1_sets Msf announced t s e = msf_free (msf_facts announced t) s e
+dut1_sets Wwvb announced t s e = wwvb_free (wwvb_facts announced t) s e
+dut1_sets Jjy announced t s e = absurd cc
+
+in_free : (b : ℕ) → IsBit b → has_bit free b ≡ true
+unfolding IsBit
+in_free zero lt = refl
+in_free (suc zero) lt = refl
+in_free (suc (suc b)) lt = absurd (omega (arith, lt))
+
+sign : (d : ℤ) (s : ℕ) → IsBit (wwvb_sign d s)
+sign (pos n) s = no_flag (s == 37)
+sign (negsuc n) s = flag (s == 37)
+
+symbol : (station : Station) (d : ℤ) (s : ℕ) → IsBit (dut1_symbol station d s)
+symbol Dcf77 d s = flag false
+symbol Msf (pos n) s = flag (is_within 1 n s)
+symbol Msf (negsuc n) s = flag (is_within 9 _ s)
+symbol Wwvb d s =
+    either IsBit (is_within 36 38 s) _ _ (sign d s)
+    (carried ((weights_from 40 (8 ∷ 4 ∷ 2 ∷ 1 ∷ []), unsigned_abs d) ∷ []) s)
+symbol Jjy d s = flag false
+
+pub dut1_symbols : (station : Station) (d : ℤ) (s : ℕ) → has_bit free (dut1_symbol station d s) ≡ true
+dut1_symbols station d s = in_free _ (symbol station d s)

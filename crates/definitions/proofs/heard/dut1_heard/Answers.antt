@@ -1,0 +1,30 @@
+-- DUT1 of a minute.
+use Rattle.std.proofs.Common.{refl}
+use Rattle.definitions.specs.Calendar.{day_at}
+use Rattle.definitions.specs.Walks.{place_at}
+use Rattle.definitions.specs.Costs.{total_below}
+use Rattle.definitions.proofs.heard.dut1_heard.Goals as goal
+
+pub returns-clause-negative : goal.returns-clause-negative
+unfolding day_at place_at total_below
+returns-clause-negative c = refl
+
+pub returns-clause-tied : goal.returns-clause-tied
+unfolding day_at place_at total_below
+returns-clause-tied c = refl
+
+pub returns-clause-nought : goal.returns-clause-nought
+unfolding day_at place_at total_below
+returns-clause-nought c = refl
+
+pub returns-clause-wwvb : goal.returns-clause-wwvb
+unfolding day_at place_at total_below
+returns-clause-wwvb c = refl
+
+pub returns-clause-two_days : goal.returns-clause-two_days
+unfolding day_at place_at total_below
+returns-clause-two_days c = refl
+
+pub returns-clause-not_sent : goal.returns-clause-not_sent
+unfolding day_at place_at total_below
+returns-clause-not_sent c = refl

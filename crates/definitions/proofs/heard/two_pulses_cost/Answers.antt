@@ -1,0 +1,14 @@
+-- Two pulses.
+use Rattle.std.proofs.Common.{refl}
+use Rattle.definitions.specs.Costs.{total_below}
+use Rattle.definitions.specs.Logs.{low_count}
+use Rattle.signal_base.specs.Table.{difference_table}
+use Rattle.definitions.proofs.heard.two_pulses_cost.Goals as goal
+
+pub returns-clause-zero : goal.returns-clause-zero
+unfolding total_below low_count difference_table
+returns-clause-zero c = refl
+
+pub returns-clause-one : goal.returns-clause-one
+unfolding total_below low_count difference_table
+returns-clause-one c = refl

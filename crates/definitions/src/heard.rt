@@ -1,0 +1,67 @@
+//! Worked examples of what receivers heard, computed from the definitions alone.
+
+ghost use Rattle.std.specs.Prelude.{◌≡◌, ◌+◌, ◌*◌, ◌-◌, ◌∷◌, ◌++◌, codes, [], pos, negsuc, true, false};
+ghost use Rattle.signal_base.specs.declared.station.Station.TheVariants.{Dcf77, Msf, Wwvb, Jjy};
+ghost use Rattle.signal_base.specs.declared.dut.Dut.TheVariants.{Absent, Free, Tied, Tenths};
+ghost use Rattle.signal_base.specs.Table.{difference_table};
+ghost use Rattle.definitions.specs.declared.block.Span.TheVariants.{Year, Day, Hour, Minute};
+ghost use Rattle.definitions.specs.Blocks.{children};
+ghost use Rattle.definitions.specs.Phase.{phase_of};
+ghost use Rattle.definitions.specs.Costs.{bank_costs, set_cost};
+ghost use Rattle.definitions.specs.Vocabulary.{free};
+ghost use Rattle.definitions.specs.Feed.{zda_sentence};
+ghost use Rattle.definitions.specs.Heard.{at_odds, block_of, broken_off, costs_in, dut_heard, from_place, item_count, leap_walk, rises, two_pulses};
+
+/// A pulse that is 5 ms too short or too long costs 5, and 100 more under the other bit.
+pub fn two_pulses_cost()
+    ensures zero { costs_in two_pulses Dcf77 0 (0 ∷ 1 ∷ 2 ∷ []) ≡ 5 ∷ 105 ∷ 95 ∷ [] }
+    ensures one { costs_in two_pulses Dcf77 1 (0 ∷ 1 ∷ 2 ∷ []) ≡ 105 ∷ 5 ∷ 205 ∷ [] }
+{}
+
+/// A tenth of which a millisecond is unknown costs nothing.
+pub fn unknown_tenths_cost_nothing()
+    ensures { costs_in broken_off Wwvb 0 (0 ∷ 1 ∷ 2 ∷ []) ≡ 0 ∷ 200 ∷ 200 ∷ [] }
+{}
+
+/// Receivers are summed by their weights before a symbol is chosen.
+pub fn receivers_at_odds()
+    ensures symbols { costs_in at_odds Msf 0 (0 ∷ 1 ∷ []) ≡ 100 ∷ 300 ∷ [] }
+    ensures set { set_cost Msf (bank_costs difference_table at_odds 0 Msf 0) free ≡ 100 }
+{}
+
+/// A phase is that of the seconds as they were heard, a delay of the receiver aside.
+pub fn phase_of_rises()
+    ensures plain { phase_of 0 3 (rises 0) ≡ 237 }
+    ensures delayed { phase_of 0 3 (rises 237) ≡ 0 }
+{}
+
+/// DUT1 as a minute tells it: of MSF two negative tenths, a tie of -2 and 0, and none; of WWVB -3; and what isn't told.
+pub fn dut1_heard()
+    ensures negative { dut_heard Msf (9 ∷ 10 ∷ []) (from_place 720 0) ≡ Tenths (negsuc 1) }
+    ensures tied { dut_heard Msf (10 ∷ []) (from_place 720 0) ≡ Tied }
+    ensures nought { dut_heard Msf [] (from_place 720 0) ≡ Tenths (pos 0) }
+    ensures wwvb { dut_heard Wwvb (37 ∷ 42 ∷ 43 ∷ []) (from_place 720 0) ≡ Tenths (negsuc 2) }
+    ensures two_days { dut_heard Msf [] (from_place 1439 30) ≡ Free }
+    ensures not_sent { dut_heard Jjy [] (from_place 720 0) ≡ Absent }
+{}
+
+/// The seconds 0, 59 and 60 of a minute with a leap second, and the first of the next two.
+pub fn walk_through_a_leap_second()
+    ensures { leap_walk ≡ (262_079, 0) ∷ (262_079, 59) ∷ (262_079, 60) ∷ (262_080, 0) ∷ (262_081, 0) ∷ [] }
+{}
+
+/// A window of two years has two items for each beginning; a block's children are cut to it.
+pub fn blocks_of_a_window()
+    ensures items { item_count ≡ 242 }
+    ensures year { children (block_of Year 52_595_938 52_596_000) ≡ block_of Day 52_595_938 52_596_000 ∷ [] }
+    ensures day { children (block_of Day 52_595_938 52_596_000) ≡ block_of Hour 52_595_938 52_595_940 ∷ block_of Hour 52_595_940 52_596_000 ∷ [] }
+    ensures hour { children (block_of Hour 52_595_938 52_595_940) ≡ block_of Minute 52_595_938 52_595_939 ∷ block_of Minute 52_595_939 52_595_940 ∷ [] }
+    ensures minute { children (block_of Minute 52_595_938 52_595_939) ≡ [] }
+{}
+
+/// Three sentences of a feed.
+pub fn feed_in_spring()
+    ensures first { zda_sentence (8856 * 1440 + 58) ≡ codes "$GPZDA,005800.00,31,03,2024,00,00*6E" ++ 13 ∷ 10 ∷ [] }
+    ensures before { zda_sentence (8856 * 1440 + 59) ≡ codes "$GPZDA,005900.00,31,03,2024,00,00*6F" ++ 13 ∷ 10 ∷ [] }
+    ensures at { zda_sentence (8856 * 1440 + 60) ≡ codes "$GPZDA,010000.00,31,03,2024,00,00*62" ++ 13 ∷ 10 ∷ [] }
+{}

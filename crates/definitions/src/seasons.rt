@@ -1,0 +1,10 @@
+//! What follows from the definition of summer time by days.
+
+ghost use Rattle.std.specs.Prelude.{ℕ, ◌<◌, ◌≤◌};
+ghost use Rattle.definitions.specs.Seasons.{HasSummer};
+
+/// In each year of the century one day is the last Sunday of March and one the last of October, and the minutes of
+/// European summer time are those from 01:00 UTC of the one up to, and without, 01:00 UTC of the other.
+pub fn summer_lies_between_its_changes()
+    ensures { (year : ℕ) → 2000 ≤ year → year < 2100 → (march : ℕ) × (october : ℕ) × HasSummer year march october }
+{}
