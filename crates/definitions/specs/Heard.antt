@@ -4,6 +4,7 @@ use Rattle.signal_base.specs.declared.station.Station.{Station}
 use Rattle.signal_base.specs.declared.station.Station.TheVariants.{Dcf77, Msf, Wwvb, Jjy}
 use Rattle.signal_base.specs.declared.window.Window.{Window}
 use Rattle.signal_base.specs.declared.dut.Dut.{Dut}
+use Rattle.signal_base.specs.declared.dut.StationDut.{StationDut}
 use Rattle.signal_base.specs.Table.{difference_table}
 use Rattle.definitions.specs.declared.level.Level.TheVariants.{High, Low, Unknown}
 use Rattle.definitions.specs.declared.sequence.Sequence.{Sequence}
@@ -51,6 +52,10 @@ from_place first second = record { first = first; second = second; announced = f
 abbrev pub dut_heard : Station → List ℕ → Sequence → Dut
 dut_heard station heard_ones q =
     dut_of station (λ k x. if x == (if is_one_of heard_ones k then 1 else 0) then 0 else 100) 60 q
+
+-- what a station tells of DUT1
+abbrev pub dut_told : Station → Dut → StationDut
+dut_told station dut = record { station = station; dut = dut }
 
 -- a walk from the first second of 2000-06-30T23:59Z on, as it would be with a leap second
 abbrev pub leap_walk : List (ℕ × ℕ)

@@ -17,6 +17,7 @@ mod msf;
 mod parity;
 mod seasons;
 mod sequence;
+mod spelled;
 mod wwvb;
 mod zone;
 
@@ -48,5 +49,9 @@ pub use msf::MsfFacts;
 pub use parity::{dcf77_groups_are_even, msf_groups_are_odd};
 pub use seasons::summer_lies_between_its_changes;
 pub use sequence::Sequence;
+pub use spelled::{
+    refused_certificates, refused_configurations, refused_logs, refused_words, reports,
+    trial_of_msf,
+};
 pub use wwvb::WwvbFacts;
 pub use zone::Zone;

@@ -1,0 +1,38 @@
+-- Texts, spelled out.
+use Rattle.std.proofs.Common.{refl}
+use Rattle.std.specs.Fmt.{digits}
+use Rattle.definitions.specs.Calendar.{day_at}
+use Rattle.definitions.specs.Texts.{at_minutes}
+use Rattle.definitions.proofs.spelled.reports.Goals as goal
+
+pub returns-clause-none : goal.returns-clause-none
+unfolding digits day_at at_minutes
+returns-clause-none c = refl
+
+pub returns-clause-undecided : goal.returns-clause-undecided
+unfolding digits day_at at_minutes
+returns-clause-undecided c = refl
+
+pub returns-clause-decided : goal.returns-clause-decided
+unfolding digits day_at at_minutes
+returns-clause-decided c = refl
+
+pub returns-clause-tied : goal.returns-clause-tied
+unfolding digits day_at at_minutes
+returns-clause-tied c = refl
+
+pub returns-clause-several : goal.returns-clause-several
+unfolding digits day_at at_minutes
+returns-clause-several c = refl
+
+pub returns-clause-alone : goal.returns-clause-alone
+unfolding digits day_at at_minutes
+returns-clause-alone c = refl
+
+pub returns-clause-minute : goal.returns-clause-minute
+unfolding digits day_at at_minutes
+returns-clause-minute c = refl
+
+pub returns-clause-certified : goal.returns-clause-certified
+unfolding digits day_at at_minutes
+returns-clause-certified c = refl
