@@ -11,3 +11,4 @@ pub mod SetLaws
 pub mod SeasonLaws
 pub mod PhaseLaws
 pub mod Dut1Laws
+pub mod JuneLaws

@@ -10,6 +10,7 @@ use Rattle.definitions.specs.declared.level.Level.TheVariants.{High, Low, Unknow
 use Rattle.definitions.specs.declared.sequence.Sequence.{Sequence}
 use Rattle.definitions.specs.declared.block.Block.{Block}
 use Rattle.definitions.specs.declared.block.Span.{Span}
+use Rattle.definitions.specs.Calendar.{century_minutes, minutes_per_day}
 use Rattle.definitions.specs.Vocabulary.{is_one_of}
 use Rattle.definitions.specs.Logs.{Records}
 use Rattle.definitions.specs.Receivers.{Receiver}
@@ -60,6 +61,15 @@ dut_told station dut = record { station = station; dut = dut }
 -- a walk from the first second of 2000-06-30T23:59Z on, as it would be with a leap second
 abbrev pub leap_walk : List (ℕ × ℕ)
 leap_walk = map (place_at (record { first = 181 * 1440 + 1439; second = 0; announced = true })) (0 ∷ 59 ∷ 60 ∷ 61 ∷ 121 ∷ [])
+
+-- a minute of a station over the century
+abbrev pub minute_window : ℕ → Window
+minute_window mask =
+    record { stations = record { mask = mask }; start = 0; phase = 0; seconds = 60; from = 0; to = century_minutes }
+
+-- the first minute of June 2000, as it would be with a leap second at the end of the month
+abbrev pub june_announced : Sequence
+june_announced = record { first = 152 * minutes_per_day; second = 0; announced = true }
 
 -- the block of a span from minute lo up to, and without, hi, from the first second on
 abbrev pub block_of : Span → ℕ → ℕ → Block

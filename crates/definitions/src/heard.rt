@@ -10,7 +10,8 @@ ghost use Rattle.definitions.specs.Phase.{phase_of};
 ghost use Rattle.definitions.specs.Costs.{bank_costs, set_cost};
 ghost use Rattle.definitions.specs.Vocabulary.{free};
 ghost use Rattle.definitions.specs.Feed.{zda_sentence};
-ghost use Rattle.definitions.specs.Heard.{at_odds, block_of, broken_off, costs_in, dut_heard, from_place, item_count, leap_walk, rises, two_pulses};
+ghost use Rattle.definitions.specs.Walks.{IsLegal};
+ghost use Rattle.definitions.specs.Heard.{at_odds, block_of, broken_off, costs_in, dut_heard, from_place, item_count, june_announced, leap_walk, minute_window, rises, two_pulses};
 
 /// A pulse that is 5 ms too short or too long costs 5, and 100 more under the other bit.
 pub fn two_pulses_cost()
@@ -64,4 +65,11 @@ pub fn feed_in_spring()
     ensures first { zda_sentence (8856 * 1440 + 58) ≡ codes "$GPZDA,005800.00,31,03,2024,00,00*6E" ++ 13 ∷ 10 ∷ [] }
     ensures before { zda_sentence (8856 * 1440 + 59) ≡ codes "$GPZDA,005900.00,31,03,2024,00,00*6F" ++ 13 ∷ 10 ∷ [] }
     ensures at { zda_sentence (8856 * 1440 + 60) ≡ codes "$GPZDA,010000.00,31,03,2024,00,00*62" ++ 13 ∷ 10 ∷ [] }
+{}
+
+/// A leap second at the end of June 2000, announced in the month's first minute: WWVB tells it there, and DCF77 not yet,
+/// so it is a hypothesis of WWVB alone.
+pub fn announcement_in_june()
+    ensures told { IsLegal (minute_window 4) june_announced }
+    ensures not_told { ¬ (IsLegal (minute_window 1) june_announced) }
 {}
