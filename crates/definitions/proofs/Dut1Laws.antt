@@ -44,7 +44,7 @@ dut1_sets Msf announced t s e = msf_free (msf_facts announced t) s e
 dut1_sets Wwvb announced t s e = wwvb_free (wwvb_facts announced t) s e
 dut1_sets Jjy announced t s e = absurd cc
 
-in_free : (b : ℕ) → IsBit b → has_bit free b ≡ true
+pub in_free : (b : ℕ) → IsBit b → has_bit free b ≡ true
 unfolding IsBit
 in_free zero lt = refl
 in_free (suc zero) lt = refl
@@ -54,14 +54,14 @@ sign : (d : ℤ) (s : ℕ) → IsBit (wwvb_sign d s)
 sign (pos n) s = no_flag (s == 37)
 sign (negsuc n) s = flag (s == 37)
 
-symbol : (station : Station) (d : ℤ) (s : ℕ) → IsBit (dut1_symbol station d s)
-symbol Dcf77 d s = flag false
-symbol Msf (pos n) s = flag (is_within 1 n s)
-symbol Msf (negsuc n) s = flag (is_within 9 _ s)
-symbol Wwvb d s =
+pub dut1_bit : (station : Station) (d : ℤ) (s : ℕ) → IsBit (dut1_symbol station d s)
+dut1_bit Dcf77 d s = flag false
+dut1_bit Msf (pos n) s = flag (is_within 1 n s)
+dut1_bit Msf (negsuc n) s = flag (is_within 9 _ s)
+dut1_bit Wwvb d s =
     either IsBit (is_within 36 38 s) _ _ (sign d s)
     (carried ((weights_from 40 (8 ∷ 4 ∷ 2 ∷ 1 ∷ []), unsigned_abs d) ∷ []) s)
-symbol Jjy d s = flag false
+dut1_bit Jjy d s = flag false
 
 pub dut1_symbols : (station : Station) (d : ℤ) (s : ℕ) → has_bit free (dut1_symbol station d s) ≡ true
-dut1_symbols station d s = in_free _ (symbol station d s)
+dut1_symbols station d s = in_free _ (dut1_bit station d s)

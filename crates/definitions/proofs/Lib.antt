@@ -12,3 +12,5 @@ pub mod SeasonLaws
 pub mod PhaseLaws
 pub mod Dut1Laws
 pub mod JuneLaws
+pub mod UnionLaws
+pub mod BoundLaws

@@ -53,6 +53,13 @@ children_by Minute b = []
 abbrev pub children : Block → List Block
 children b = children_by b.span b
 
+-- a block of a window: what lies of one year, day, hour or minute in the window's range
+pub record IsBlock (window : Window) (b : Block) : Type 0 where
+  pub not_empty : b.lo < b.hi
+  pub not_before : window.from ≤ b.lo
+  pub begins : (t : ℕ) → window.from ≤ t → t < b.lo → span_end b.span t ≤ b.lo
+  pub ends : b.hi ≡ min (span_end b.span b.lo) window.to
+
 -- the sequence is one of the block
 pub record IsIn (b : Block) (q : Sequence) : Type 0 where
   pub announced : q.announced ≡ b.announced

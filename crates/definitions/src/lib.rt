@@ -4,6 +4,7 @@
 
 mod answer;
 mod block;
+mod bounds;
 mod day;
 mod dcf77;
 mod examples;
@@ -23,6 +24,7 @@ mod zone;
 
 pub use answer::Answer;
 pub use block::{Block, Span};
+pub use bounds::{bound_is_not_above, bound_is_one};
 pub use day::Day;
 pub use dcf77::DcfFacts;
 pub use examples::{
