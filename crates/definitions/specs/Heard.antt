@@ -1,5 +1,5 @@
 -- Worked examples: small logs, what they cost, their phase, the DUT1 that they tell, and the blocks of a window.
-use Rattle.std.specs.Prelude.{ℕ, ◌-◌, ◌*◌, ◌+◌, ◌==◌, true, false, if◌then◌else◌, List, [], ◌∷◌, map, length}
+use Rattle.std.specs.Prelude.{ℕ, ◌-◌, ◌*◌, ◌+◌, ◌==◌, ◌&&◌, not, true, false, if◌then◌else◌, List, [], ◌∷◌, map, length}
 use Rattle.signal_base.specs.declared.station.Station.{Station}
 use Rattle.signal_base.specs.declared.station.Station.TheVariants.{Dcf77, Msf, Wwvb, Jjy}
 use Rattle.signal_base.specs.declared.window.Window.{Window}
@@ -11,7 +11,7 @@ use Rattle.definitions.specs.declared.sequence.Sequence.{Sequence}
 use Rattle.definitions.specs.declared.block.Block.{Block}
 use Rattle.definitions.specs.declared.block.Span.{Span}
 use Rattle.definitions.specs.Calendar.{century_minutes, minutes_per_day}
-use Rattle.definitions.specs.Vocabulary.{is_one_of}
+use Rattle.definitions.specs.Vocabulary.{is_one_of, is_within}
 use Rattle.definitions.specs.Logs.{Records}
 use Rattle.definitions.specs.Receivers.{Receiver}
 use Rattle.definitions.specs.Costs.{bank_costs, dut_of}
@@ -49,10 +49,14 @@ rises delay =
 abbrev pub from_place : ℕ → ℕ → Sequence
 from_place first second = record { first = first; second = second; announced = false }
 
--- what a minute of a station tells of DUT1, where these slots heard a 1 and the others a 0, at 100 for each that differs
+-- costs by which of the slots from first to last these heard a 1 and the others a 0, at 100 for a symbol that differs
+abbrev pub ones_heard : ℕ → ℕ → List ℕ → ℕ → ℕ → ℕ
+ones_heard first last ones k x =
+    if is_within first last k && not (x == (if is_one_of ones k then 1 else 0)) then 100 else 0
+
+-- what a minute of a station tells of DUT1, by such costs
 abbrev pub dut_heard : Station → List ℕ → Sequence → Dut
-dut_heard station heard_ones q =
-    dut_of station (λ k x. if x == (if is_one_of heard_ones k then 1 else 0) then 0 else 100) 60 q
+dut_heard station ones q = dut_of station (ones_heard 0 59 ones) 60 q
 
 -- what a station tells of DUT1
 abbrev pub dut_told : Station → Dut → StationDut

@@ -7,11 +7,11 @@ ghost use Rattle.signal_base.specs.Table.{difference_table};
 ghost use Rattle.definitions.specs.declared.block.Span.TheVariants.{Year, Day, Hour, Minute};
 ghost use Rattle.definitions.specs.Blocks.{children};
 ghost use Rattle.definitions.specs.Phase.{phase_of};
-ghost use Rattle.definitions.specs.Costs.{bank_costs, set_cost};
+ghost use Rattle.definitions.specs.Costs.{bank_costs, sequence_cost, set_cost, station_cost};
 ghost use Rattle.definitions.specs.Vocabulary.{free};
 ghost use Rattle.definitions.specs.Feed.{zda_sentence};
 ghost use Rattle.definitions.specs.Walks.{IsLegal};
-ghost use Rattle.definitions.specs.Heard.{at_odds, block_of, broken_off, costs_in, dut_heard, from_place, item_count, june_announced, leap_walk, minute_window, rises, two_pulses};
+ghost use Rattle.definitions.specs.Heard.{at_odds, block_of, broken_off, costs_in, dut_heard, from_place, item_count, june_announced, leap_walk, minute_window, ones_heard, rises, two_pulses};
 
 /// A pulse that is 5 ms too short or too long costs 5, and 100 more under the other bit.
 pub fn two_pulses_cost()
@@ -44,6 +44,19 @@ pub fn dut1_heard()
     ensures wwvb { dut_heard Wwvb (37 ∷ 42 ∷ 43 ∷ []) (from_place 720 0) ≡ Tenths (negsuc 2) }
     ensures two_days { dut_heard Msf [] (from_place 1439 30) ≡ Free }
     ensures not_sent { dut_heard Jjy [] (from_place 720 0) ≡ Absent }
+{}
+
+/// Two ones behind second 8 of MSF fit a value of DUT1; the second of them alone fits none, and costs what it differs.
+pub fn dut1_costs()
+    ensures fits { station_cost Msf (ones_heard 1 16 (9 ∷ 10 ∷ [])) 60 (from_place 720 0) ≡ 0 }
+    ensures differs { station_cost Msf (ones_heard 1 16 (10 ∷ [])) 60 (from_place 720 0) ≡ 100 }
+{}
+
+/// At one for each second, a minute costs 60 for each station, and at JJY 9 less where it isn't scored.
+pub fn stations_are_summed()
+    ensures two { sequence_cost (λ station k x. 1) (minute_window 3) (from_place 705 0) ≡ 120 }
+    ensures jjy { sequence_cost (λ station k x. 1) (minute_window 8) (from_place 705 0) ≡ 51 }
+    ensures four { sequence_cost (λ station k x. 1) (minute_window 15) (from_place 705 0) ≡ 231 }
 {}
 
 /// The seconds 0, 59 and 60 of a minute with a leap second, and the first of the next two.

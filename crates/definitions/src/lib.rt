@@ -34,8 +34,9 @@ pub use examples::{
 };
 pub use fields::Fields;
 pub use heard::{
-    announcement_in_june, blocks_of_a_window, dut1_heard, feed_in_spring, phase_of_rises,
-    receivers_at_odds, two_pulses_cost, unknown_tenths_cost_nothing, walk_through_a_leap_second,
+    announcement_in_june, blocks_of_a_window, dut1_costs, dut1_heard, feed_in_spring,
+    phase_of_rises, receivers_at_odds, stations_are_summed, two_pulses_cost,
+    unknown_tenths_cost_nothing, walk_through_a_leap_second,
 };
 pub use jjy::JjyFacts;
 pub use known::{
