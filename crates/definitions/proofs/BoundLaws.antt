@@ -1,25 +1,23 @@
 -- A bound is one, and no legal sequence of its block costs less.
-use Rattle.std.proofs.Common.{◌≡◌, ℕ, zero, suc, ◌+◌, ◌*◌, ◌/◌, ◌%◌, ◌^◌, ◌<◌, ◌≤◌, ◌⊎◌, inl, inr, Bool, true, false, ◌==◌, ◌&&◌, nat_lt, if◌then◌else◌, List, [], ◌∷◌, length, map, filter, fold, sum_by, min, ℤ, Option, Some, None, unwrap_or, refl, sym, ap, ◌∙◌, subst, arith}
-use Rattle.std.proofs.lemmas.Bool.{cases_order, ltb-true}
+use Rattle.std.proofs.Common.{◌≡◌, ℕ, zero, suc, ◌+◌, ◌<◌, ◌≤◌, Bool, true, false, ◌&&◌, nat_lt, if◌then◌else◌, List, [], ◌∷◌, length, map, filter, fold, sum_by, min, ℤ, Option, Some, None, unwrap_or, refl, sym, ap, ◌∙◌, subst, arith}
+use Rattle.std.proofs.lemmas.Bool.{ltb-true}
 use Rattle.signal_base.specs.declared.station.Station.{Station}
 use Rattle.signal_base.specs.declared.station.Station.TheVariants.{Dcf77, Msf, Wwvb, Jjy}
 use Rattle.signal_base.specs.declared.window.Window.{Window}
-use Rattle.signal_base.specs.Mask.{has_bit}
 use Rattle.definitions.specs.declared.sequence.Sequence.{Sequence}
 use Rattle.definitions.specs.declared.block.Block.{Block}
 use Rattle.definitions.specs.declared.block.Span.{Span}
 use Rattle.definitions.specs.declared.block.Span.TheVariants.{Year, Day, Hour, Minute}
 use Rattle.definitions.specs.Calendar.{minute_length, is_leap_end}
-use Rattle.definitions.specs.Vocabulary.{free}
-use Rattle.definitions.specs.Allowed.{allowed, is_heard, stations_of, IsSetOf}
-use Rattle.definitions.specs.Walks.{index_of, key_of, next_place, place_at, set_at, IsLegal, IsWalkable}
+use Rattle.definitions.specs.Allowed.{is_heard, stations_of}
+use Rattle.definitions.specs.Walks.{index_of, key_of, place_at, set_at, IsLegal, IsWalkable}
 use Rattle.definitions.specs.Dut1.{has_dut1, is_dut1_second, dut1_values, dut1_symbol}
 use Rattle.definitions.specs.Costs.{Costs, total_below, least, set_cost, lies_in_one_day, untied_cost, dut1_cost, least_dut1_cost, station_cost, sequence_cost}
-use Rattle.definitions.specs.Blocks.{IsBlock, IsIn, IsUnion, MayCarry, first_of, union_cost, IsUnionBound, IsMinuteBound, IsBound, IsBoundBy, block_key, span_end}
+use Rattle.definitions.specs.Blocks.{IsBlock, IsIn, IsUnion, first_of, union_cost, IsUnionBound, IsMinuteBound, IsBound, IsBoundBy, block_key, span_end}
 use Rattle.definitions.proofs.KeyLaws.{same_sequence}
 use Rattle.definitions.proofs.SetLaws.{sent}
 use Rattle.definitions.proofs.Dut1Laws.{dut1_sets, dut1_bit}
-use Rattle.definitions.proofs.UnionLaws.{IsWithin, within_le, wider_costs_no_more, free_costs_no_more}
+use Rattle.definitions.proofs.UnionLaws.{within_le, wider_costs_no_more, free_costs_no_more}
 
 -- sums of terms that are no greater
 total_le : (n : ℕ) (f g : ℕ → ℕ) → ((k : ℕ) → k < n → f k ≤ g k) → total_below n f ≤ total_below n g

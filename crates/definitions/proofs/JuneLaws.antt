@@ -1,15 +1,14 @@
 -- The first minute of June 2000, and whether a leap second that it announces can be told.
-use Rattle.std.proofs.Common.{◌≡◌, ◌≢◌, ℕ, zero, suc, ◌+◌, ◌<◌, ◌≤◌, ◌⊎◌, inl, inr, Bool, true, false, nat_lt, refl, sym, ap, ◌∙◌, subst, arith}
+use Rattle.std.proofs.Common.{◌≡◌, ◌≢◌, ℕ, zero, suc, ◌+◌, ◌<◌, inl, inr, Bool, true, false, refl, sym, ap, ◌∙◌, arith}
 use Rattle.std.proofs.lemmas.Bool.{lt-ltb}
 use Rattle.signal_base.specs.declared.station.Station.{Station}
 use Rattle.signal_base.specs.declared.station.Station.TheVariants.{Dcf77, Msf, Wwvb, Jjy}
-use Rattle.definitions.specs.declared.sequence.Sequence.{Sequence}
 use Rattle.definitions.specs.declared.dcf77.DcfFacts.{DcfFacts}
-use Rattle.definitions.specs.Calendar.{century_minutes, day_at, minute_length}
+use Rattle.definitions.specs.Calendar.{day_at, minute_length}
 use Rattle.definitions.specs.Summer.{season_at, eu_change_within}
 use Rattle.definitions.specs.Allowed.{allowed, dcf_facts, encoded_year, is_heard}
 use Rattle.definitions.specs.Dcf77.{dcf_second}
-use Rattle.definitions.specs.Walks.{place_at, next_place, set_at, unannounced, IsWalkable, IsLegal, ShowsLeap}
+use Rattle.definitions.specs.Walks.{place_at, next_place, set_at, unannounced, IsWalkable, IsLegal}
 use Rattle.definitions.specs.Heard.{minute_window, june_announced}
 
 short : (b : Bool) → minute_length b 218880 ≡ 60

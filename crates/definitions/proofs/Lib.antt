@@ -8,9 +8,12 @@ pub mod ParityLaws
 pub mod WaveLaws
 pub mod ListingLaws
 pub mod SetLaws
+pub mod CenturyLaws
 pub mod SeasonLaws
 pub mod PhaseLaws
 pub mod Dut1Laws
 pub mod JuneLaws
 pub mod UnionLaws
 pub mod BoundLaws
+pub mod SpanLaws
+pub mod BlockLaws

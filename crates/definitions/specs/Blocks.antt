@@ -1,5 +1,5 @@
 -- Blocks of sequences that a search treats as one: the items, their children, and the least that each can cost.
-use Rattle.std.specs.Prelude.{ℕ, zero, suc, ◌+◌, ◌-◌, ◌*◌, ◌/◌, ◌^◌, ◌≡◌, ◌<◌, ◌≤◌, Bool, true, false, nat_lt, if◌then◌else◌, min, List, [], ◌∷◌, ◌++◌, sum_by, Option, Some, None}
+use Rattle.std.specs.Prelude.{ℕ, zero, suc, ◌+◌, ◌-◌, ◌*◌, ◌/◌, ◌^◌, ◌≡◌, ◌⊎◌, ◌<◌, ◌≤◌, Bool, true, false, nat_lt, if◌then◌else◌, min, List, [], ◌∷◌, ◌++◌, sum_by, Option, Some, None}
 use Rattle.std.specs.List.{range_with_len, flat_map}
 use Rattle.signal_base.specs.declared.station.Station.{Station}
 use Rattle.signal_base.specs.declared.window.Window.{Window}
@@ -66,6 +66,15 @@ pub record IsIn (b : Block) (q : Sequence) : Type 0 where
   pub second : q.second ≡ b.second
   pub not_before : b.lo ≤ q.first
   pub before_end : q.first < b.hi
+
+-- the sequence is in none of some blocks, or in exactly one
+abbrev pub IsInNone : List Block → Sequence → Type 0
+IsInNone [] q = Unit {0}
+IsInNone (b ∷ bs) q = ¬ (IsIn b q) × IsInNone bs q
+
+abbrev pub IsInOne : List Block → Sequence → Type 0
+IsInOne [] q = ⊥
+IsInOne (b ∷ bs) q = (IsIn b q × IsInNone bs q) ⊎ (¬ (IsIn b q) × IsInOne bs q)
 
 -- the first sequence of a block
 abbrev pub first_of : Block → Sequence

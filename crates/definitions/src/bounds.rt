@@ -1,13 +1,16 @@
 //! What follows from the definitions of blocks and bounds.
 
-ghost use Rattle.std.specs.Prelude.{ℕ, ◌≡◌, ◌≤◌, Option, Some, None};
+ghost use Rattle.std.specs.Prelude.{ℕ, ◌≡◌, ◌≢◌, ◌<◌, ◌≤◌, if◌then◌else◌, Option, Some, None};
+ghost use Rattle.std.specs.List.{AllByRecursion};
 ghost use Rattle.signal_base.specs.declared.station.Station.{Station};
 ghost use Rattle.signal_base.specs.declared.window.Window.{Window};
 ghost use Rattle.definitions.specs.declared.block.Block.{Block};
+ghost use Rattle.definitions.specs.declared.block.Span.TheVariants.{Minute};
 ghost use Rattle.definitions.specs.declared.sequence.Sequence.{Sequence};
+ghost use Rattle.definitions.specs.Calendar.{century_minutes};
 ghost use Rattle.definitions.specs.Walks.{IsLegal, key_of};
 ghost use Rattle.definitions.specs.Costs.{Costs, sequence_cost};
-ghost use Rattle.definitions.specs.Blocks.{IsBlock, IsBound, IsIn, IsUnion, block_key};
+ghost use Rattle.definitions.specs.Blocks.{IsBlock, IsBound, IsIn, IsInOne, IsUnion, block_key, children, items};
 
 /// There is at most one union of a block's sets, and at most one bound.
 pub fn bound_is_one()
@@ -21,4 +24,18 @@ pub fn bound_is_not_above()
         → IsIn b q → IsLegal window q → block_key n b ≤ key_of (sequence_cost costs window q) q }
     ensures none { (costs : Costs) (window : Window) (b : Block) (q : Sequence) → IsBlock window b → IsBound costs window b None
         → IsIn b q → ¬ (IsLegal window q) }
+{}
+
+/// The items of a window are blocks of it, and each sequence that can begin in it is in exactly one of them.
+pub fn items_share_the_sequences()
+    ensures blocks { (window : Window) → window.to ≤ century_minutes → AllByRecursion (IsBlock window) (items window) }
+    ensures one { (window : Window) (q : Sequence) → window.to ≤ century_minutes → window.from ≤ q.first → q.first < window.to
+        → q.second < (if q.announced then 61 else 60) → IsInOne (items window) q }
+{}
+
+/// The children of a block are blocks of its window, and each sequence of it, but of a minute, is in exactly one of them.
+pub fn children_share_the_sequences()
+    ensures blocks { (window : Window) (b : Block) → window.to ≤ century_minutes → IsBlock window b → AllByRecursion (IsBlock window) (children b) }
+    ensures one { (window : Window) (b : Block) (q : Sequence) → window.to ≤ century_minutes → IsBlock window b → b.span ≢ Minute
+        → IsIn b q → IsInOne (children b) q }
 {}

@@ -24,7 +24,9 @@ mod zone;
 
 pub use answer::Answer;
 pub use block::{Block, Span};
-pub use bounds::{bound_is_not_above, bound_is_one};
+pub use bounds::{
+    bound_is_not_above, bound_is_one, children_share_the_sequences, items_share_the_sequences,
+};
 pub use day::Day;
 pub use dcf77::DcfFacts;
 pub use examples::{
