@@ -39,7 +39,7 @@ or_false true = refl
 or_false false = refl
 
 -- in the minutes of a day after t only c can bring a change
-pub change_by_day : (t c n : ℕ) → IsNextOneOclock t c → n ≤ minutes_per_day → (nat_le c (t + n) && is_eu_change_day (day_at (c / minutes_per_day))) ≡ eu_change_within t n
+change_by_day : (t c n : ℕ) → IsNextOneOclock t c → n ≤ minutes_per_day → (nat_le c (t + n) && is_eu_change_day (day_at (c / minutes_per_day))) ≡ eu_change_within t n
 unfolding eu_change_within
 change_by_day t c zero next few = rw (lt-leb c (t + 0) (omega (arith, next.after))) refl
 change_by_day t c (suc n) next few = by_minute (t + suc n == c) refl (change_by_day t c n next (omega arith))
@@ -56,3 +56,11 @@ change_by_day t c (suc n) next few = by_minute (t + suc n == c) refl (change_by_
     by_minute false e before =
         let other : ((t + suc n) % minutes_per_day == 60) ≡ false = ne_eqb _ _ (λ h. eqb-false _ _ e (is_c t c n next (omega arith) h)) in
         rw (same_order c (t + suc n) (t + n) (add-suc t n) e, other) before
+
+-- where c is among these minutes
+pub change_in_time : (t c n : ℕ) → IsNextOneOclock t c → n ≤ minutes_per_day → c ≤ t + n → is_eu_change_day (day_at (c / minutes_per_day)) ≡ eu_change_within t n
+change_in_time t c n next few soon = rw (le-leb c (t + n) soon) at (change_by_day t c n next few)
+
+-- and where it isn't
+pub change_too_late : (t c n : ℕ) → IsNextOneOclock t c → n ≤ minutes_per_day → t + n < c → nat_le c (t + n) ≡ eu_change_within t n
+change_too_late t c n next few late = rw (lt-leb c (t + n) late) (rw (lt-leb c (t + n) late) at (change_by_day t c n next few))

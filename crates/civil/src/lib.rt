@@ -129,6 +129,7 @@ impl Civil {
 
     /// Whether European summer time begins or ends in the `minutes` minutes after `t`: at a minute that is later than `t`
     /// and at most `t + minutes`. `t` is below 52,596,000, `minutes` at most the 1440 of a day.
+    #[tactic(auto, using(crate::proofs::Seasons::change_in_time, crate::proofs::Seasons::change_too_late))]
     pub fn eu_change_within(&self, t: u32, minutes: u32) -> bool
         requires t { t < century_minutes }
         requires minutes { minutes ≤ 1440 }
