@@ -11,7 +11,8 @@ use Rattle.jiff_core.proofs.SignedLemmas.{signed_arith}
 use Rattle.jiff_core.proofs.CalendarLemmas.{days_in_month_bounds, days_in_year_bounds, day_of_year_bound, days_of_months-zero, days_of_months_more, weekday_number-add}
 use Rattle.jiff_core.proofs.DateLemmas.{epoch_day_injective, epoch_day-lt-max, days_from_civil-day, days_from_civil-next_month, days_from_civil-next_year}
 use Rattle.definitions.specs.declared.day.Day.{Day}
-use Rattle.civil.specs.Days.{IsPlausible, AreDays}
+use Rattle.civil.specs.declared.days.Entry.{Entry}
+use Rattle.civil.specs.Days.{IsPlausible, AreEntries, entry_at, first_entry}
 use Rattle.civil.specs.Dated.{IsOn}
 use Rattle.definitions.specs.Calendar.{day_at, next_day, first_day, month_length, next_weekday}
 
@@ -182,12 +183,17 @@ pub before_last : (date : Date) (d : Day) → IsOn date d → d.year ≤ 9998 �
 before_last date d on early =
     epoch_day-lt-max date (λ last. let same : pos d.year ≡ pos 9999 = sym on.year ∙ last.0 in let bad : d.year ≡ 9999 = cc in absurd (omega arith))
 
+-- the entry of these parts
+pub by_parts : (d d' : Day) (a a' b b' : Bool) → d ≡ d' → a ≡ a' → b ≡ b'
+    → ◌≡◌ {A = Entry} (record { day = d; eu_summer = a; us_summer = b }) (record { day = d'; eu_summer = a'; us_summer = b' })
+by_parts d d' a a' b b' x y z = cc
+
 -- one more day of the table
-pub days_more : (days : List Day) (n : ℕ) → length days ≡ n → AreDays days n → (d : Day) → d ≡ day_at n → AreDays (days ++ d ∷ []) (n + 1)
-days_more days n long each d is =
-    below_more (λ k. get_or (days ++ d ∷ []) k first_day ≡ day_at k) n
-    (λ k h. get_or-append days (d ∷ []) first_day k (omega arith) ∙ each k h)
-    (get_or_push days d first_day n long ∙ is)
+pub entries_more : (entries : List Entry) (n : ℕ) → length entries ≡ n → AreEntries entries n → (e : Entry) → e ≡ entry_at n → AreEntries (entries ++ e ∷ []) (n + 1)
+entries_more entries n long each e is =
+    below_more (λ k. get_or (entries ++ e ∷ []) k first_entry ≡ entry_at k) n
+    (λ k h. get_or-append entries (e ∷ []) first_entry k (omega arith) ∙ each k h)
+    (get_or_push entries e first_entry n long ∙ is)
 
 by_fields : (y m d w n y' m' d' w' n' : ℕ) → y ≡ y' → m ≡ m' → d ≡ d' → w ≡ w' → n ≡ n'
     → ◌≡◌ {A = Day} (record { year = y; month = m; day = d; weekday = w; day_of_year = n }) (record { year = y'; month = m'; day = d'; weekday = w'; day_of_year = n' })

@@ -1,16 +1,26 @@
 -- The table of days.
-use Rattle.std.specs.Prelude.{ℕ, ◌≡◌, ◌<◌, ◌≤◌, List, slice_index_or}
+use Rattle.std.specs.Prelude.{ℕ, ◌≡◌, ◌<◌, ◌≤◌, List, false, slice_index_or}
 use Rattle.definitions.specs.declared.day.Day.{Day}
 use Rattle.definitions.specs.declared.fields.Fields.{Fields}
 use Rattle.definitions.specs.Calendar.{day_at, first_day}
+use Rattle.definitions.specs.Summer.{eu_season}
+use Rattle.civil.specs.declared.days.Entry.{Entry}
+use Rattle.civil.specs.Seasons.{us_season}
 
 -- the days from 2000-01-01 to 2100-01-01
 abbrev pub table_days : ℕ
 table_days = 36526
 
--- the first n days in order
-abbrev pub AreDays : List Day → ℕ → Type 0
-AreDays days n = (k : ℕ) → k < n → slice_index_or days k first_day ≡ day_at k
+-- the entry of the day that comes n days after the first
+abbrev pub entry_at : ℕ → Entry
+entry_at n = record { day = day_at n; eu_summer = eu_season n; us_summer = us_season n }
+
+abbrev pub first_entry : Entry
+first_entry = record { day = first_day; eu_summer = false; us_summer = false }
+
+-- the entries of the first n days in order
+abbrev pub AreEntries : List Entry → ℕ → Type 0
+AreEntries entries n = (k : ℕ) → k < n → slice_index_or entries k first_entry ≡ entry_at k
 
 -- the numbers that the fields of a day can be
 pub record IsPlausible (d : Day) : Type 0 where

@@ -1,16 +1,20 @@
-//! The calendar of the years 2000 to 2099, from a table of days that is made with `jiff`.
+//! The calendar of the years 2000 to 2099, civil time and summer time, from a table of days that is made with `jiff`.
 #![tactic(auto)]
 
-ghost use Rattle.std.specs.Prelude.{◌≡◌, ◌+◌, ◌/◌, ◌<◌, ◌≤◌, ◌++◌, ◌∷◌, [], ℕ, pos, ◌+ℤ◌, IfOk, IfSome, IfNone, OnOk, vec_len};
-ghost use Rattle.jiff.specs.Words.{epoch_day};
-ghost use Rattle.definitions.specs.Calendar.{century_days, century_minutes, day_at, first_day, fields_on, is_leap_end, is_leap_month, local_fields, next_day, utc_fields};
-ghost use Rattle.civil.specs.Days.{AreDays, ArePlausible, IsPlausible, table_days};
-ghost use Rattle.definitions.specs.declared.day.Day.{Day};
-ghost use Rattle.civil.specs.Dated.{IsOn};
+ghost use Rattle.std.specs.Prelude.{◌≡◌, ◌/◌, ◌<◌, ◌≤◌, ℕ, IfSome, IfNone, vec_len};
+ghost use Rattle.definitions.specs.Calendar.{century_days, century_minutes, day_at, is_leap_end, is_leap_month, utc_fields};
+ghost use Rattle.definitions.specs.Summer.{eu_change_within, is_eu_summer, us_code};
+ghost use Rattle.definitions.specs.Zones.{local_fields, zone_shift};
+ghost use Rattle.civil.specs.Days.{AreEntries, ArePlausible, IsPlausible, entry_at, table_days};
+ghost use Rattle.civil.specs.Seasons.{IsNextOneOclock};
 
+mod days;
+mod summer;
+
+use crate::days::{Entry, TABLE_DAYS, table};
+use crate::summer::{is_eu_change_day, us_code_on};
 pub use definitions::{Day, Fields, Zone};
-use jiff::civil::{Date, date};
-use std::alloc::{AllocError, AllocFailed, Global};
+use std::alloc::Global;
 
 /// Why the table of days can't be made.
 #[derive(Clone, Copy, Debug, PartialEq, Eq)]
@@ -19,23 +23,24 @@ pub enum CivilFault {
     NoMemory,
 }
 
-/// The days from 2000-01-01 to 2100-01-01.
+/// The days from 2000-01-01 to 2100-01-01, and whether summer time is on as each begins.
 #[derive(Drop)]
 pub struct Civil {
-    days: Vec<Day>,
-    ghost whole: { vec_len days ≡ table_days },
-    ghost each: { AreDays days.items table_days },
+    entries: Vec<Entry>,
+    ghost whole: { vec_len entries ≡ table_days },
+    ghost each: { AreEntries entries.items table_days },
 }
 
-const TABLE_DAYS: u32 = 36_526;
-
 const MINUTES_PER_DAY: u32 = 1440;
+
+// The minute of the day at which European summer time begins and ends: 01:00 UTC.
+const ONE_OCLOCK: u32 = 60;
 
 impl Civil {
     /// Makes the table of days.
     pub fn make(alloc: Global) -> Result<Civil, CivilFault> {
         match table(alloc) {
-            Ok(days) => Ok(Civil { days }),
+            Ok(entries) => Ok(Civil { entries }),
             Err(_) => Err(CivilFault::NoMemory),
         }
     }
@@ -55,7 +60,7 @@ impl Civil {
         ensures value { result ≡ utc_fields t }
         ensures ranges { ArePlausible result }
     {
-        let day = self.day((t / MINUTES_PER_DAY) as usize);
+        let day = self.day(t / MINUTES_PER_DAY);
         Fields {
             year: day.year,
             month: day.month,
@@ -68,20 +73,20 @@ impl Civil {
     }
 
     // The day of this number.
-    fn day(&self, n: usize) -> Day
+    fn day(&self, n: u32) -> Day
         requires { n < table_days }
         ensures value { result ≡ day_at n }
         ensures ranges { IsPlausible result }
     {
-        self.entry(n)
+        self.entry(n).day
     }
 
     // The entry of the table.
-    fn entry(&self, n: usize) -> Day
+    fn entry(&self, n: u32) -> Entry
         requires { n < table_days }
-        ensures { result ≡ day_at n }
+        ensures { result ≡ entry_at n }
     {
-        self.days[n]
+        self.entries[n as usize]
     }
 
     /// The fields of a minute in a zone's time, `t` at most 52,596,000. None exactly where the local year is 2100.
@@ -90,16 +95,61 @@ impl Civil {
         ensures value { result ≡ local_fields zone t }
         ensures ranges { IfSome result ArePlausible }
     {
-        let shift = match zone {
-            Zone::Utc => 0,
-            Zone::Japan => 540,
-        };
-        let fields = self.fields(t + shift);
+        let fields = self.fields(t + self.shift(zone, t));
         if fields.year < 2100 {
             Some(fields)
         } else {
             None
         }
+    }
+
+    // By how many minutes the zone is ahead of UTC in the minute.
+    fn shift(&self, zone: Zone, t: u32) -> u32
+        requires { t ≤ century_minutes }
+        ensures value { result ≡ zone_shift zone t }
+        ensures range { result ≤ 540 }
+    {
+        match zone {
+            Zone::Utc => 0,
+            Zone::CentralEurope => if self.eu_summer(t) { 120 } else { 60 },
+            Zone::Uk => if self.eu_summer(t) { 60 } else { 0 },
+            Zone::Japan => 540,
+        }
+    }
+
+    /// Whether the minute is in European summer time, `t` at most 52,596,000.
+    pub fn eu_summer(&self, t: u32) -> bool
+        requires { t ≤ century_minutes }
+        ensures { result ≡ is_eu_summer t }
+    {
+        // Until the next 01:00 UTC it stays as it was when that day began.
+        let hour = next_one_oclock(t);
+        self.entry(hour / MINUTES_PER_DAY).eu_summer
+    }
+
+    /// Whether European summer time begins or ends in the `minutes` minutes after `t`: at a minute that is later than `t`
+    /// and at most `t + minutes`. `t` is below 52,596,000, `minutes` at most the 1440 of a day.
+    #[tactic(auto, using(crate::proofs::Seasons::change_in_time, crate::proofs::Seasons::change_too_late))]
+    pub fn eu_change_within(&self, t: u32, minutes: u32) -> bool
+        requires t { t < century_minutes }
+        requires minutes { minutes ≤ 1440 }
+        ensures { result ≡ eu_change_within t minutes }
+    {
+        let hour = next_one_oclock(t);
+        hour <= t + minutes && is_eu_change_day(self.day(hour / MINUTES_PER_DAY))
+    }
+
+    /// WWVB's two bits of summer time in the United States by the UTC day, 0 to 3, the bit of second 57 the higher (NIST
+    /// SP 432): 2 on the day on which it begins, 3 in summer time, 1 on the day on which it ends, 0 otherwise.
+    /// `t` is below 52,596,000.
+    #[tactic(auto, using(crate::proofs::Seasons::us_code_by_day))]
+    pub fn us_code(&self, t: u32) -> u8
+        requires { t < century_minutes }
+        ensures value { result ≡ us_code t }
+        ensures range { result < 4 }
+    {
+        let entry = self.entry(t / MINUTES_PER_DAY);
+        us_code_on(entry.day, entry.us_summer)
     }
 
     /// Whether the minute lies in a UTC June or December.
@@ -127,7 +177,7 @@ impl Civil {
         ensures none { IfNone result ((n : ℕ) → n < century_days → (day_at n).year ≡ year → (day_at n).month ≡ month → (day_at n).day ≡ day → ⊥) }
     {
         for n in 0..TABLE_DAYS - 1 {
-            let found = self.day(n as usize);
+            let found = self.day(n);
             if found.year == year && found.month == month && found.day == day {
                 return Some(n);
             }
@@ -136,40 +186,15 @@ impl Civil {
     }
 }
 
-// The table of days.
-fn table(alloc: Global) -> Result<Vec<Day>, AllocError>
-    ensures { IfOk result (λ days. (vec_len days ≡ table_days) × AreDays days.items table_days) }
+// The first minute after `t` that stands at 01:00 UTC, a day later at most.
+fn next_one_oclock(t: u32) -> u32
+    requires { t ≤ century_minutes }
+    ensures { IsNextOneOclock t result }
 {
-    let mut days = Vec::with_capacity(alloc, TABLE_DAYS as usize)?;
-    let mut today = date(2000, 1, 1);
-    for _ in 0..TABLE_DAYS {
-        days.push(day_of(today))?;
-        today = day_after(today);
-    }
-    Ok(days)
-}
-
-// The date's day.
-fn day_of(today: Date) -> Day
-    requires { (d : Day) × IsOn today d }
-    ensures { IsOn today result }
-{
-    Day {
-        year: today.year() as u16,
-        month: today.month() as u8,
-        day: today.day() as u8,
-        weekday: today.weekday().to_sunday_zero_offset() as u8,
-        day_of_year: today.day_of_year() as u16,
-    }
-}
-
-// The date a day later.
-fn day_after(today: Date) -> Date
-    requires { (d : Day) × IsOn today d × (d.year ≤ 9998) }
-    ensures { epoch_day result ≡ epoch_day today +ℤ pos 1 }
-{
-    match today.tomorrow() {
-        Ok(tomorrow) => tomorrow,
-        Err(_) => unreachable!(),
+    let midnight = t - t % MINUTES_PER_DAY;
+    if t % MINUTES_PER_DAY < ONE_OCLOCK {
+        midnight + ONE_OCLOCK
+    } else {
+        midnight + MINUTES_PER_DAY + ONE_OCLOCK
     }
 }

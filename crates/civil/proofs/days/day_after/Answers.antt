@@ -1,6 +1,6 @@
 use Rattle.std.proofs.Common.{◌≡◌, true, false}
 use Rattle.civil.proofs.Dates.{before_last}
-use Rattle.civil.proofs.day_after.Goals as goal
+use Rattle.civil.proofs.days.day_after.Goals as goal
 
 pub unreachable-requires : goal.unreachable-requires
 unreachable-requires c =

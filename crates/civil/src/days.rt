@@ -1,0 +1,73 @@
+//! The table of days, made with `jiff` day after day.
+
+ghost use Rattle.std.specs.Prelude.{◌≡◌, ◌≤◌, pos, ◌+ℤ◌, IfOk, vec_len};
+ghost use Rattle.jiff.specs.Words.{epoch_day};
+ghost use Rattle.definitions.specs.declared.day.Day.{Day};
+ghost use Rattle.civil.specs.Dated.{IsOn};
+ghost use Rattle.civil.specs.Days.{AreEntries, table_days};
+
+use crate::summer::{eu_season_after, us_season_after};
+use definitions::Day;
+use jiff::civil::{Date, date};
+use std::alloc::{AllocError, AllocFailed, Global};
+
+/// How many days the table has: those from 2000-01-01 to 2100-01-01.
+pub const TABLE_DAYS: u32 = 36_526;
+
+/// A day of the table.
+#[derive(Clone, Copy, Debug, PartialEq, Eq)]
+pub struct Entry {
+    /// The day.
+    pub day: Day,
+    /// Whether European summer time is on as the day begins, at 00:00 UTC.
+    pub eu_summer: bool,
+    /// Whether summer time in the United States is on as the UTC day begins.
+    pub us_summer: bool,
+}
+
+/// Makes the table.
+pub fn table(alloc: Global) -> Result<Vec<Entry>, AllocError>
+    ensures { IfOk result (λ entries. (vec_len entries ≡ table_days) × AreEntries entries.items table_days) }
+{
+    let mut entries = Vec::with_capacity(alloc, TABLE_DAYS as usize)?;
+    let mut today = date(2000, 1, 1);
+    let mut eu_summer = false;
+    let mut us_summer = false;
+    for _ in 0..TABLE_DAYS {
+        let day = day_of(today);
+        entries.push(Entry {
+            day,
+            eu_summer,
+            us_summer,
+        })?;
+        eu_summer = eu_season_after(day, eu_summer);
+        us_summer = us_season_after(day, us_summer);
+        today = day_after(today);
+    }
+    Ok(entries)
+}
+
+// The date's day.
+fn day_of(today: Date) -> Day
+    requires { (d : Day) × IsOn today d }
+    ensures { IsOn today result }
+{
+    Day {
+        year: today.year() as u16,
+        month: today.month() as u8,
+        day: today.day() as u8,
+        weekday: today.weekday().to_sunday_zero_offset() as u8,
+        day_of_year: today.day_of_year() as u16,
+    }
+}
+
+// The date a day later.
+fn day_after(today: Date) -> Date
+    requires { (d : Day) × IsOn today d × (d.year ≤ 9998) }
+    ensures { epoch_day result ≡ epoch_day today +ℤ pos 1 }
+{
+    match today.tomorrow() {
+        Ok(tomorrow) => tomorrow,
+        Err(_) => unreachable!(),
+    }
+}
