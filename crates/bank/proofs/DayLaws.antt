@@ -1,5 +1,5 @@
 -- The answer for a day.
-use Rattle.std.proofs.Common.{◌≡◌, ℕ, ◌-◌, ◌<◌, ◌≤◌, ◌⊎◌, inl, inr, Option, map, length, get_or, sym, ap, ◌∙◌, subst, arith, zero-add}
+use Rattle.std.proofs.Common.{◌≡◌, ℕ, ◌-◌, ◌<◌, ◌≤◌, ◌⊎◌, inl, inr, Option, map, length, get_or, refl, sym, ap, ◌∙◌, arith, zero-add}
 use Rattle.std.specs.List.{range_with_len}
 use Rattle.std.proofs.lemmas.Bool.{cases_order}
 use Rattle.std.proofs.lemmas.List.FromFn.{length-map-range_with_len, get_or-map-range_with_len}
@@ -9,21 +9,24 @@ use Rattle.signal_base.specs.Table.{difference_table}
 use Rattle.definitions.specs.declared.sequence.Sequence.{Sequence}
 use Rattle.definitions.specs.declared.answer.Answer.{Answer}
 use Rattle.definitions.specs.declared.answer.Answer.TheVariants.{Nothing, Decided, Undecided}
-use Rattle.definitions.specs.Calendar.{century_days, minute_length}
+use Rattle.definitions.specs.Calendar.{century_days}
 use Rattle.definitions.specs.Logs.{Records}
-use Rattle.definitions.specs.Walks.{IsSequence, key_of, set_at}
-use Rattle.definitions.specs.Costs.{slot_cost, set_cost}
+use Rattle.definitions.specs.Walks.{key_of, set_at}
+use Rattle.definitions.specs.Costs.{bank_costs, set_cost}
 use Rattle.definitions.specs.Answers.{IsAnswer}
 use Rattle.definitions.specs.Ends.{AreLeastTwo, IsKey, answer_from}
-use Rattle.definitions.specs.Owed.{IsOfDay, day_cost, day_window, receptions_of}
+use Rattle.definitions.specs.Owed.{IsOfDay, bank_of, day_cost, day_window}
+use Rattle.definitions.proofs.AnswerLaws.{of_day}
 use Rattle.definitions.proofs.CostLaws.{set_cost_same, total_below_same}
 use Rattle.definitions.proofs.EndLaws.{answer_is}
 use Rattle.symbol_cost.specs.Grid.{Grid, HasCosts, IsPriced, cost_at}
 use Rattle.texts.specs.Writing.{IsReportable}
 use Rattle.bank.specs.Plain.{IsPlain, row_cost}
 use Rattle.bank.proofs.KeyLaws.{keep_least}
+use Rattle.bank.proofs.StationLaws.{cost_of_jjy}
 
-entry_bound : (f : ℕ → ℕ) → ((n : ℕ) → f n ≤ 200) → (n : ℕ) → get_or (map f (range_with_len 0 101)) n 0 ≤ 200
+-- an entry of a table of 101, and nothing beyond it
+entry_bound : (f : ℕ → ℕ) → ((n : ℕ) → n < 101 → f n ≤ 200) → (n : ℕ) → get_or (map f (range_with_len 0 101)) n 0 ≤ 200
 entry_bound f small n =
     by_order (cases_order n 101)
   where
@@ -37,57 +40,36 @@ entry_bound f small n =
     by_order (inl same) = outside (omega arith)
     by_order (inr (inl lt)) =
         let there : get_or (map f (range_with_len 0 101)) n 0 ≡ f n = get_or-map-range_with_len f 0 101 n n 0 lt (zero-add n) in
-        omega (arith, small n)
-    by_order (inr (inr gt)) = outside (omega arith)
-
-entry_bound_high : (n : ℕ) → get_or (map (λ n. n) (range_with_len 0 101)) n 0 ≤ 200
-entry_bound_high n =
-    by_order (cases_order n 101)
-  where
-    outside : 101 ≤ n → get_or (map (λ n. n) (range_with_len 0 101)) n 0 ≤ 200
-    outside le =
-        let long : length (map (λ n. n) (range_with_len 0 101)) ≤ n = omega (arith, length-map-range_with_len (λ (n : ℕ). n) 0 101) in
-        let none : get_or (map (λ n. n) (range_with_len 0 101)) n 0 ≡ 0 = get_or-eq_default (map (λ n. n) (range_with_len 0 101)) 0 long in
-        omega arith
-
-    by_order : (n ≡ 101) ⊎ ((n < 101) ⊎ (101 < n)) → get_or (map (λ n. n) (range_with_len 0 101)) n 0 ≤ 200
-    by_order (inl same) = outside (omega arith)
-    by_order (inr (inl lt)) =
-        let there : get_or (map (λ n. n) (range_with_len 0 101)) n 0 ≡ n = get_or-map-range_with_len (λ (n : ℕ). n) 0 101 n n 0 lt (zero-add n) in
-        omega arith
+        omega (arith, small n lt)
     by_order (inr (inr gt)) = outside (omega arith)
 
 -- no entry of the table is above 200
 pub priced : IsPriced difference_table
 unfolding difference_table
-priced = record { low = entry_bound (λ n. 100 - n) (λ n. omega arith); high = entry_bound_high }
-
--- a sequence of the day has the numbers of one
-pub is_sequence : (day : ℕ) → day < century_days → (q : Sequence) → IsOfDay day q → IsSequence q
-is_sequence day within q is =
-    let short : q.second < 60 = subst (λ a. q.second < minute_length a q.first) is.1 is.0.second in
-    record { first_minute = omega (arith, is.0.before_end); first_second = omega arith }
+priced = record { low = entry_bound (λ n. 100 - n) (λ n h. omega arith); high = entry_bound (λ n. n) (λ n h. omega arith) }
 
 -- a grid with the log's costs gives each sequence its cost
-pub same_cost : (day : ℕ) (log : Records) (grid : Grid) → HasCosts grid Jjy 120 (slot_cost difference_table (receptions_of log) Jjy 0)
-    → (q : Sequence) → row_cost grid.rows (day_window day) q ≡ day_cost log q
+pub same_cost : (day : ℕ) (log : Records) (grid : Grid) → HasCosts grid Jjy 120 (bank_costs difference_table (bank_of log) 0 Jjy)
+    → (q : Sequence) → row_cost grid.rows (day_window day) q ≡ day_cost day log q
 same_cost day log grid has q =
-    total_below_same 120 (λ k. set_cost Jjy (cost_at grid.rows k) (set_at q k)) (λ k. set_cost Jjy (slot_cost difference_table (receptions_of log) Jjy 0 k) (set_at q k))
-    (λ k h. set_cost_same Jjy (cost_at grid.rows k) (slot_cost difference_table (receptions_of log) Jjy 0 k) (set_at q k) (λ x s. has.each k x h s))
+    let costs = bank_costs difference_table (bank_of log) 0 in
+    total_below_same 120 (λ k. set_cost Jjy (cost_at grid.rows k) (set_at Jjy q k)) (λ k. set_cost Jjy (costs Jjy k) (set_at Jjy q k))
+    (λ k h. set_cost_same Jjy (cost_at grid.rows k) (costs Jjy k) (set_at Jjy q k) (λ x s. has.each k x h s))
+    ∙ sym (cost_of_jjy costs (day_window day) q refl)
 
 -- the first two keys by the grid give the answer for the log
-pub day_answer : (day : ℕ) → day < century_days → (log : Records) (grid : Grid) → HasCosts grid Jjy 120 (slot_cost difference_table (receptions_of log) Jjy 0)
+pub day_answer : (day : ℕ) → day < century_days → (log : Records) (grid : Grid) → HasCosts grid Jjy 120 (bank_costs difference_table (bank_of log) 0 Jjy)
     → (first second : Option ℕ) → AreLeastTwo (IsKey (IsPlain (day_window day)) (row_cost grid.rows (day_window day))) first second
-    → IsAnswer (IsOfDay day) (day_cost log) (answer_from first second)
+    → IsAnswer (IsOfDay day) (day_cost day log) (answer_from first second)
 day_answer day within log grid has first second least =
     let P = λ (k : ℕ). IsKey (IsPlain (day_window day)) (row_cost grid.rows (day_window day)) k in
-    let Q = λ (k : ℕ). IsKey (IsOfDay day) (day_cost log) k in
+    let Q = λ (k : ℕ). IsKey (IsOfDay day) (day_cost day log) k in
     let more = λ (k : ℕ) (h : P k). let there : Q k = (h.0, h.1, sym (ap (λ c. key_of c h.0) (same_cost day log grid has h.0)) ∙ h.2) in there in
     let less = λ (k : ℕ) (h : Q k). let there : P k = (h.0, h.1, ap (λ c. key_of c h.0) (same_cost day log grid has h.0) ∙ h.2) in there in
-    answer_is (IsOfDay day) (day_cost log) (is_sequence day within) first second (keep_least P Q more less first second least)
+    answer_is (IsOfDay day) (day_cost day log) (λ q is. of_day day q within is) first second (keep_least P Q more less first second least)
 
 -- its sequences can be shown
 pub reportable : (day : ℕ) → day < century_days → (cost : Sequence → ℕ) (answer : Answer) → IsAnswer (IsOfDay day) cost answer → IsReportable (day_window day) answer
 reportable day within cost Nothing is = tt
-reportable day within cost (Decided c q next) is = (omega arith, is_sequence day within q is.0.is_admitted, is.0.is_admitted.0)
-reportable day within cost (Undecided c q r) is = (is_sequence day within q is.0.are_admitted.0, is_sequence day within r is.0.are_admitted.1)
+reportable day within cost (Decided c q next) is = (omega arith, of_day day q within is.0.is_admitted, is.0.is_admitted.0)
+reportable day within cost (Undecided c q r) is = (of_day day q within is.0.are_admitted.0, of_day day r within is.0.are_admitted.1)

@@ -9,7 +9,7 @@ use Rattle.pulse_log.specs.declared.fault.LogFault.{LogFault}
 use Rattle.pulse_log.specs.declared.fault.LogFault.TheVariants.{Shape, NotRising, TooManyRecords}
 use Rattle.pulse_log.specs.declared.fault.LogFault.TheVariants as faults
 use Rattle.pulse_log.specs.Reading.{IsFaultOf}
-use Rattle.definitions.specs.Texts.{usage_line}
+use Rattle.definitions.specs.Refusals.{usage_line}
 use Rattle.bank.specs.declared.stop.Stop.{Stop}
 use Rattle.bank.specs.declared.stop.Stop.TheVariants.{Failed, NoMemory}
 use Rattle.bank.specs.RunEnds.{EndsWith, EndsForLog, EndsForWords, IsOneOf, IsOwedFor}

@@ -1,3 +1,4 @@
+pub mod StationLaws
 pub mod SearchLaws
 pub mod KeyLaws
 pub mod WordLaws

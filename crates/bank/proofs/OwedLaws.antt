@@ -4,7 +4,8 @@ use Rattle.definitions.specs.declared.answer.Answer.{Answer}
 use Rattle.definitions.specs.Calendar.{century_days}
 use Rattle.definitions.specs.Logs.{Records}
 use Rattle.definitions.specs.Lines.{LineFault}
-use Rattle.definitions.specs.Texts.{report, log_fault_line}
+use Rattle.definitions.specs.Texts.{report}
+use Rattle.definitions.specs.Refusals.{log_fault_line}
 use Rattle.definitions.specs.Owed.{Owes, Bad_words, Decodes, OwesForLog, Too_large, Refused, Answered, IsDayAnswer, day_window, no_duts, status_of, receiver_name}
 use Rattle.definitions.proofs.AnswerLaws.{day_answer_is_one}
 use Rattle.definitions.proofs.DateLaws.{words_are_one}

@@ -6,39 +6,40 @@ use Rattle.std.proofs.lemmas.List.{get_or_push}
 use Rattle.definitions.specs.Costs.{total_below}
 use Rattle.definitions.proofs.CostLaws.{total_below_none}
 use Rattle.std.proofs.lemmas.List.FromFn.{get_or-map-range_with_len}
-use Rattle.definitions.specs.declared.zone.Zone.TheVariants.{Japan}
-use Rattle.definitions.specs.Calendar.{century_minutes, zone_fields}
-use Rattle.definitions.specs.Allowed.{IsSent, jjy_allowed, jjy_facts}
-use Rattle.definitions.specs.Jjy.{jjy_second}
-use Rattle.definitions.specs.Walks.{place_at, set_at}
+use Rattle.signal_base.specs.declared.station.Station.TheVariants.{Jjy}
+use Rattle.definitions.specs.Calendar.{century_minutes}
+use Rattle.definitions.specs.Allowed.{IsSent, allowed, encoded_year}
+use Rattle.definitions.specs.Walks.{place_at}
 use Rattle.definitions.proofs.PlaceLaws.{place_at-plain}
-use Rattle.bank.specs.Plain.{AreSets, plain, sent_sets}
+use Rattle.bank.specs.Plain.{AreSets, jjy_alone, plain, sent_sets}
+use Rattle.bank.proofs.StationLaws.{sent_by_jjy, encoded_by_jjy}
 
 -- what a second of a minute carries, as the search looks it up
 abbrev pub looked_up : ℕ → ℕ → Option ℕ
 looked_up m s = option_map (λ sets. slice_index sets s) (sent_sets m)
 
--- it is what the minute sends there
-pub set_cases : (m s : ℕ) → s < 61 → MatchOption (looked_up m s) (¬ (IsSent m)) (λ set. IsSent m × (set ≡ jjy_allowed false (m, s)))
+-- it is what a second carries where its minute is sent
+abbrev pub IsLookedUp : ℕ × ℕ → Option ℕ → Type 0
+IsLookedUp place found = MatchOption found (¬ (IsSent jjy_alone place.0)) (λ set. IsSent jjy_alone place.0 × (set ≡ allowed Jjy false place))
+
+pub set_cases : (m s : ℕ) → s < 61 → IsLookedUp (m, s) (looked_up m s)
 set_cases m s within = by_century _ refl
   where
-    by_year : m < century_minutes → nat_lt m century_minutes ≡ true → (b : Bool) → nat_lt (zone_fields Japan m).year 2100 ≡ b
-        → MatchOption (looked_up m s) (¬ (IsSent m)) (λ set. IsSent m × (set ≡ jjy_allowed false (m, s)))
+    by_year : m < century_minutes → nat_lt m century_minutes ≡ true → (b : Bool) → nat_lt (encoded_year Jjy m) 2100 ≡ b → IsLookedUp (m, s) (looked_up m s)
     by_year early c true e =
         let year = ltb-true _ _ e in
-        rw (c, e) ((early, omega arith), get_or-map-range_with_len (jjy_second (jjy_facts false m)) 0 61 s s 0 within (zero-add s))
-    by_year early c false e = let late = ltb-false _ _ e in rw (c, e) (λ sent. omega (arith, sent.1))
+        rw (c, e) (sent_by_jjy m early (omega arith), get_or-map-range_with_len (λ (s : ℕ). allowed Jjy false (m, s)) 0 61 s s 0 within (zero-add s))
+    by_year early c false e = let late = ltb-false _ _ e in rw (c, e) (λ sent. omega (arith, encoded_by_jjy m sent))
 
-    by_century : (b : Bool) → nat_lt m century_minutes ≡ b → MatchOption (looked_up m s) (¬ (IsSent m)) (λ set. IsSent m × (set ≡ jjy_allowed false (m, s)))
+    by_century : (b : Bool) → nat_lt m century_minutes ≡ b → IsLookedUp (m, s) (looked_up m s)
     by_century true c = by_year (ltb-true _ _ c) c _ refl
     by_century false c = let late = ltb-false _ _ c in rw c (λ sent. omega (arith, sent.0))
 
 -- the same of the place of a sequence that isn't announced
-pub place_cases : (t p k : ℕ) → p < 60 → MatchOption (looked_up (t + (p + k) / 60) ((p + k) % 60)) (¬ (IsSent (place_at (plain t p) k).0))
-    (λ set. IsSent (place_at (plain t p) k).0 × (set ≡ set_at (plain t p) k))
+pub place_cases : (t p k : ℕ) → p < 60 → IsLookedUp (place_at (plain t p) k) (looked_up (t + (p + k) / 60) ((p + k) % 60))
 place_cases t p k small =
-    let P = λ (place : ℕ × ℕ). MatchOption (looked_up (t + (p + k) / 60) ((p + k) % 60)) (¬ (IsSent place.0)) (λ set. IsSent place.0 × (set ≡ jjy_allowed false place)) in
-    subst P (sym (place_at-plain (plain t p) k refl small)) (set_cases (t + (p + k) / 60) ((p + k) % 60) (omega arith))
+    subst (λ place. IsLookedUp place (looked_up (t + (p + k) / 60) ((p + k) % 60))) (sym (place_at-plain (plain t p) k refl small))
+    (set_cases (t + (p + k) / 60) ((p + k) % 60) (omega arith))
 
 -- one more minute
 pub sets_more : (minutes : List (Option (List ℕ))) (from i : ℕ) (sets : Option (List ℕ)) → length minutes ≡ i → AreSets minutes from → sets ≡ sent_sets (from + i)

@@ -1,12 +1,18 @@
 -- The sequences that aren't announced, and those of them that the search has seen.
 use Rattle.std.specs.Prelude.{ℕ, ◌≡◌, ◌<◌, ◌⊎◌, false, nat_lt, if◌then◌else◌, ◌+◌, List, length, slice_index_or, Option, None}
+use Rattle.signal_base.specs.declared.station.Station.TheVariants.{Jjy}
+use Rattle.signal_base.specs.declared.station.Stations.{Stations}
 use Rattle.signal_base.specs.declared.window.Window.{Window}
 use Rattle.definitions.specs.declared.sequence.Sequence.{Sequence}
 use Rattle.definitions.specs.Calendar.{century_minutes}
+use Rattle.definitions.specs.Allowed.{telegram_of}
 use Rattle.definitions.specs.Walks.{IsWalkable, key_of}
-use Rattle.definitions.specs.Costs.{sequence_cost}
+use Rattle.definitions.specs.Costs.{station_cost}
 use Rattle.symbol_cost.specs.Grid.{cost_at}
-use Rattle.sequence.specs.Telegrams.{telegram_of}
+
+-- JJY and no other station
+abbrev pub jjy_alone : Stations
+jjy_alone = record { mask = 8 }
 
 -- a sequence that isn't announced
 abbrev pub plain : ℕ → ℕ → Sequence
@@ -20,17 +26,17 @@ IsPlain window q = IsWalkable window q × (q.announced ≡ false)
 abbrev pub IsBefore : ℕ → ℕ → Sequence → Type 0
 IsBefore t p q = (q.first < t) ⊎ ((q.first ≡ t) × (q.second < p))
 
--- what a sequence costs by the rows of a grid
+-- what a sequence costs JJY by the rows of a grid
 abbrev pub row_cost : List (List ℕ) → Window → Sequence → ℕ
-row_cost rows window q = sequence_cost (cost_at rows) window.seconds q
+row_cost rows window q = station_cost Jjy (cost_at rows) window.seconds q
 
 -- the key of a sequence that comes before second p of minute t
 abbrev pub IsSeen : List (List ℕ) → Window → ℕ → ℕ → ℕ → Type 0
 IsSeen rows window t p key = (q : Sequence) × IsPlain window q × IsBefore t p q × (key_of (row_cost rows window q) q ≡ key)
 
--- what the seconds of a minute may carry, or none where it isn't sent
+-- what the seconds of a minute may carry at JJY, or none where it isn't sent
 abbrev pub sent_sets : ℕ → Option (List ℕ)
-sent_sets t = if nat_lt t century_minutes then telegram_of false t else None
+sent_sets t = if nat_lt t century_minutes then telegram_of Jjy false t else None
 
 -- these are the sets of the minutes from t on
 abbrev pub AreSets : List (Option (List ℕ)) → ℕ → Type 0

@@ -1,7 +1,8 @@
 -- How a run ends, by what it answers.
 use Rattle.std.specs.Prelude.{ℕ, ◌≡◌, ◌<◌, ◌⊎◌, List, ◌++◌, codes, Result, Ok, Err}
 use Rattle.std.specs.Fmt.{decimal}
-use Rattle.definitions.specs.Texts.{line, log_text, log_fault_line}
+use Rattle.definitions.specs.Texts.{line}
+use Rattle.definitions.specs.Refusals.{log_text, log_fault_line}
 use Rattle.definitions.specs.Lines as lines
 use Rattle.pulse_log.specs.declared.fault.LogFault.{LogFault}
 use Rattle.pulse_log.specs.declared.fault.LogFault.TheVariants.{Shape, NotRising, TooManyRecords}

@@ -6,7 +6,7 @@ ghost use Rattle.definitions.specs.Calendar.{century_minutes};
 ghost use Rattle.definitions.specs.Ends.{AreLeastTwo, IsKey};
 ghost use Rattle.definitions.specs.Allowed.{IsSent};
 ghost use Rattle.definitions.specs.Walks.{IsWalkable, place_at, set_at};
-ghost use Rattle.bank.specs.Plain.{AreSets, IsPlain, IsSeen, plain, row_cost, sent_sets};
+ghost use Rattle.bank.specs.Plain.{AreSets, IsPlain, IsSeen, jjy_alone, plain, row_cost, sent_sets};
 
 use crate::found::Found;
 use civil::Civil;
@@ -25,7 +25,7 @@ const CENTURY_MINUTES: u32 = 52_596_000;
 type Sets = Option<[u8; 61]>;
 
 /// The keys of the first two of the walkable sequences of the window that aren't announced, by their costs in the
-/// grid, for JJY.
+/// grid, for a window of JJY alone.
 pub fn search(
     alloc: Global,
     civil: &Civil,
@@ -33,6 +33,7 @@ pub fn search(
     grid: &CostGrid,
 ) -> Result<Found, AllocError>
     requires station { grid.now.station ≡ Jjy }
+    requires stations { window.now.stations ≡ jjy_alone }
     requires slots { length grid.now.rows ≡ window.now.seconds }
     requires seconds { window.now.seconds ≤ 1200 }
     requires range { window.now.from < window.now.to }
@@ -77,6 +78,7 @@ fn sets_of(civil: &Civil, t: u32) -> Sets
 // Offers the sequences that begin in minute `t`.
 fn search_minute(grid: &CostGrid, minutes: &[Sets], window: &Window, t: u32, found: &mut Found)
     requires station { grid.now.station ≡ Jjy }
+    requires stations { window.now.stations ≡ jjy_alone }
     requires slots { length grid.now.rows ≡ window.now.seconds }
     requires seconds { window.now.seconds ≤ 1200 }
     requires minutes { length minutes.now ≡ window.now.to - window.now.from + 21 }
@@ -105,6 +107,7 @@ fn search_minute(grid: &CostGrid, minutes: &[Sets], window: &Window, t: u32, fou
 // What the sequence that begins in second `second` of minute `t` costs, or none where it isn't walkable.
 fn cost_from(grid: &CostGrid, minutes: &[Sets], window: &Window, t: u32, second: u8) -> Option<u32>
     requires station { grid.now.station ≡ Jjy }
+    requires stations { window.now.stations ≡ jjy_alone }
     requires slots { length grid.now.rows ≡ window.now.seconds }
     requires seconds { window.now.seconds ≤ 1200 }
     requires minutes { length minutes.now ≡ window.now.to - window.now.from + 21 }
@@ -128,6 +131,7 @@ fn cost_from(grid: &CostGrid, minutes: &[Sets], window: &Window, t: u32, second:
 
 // What slot `slot` of that sequence carries, or none where its minute isn't sent.
 fn set_in_slot(minutes: &[Sets], window: &Window, t: u32, second: u8, slot: u16) -> Option<u8>
+    requires stations { window.now.stations ≡ jjy_alone }
     requires minutes { length minutes.now ≡ window.now.to - window.now.from + 21 }
     requires sets { AreSets minutes.now window.now.from }
     requires first { window.now.from ≤ t }
@@ -135,7 +139,7 @@ fn set_in_slot(minutes: &[Sets], window: &Window, t: u32, second: u8, slot: u16)
     requires end { window.now.to ≤ century_minutes }
     requires second { second < 60 }
     requires slot { slot < 1200 }
-    ensures { MatchOption result (¬ (IsSent (place_at (plain t second) slot).0)) (λ set. IsSent (place_at (plain t second) slot).0 × (set ≡ set_at (plain t second) slot)) }
+    ensures { MatchOption result (¬ (IsSent window.now.stations (place_at (plain t second) slot).0)) (λ set. IsSent window.now.stations (place_at (plain t second) slot).0 × (set ≡ set_at Jjy (plain t second) slot)) }
 {
     let place = second as usize + slot as usize;
     let minute = (t - window.from) as usize + place / 60;

@@ -2,10 +2,8 @@
 
 ghost use Rattle.std.specs.Prelude.{◌≡◌, ◌<◌, IfSome, is_some, nat_lt};
 ghost use Rattle.signal_base.specs.declared.station.Station.TheVariants.{Jjy};
-ghost use Rattle.definitions.specs.Calendar.{century_minutes, minute_length, zone_fields};
-ghost use Rattle.definitions.specs.declared.zone.Zone.TheVariants.{Japan};
-ghost use Rattle.definitions.specs.Allowed.{jjy_facts};
-ghost use Rattle.sequence.specs.Telegrams.{telegram_of};
+ghost use Rattle.definitions.specs.Calendar.{century_minutes, minute_length};
+ghost use Rattle.definitions.specs.Allowed.{encoded_year, jjy_facts, telegram_of};
 ghost use Rattle.jjy_code.specs.Facts.{AreInRange};
 
 use civil::{Civil, Zone};
@@ -29,7 +27,7 @@ pub fn minute_length(civil: &Civil, t: u32, announced: bool) -> u8
 pub fn telegram(civil: &Civil, station: Station, t: u32, announced: bool) -> Option<[u8; 61]>
     requires century { t < century_minutes }
     requires station { station ≡ Jjy }
-    ensures { result ≡ telegram_of announced t }
+    ensures { result ≡ telegram_of station announced t }
 {
     let facts = jjy_facts(civil, t, announced)?;
     Some(jjy_code::telegram(&facts))
@@ -40,7 +38,7 @@ fn jjy_facts(civil: &Civil, t: u32, announced: bool) -> Option<JjyFacts>
     requires { t < century_minutes }
     ensures facts { IfSome result (λ f. f ≡ jjy_facts announced t) }
     ensures ranges { IfSome result AreInRange }
-    ensures encoded { is_some result ≡ nat_lt (zone_fields Japan t).year 2100 }
+    ensures encoded { is_some result ≡ nat_lt (encoded_year Jjy t) 2100 }
 {
     let local = civil.local(Zone::Japan, t)?;
     Some(JjyFacts {

@@ -3,7 +3,7 @@ use Rattle.std.specs.Prelude.{ℕ, ◌≡◌, ◌+◌, ◌<◌, List, slice_inde
 use Rattle.signal_base.specs.declared.station.Station.{Station}
 use Rattle.signal_base.specs.declared.tuning.Tuning.{Tuning}
 use Rattle.definitions.specs.Logs.{Records}
-use Rattle.definitions.specs.Costs.{Reception}
+use Rattle.definitions.specs.Receivers.{Reception}
 use Rattle.signal_base.specs.Waveform.{symbol_count}
 
 -- each symbol of the station costs so much more

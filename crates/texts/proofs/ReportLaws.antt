@@ -9,7 +9,7 @@ use Rattle.definitions.specs.declared.answer.Answer.{Answer}
 use Rattle.definitions.specs.declared.answer.Answer.TheVariants.{Decided}
 use Rattle.definitions.specs.Calendar.{minute_length, is_leap_end}
 use Rattle.definitions.specs.Walks.{place_at, next_place}
-use Rattle.definitions.specs.Texts.{minute_line, minute_lines, report, report_head, report_minutes}
+use Rattle.definitions.specs.Texts.{at_minute, at_minutes, minute_line, report, report_head, report_minutes}
 use Rattle.bank_files.specs.Told.{Told}
 use Rattle.texts.specs.Writing.{Writes}
 use Rattle.texts.proofs.WritingLaws.{Writes-then, Writes-failed}
@@ -26,39 +26,41 @@ next_second announced place small = by_room _ refl
     by_room true e = rw e (omega (arith, ltb-true _ _ e, short (announced && is_leap_end place.0)))
     by_room false e = rw e (omega arith)
 
--- the lines of the first slots begin those of more slots
-lines_begin : (w : Window) (q : Sequence) (k n : ℕ) → (rest : List ℕ) × (minute_lines w q (k + n) ≡ minute_lines w q k ++ rest)
-unfolding minute_lines
-lines_begin w q k zero = ([], rw add-zero (sym (append-nil _)))
-lines_begin w q k (suc n) =
-    let before = lines_begin w q k n in (
-      before.0 ++ minute_line w (place_at q (k + n)) (k + n),
-      rw add-suc (ap (λ t. t ++ minute_line w (place_at q (k + n)) (k + n)) before.1 ∙ append_assoc (minute_lines w q k) before.0 (minute_line w (place_at q (k + n)) (k + n))),
-    )
+-- the texts of the first slots begin those of more slots
+lines_begin : (text : ℕ → ℕ → List ℕ) (q : Sequence) (k n : ℕ) → (rest : List ℕ) × (at_minutes text q (k + n) ≡ at_minutes text q k ++ rest)
+unfolding at_minutes
+lines_begin text q k zero = ([], rw add-zero (sym (append-nil _)))
+lines_begin text q k (suc n) =
+    let before = lines_begin text q k n in
+    let here = at_minute text (place_at q (k + n)) (k + n) in
+    (before.0 ++ here, rw add-suc (ap (λ t. t ++ here) before.1 ∙ append_assoc (at_minutes text q k) before.0 here))
 
-module _ {F E : Type 0} (told : F → List ℕ → Told) (reads writes : F → List ℕ → ℕ) (a b c : F) (w : Window) where
+module _ {F E : Type 0} (told : F → List ℕ → Told) (reads writes : F → List ℕ → ℕ) (a b c : F) where
   -- one more slot
-  pub minutes_more : (q : Sequence) (k : ℕ) (place : ℕ × ℕ) (r : Result (Unit {0}) E) → place ≡ place_at q k → Writes {E = E} told reads writes a b (minute_lines w q k) (Ok tt)
-      → Writes told reads writes b c (minute_line w place k) r → Writes told reads writes a c (minute_lines w q (k + 1)) r
-  unfolding minute_lines
-  minutes_more q k place r is before more =
-      rw add-one (Writes-then told reads writes a b c (minute_lines w q k) (minute_line w (place_at q k) k) r before
-      (subst (λ (p : ℕ × ℕ). Writes told reads writes b c (minute_line w p k) r) is more))
+  pub minutes_more : (text : ℕ → ℕ → List ℕ) (q : Sequence) (k : ℕ) (place : ℕ × ℕ) (r : Result (Unit {0}) E) → place ≡ place_at q k
+      → Writes {E = E} told reads writes a b (at_minutes text q k) (Ok tt)
+      → Writes told reads writes b c (at_minute text place k) r → Writes told reads writes a c (at_minutes text q (k + 1)) r
+  unfolding at_minutes
+  minutes_more text q k place r is before more =
+      rw add-one (Writes-then told reads writes a b c (at_minutes text q k) (at_minute text (place_at q k) k) r before
+      (subst (λ (p : ℕ × ℕ). Writes told reads writes b c (at_minute text p k) r) is more))
 
-  -- a slot's line that can't be written
-  pub minutes_failed : (q : Sequence) (k n : ℕ) (place : ℕ × ℕ) (e : E) → k < n → place ≡ place_at q k → Writes {E = E} told reads writes a b (minute_lines w q k) (Ok tt)
-      → Writes told reads writes b c (minute_line w place k) (Err e) → Writes told reads writes a c (minute_lines w q n) (Err e)
-  minutes_failed q k n place e within is before more =
-      let others = lines_begin w q (k + 1) (n - (k + 1)) in
+  -- a slot's text that can't be written
+  pub minutes_failed : (text : ℕ → ℕ → List ℕ) (q : Sequence) (k n : ℕ) (place : ℕ × ℕ) (e : E) → k < n → place ≡ place_at q k
+      → Writes {E = E} told reads writes a b (at_minutes text q k) (Ok tt)
+      → Writes told reads writes b c (at_minute text place k) (Err e) → Writes told reads writes a c (at_minutes text q n) (Err e)
+  minutes_failed text q k n place e within is before more =
+      let others = lines_begin text q (k + 1) (n - (k + 1)) in
       let all : k + 1 + (n - (k + 1)) ≡ n = omega arith in
-      subst (λ t. Writes told reads writes a c t (Err e)) (sym others.1 ∙ ap (minute_lines w q) all)
-      (Writes-failed told reads writes a c (minute_lines w q (k + 1)) others.0 e (minutes_more q k place (Err e) is before more))
+      subst (λ t. Writes told reads writes a c t (Err e)) (sym others.1 ∙ ap (at_minutes text q) all)
+      (Writes-failed told reads writes a c (at_minutes text q (k + 1)) others.0 e (minutes_more text q k place (Err e) is before more))
 
   -- the head of a report, and then its minutes
-  pub report_written : (duts : List StationDut) (answer : Answer) (head : List ℕ) (cost : ℕ) (q : Sequence) (next : Option ℕ) (r : Result (Unit {0}) E)
+  pub report_written : (w : Window) (duts : List StationDut) (answer : Answer) (head : List ℕ) (cost : ℕ) (q : Sequence) (next : Option ℕ) (r : Result (Unit {0}) E)
       → answer ≡ Decided cost q next → head ≡ report_head w duts answer → Writes {E = E} told reads writes a b head (Ok tt)
-      → Writes told reads writes b c (minute_lines w q w.seconds) r → Writes told reads writes a c (report w duts answer) r
-  report_written duts answer head cost q next r is head_is one two =
+      → Writes told reads writes b c (at_minutes (minute_line w) q w.seconds) r → Writes told reads writes a c (report w duts answer) r
+  report_written w duts answer head cost q next r is head_is one two =
+      let minutes = at_minutes (minute_line w) q w.seconds in
       subst (λ t. Writes told reads writes a c t r)
-      (ap (λ t. t ++ minute_lines w q w.seconds) head_is ∙ ap (λ m. report_head w duts answer ++ m) (sym (ap (report_minutes w) is)))
-      (Writes-then told reads writes a b c head (minute_lines w q w.seconds) r one two)
+      (ap (λ t. t ++ minutes) head_is ∙ ap (λ m. report_head w duts answer ++ m) (sym (ap (report_minutes w) is)))
+      (Writes-then told reads writes a b c head minutes r one two)

@@ -3,7 +3,7 @@
 ghost use Rattle.std.specs.Prelude.{◌≡◌, ◌+◌, ◌<◌, ◌≤◌, ◌++◌, codes, length};
 ghost use Rattle.std.specs.Fmt.{decimal};
 ghost use Rattle.arrayvec.specs.ArrayString.{array_string_len};
-ghost use Rattle.definitions.specs.Texts.{dut_line, dut_lines, line, minute_line, minute_lines, minute_text, next_line, phase_line, report, report_head, sequence_line, slot_begin, station_name};
+ghost use Rattle.definitions.specs.Texts.{at_minute, at_minutes, dut_line, dut_lines, minute_line, next_line, phase_line, report, report_head, sequence_line, station_name};
 ghost use Rattle.definitions.specs.Walks.{IsSequence, IsWalkable};
 ghost use Rattle.definitions.specs.Calendar.{century_minutes};
 ghost use Rattle.texts.specs.Writing.{IsReportable, Writes};
@@ -166,7 +166,7 @@ fn write_minutes<F: Files>(
     requires start { window.now.start < 1_000_000_000_000 }
     requires sequence { IsSequence q.now }
     requires walkable { IsWalkable window.now q.now }
-    ensures { Writes F.told F.read_faults F.write_faults files.old files.new (minute_lines window.now q.now window.now.seconds) result }
+    ensures { Writes F.told F.read_faults F.write_faults files.old files.new (at_minutes (minute_line window.now) q.now window.now.seconds) result }
 {
     let mut place = (q.first, q.second);
     for slot in 0..window.seconds {
@@ -186,7 +186,7 @@ fn write_slot<F: Files>(
 ) -> Result<(), Failed>
     requires century { place.0 < century_minutes }
     requires start { window.now.start < 1_000_000_000_000 }
-    ensures { Writes F.told F.read_faults F.write_faults files.old files.new (minute_line window.now place slot) result }
+    ensures { Writes F.told F.read_faults F.write_faults files.old files.new (at_minute (minute_line window.now) place slot) result }
 {
     if place.1 != 0 {
         return Ok(());
@@ -199,7 +199,7 @@ fn write_slot<F: Files>(
 fn line_of(civil: &Civil, window: &Window, t: u32, slot: u16) -> Text
     requires century { t < century_minutes }
     requires start { window.now.start < 1_000_000_000_000 }
-    ensures { result.bytes ≡ line (codes "minute " ++ minute_text t ++ codes " at " ++ decimal (slot_begin window.now slot)) }
+    ensures { result.bytes ≡ minute_line window.now t slot }
 {
     let mut text = Text::new();
     text.push_str("minute ");

@@ -4,8 +4,8 @@ use Rattle.signal_base.specs.declared.tuning.CostTable.{CostTable}
 use Rattle.signal_base.specs.declared.station.Station.TheVariants.{Jjy}
 use Rattle.definitions.specs.declared.answer.Answer.{Answer}
 use Rattle.definitions.specs.Ends.{AreLeastTwo, IsKey}
-use Rattle.definitions.specs.Costs.{slot_cost}
-use Rattle.definitions.specs.Owed.{IsDayAnswer, day_cost, receptions_of}
+use Rattle.definitions.specs.Costs.{bank_costs}
+use Rattle.definitions.specs.Owed.{IsDayAnswer, bank_of, day_cost}
 use Rattle.symbol_cost.specs.Grid.{HasCosts, IsPriced}
 use Rattle.bank.specs.Plain.{IsPlain, row_cost}
 use Rattle.bank.proofs.DayLaws.{priced, day_answer, reportable}
@@ -19,9 +19,9 @@ returns-clause-answer c =
     let day = c.args.day in
     let grid = c.in-Ok.grid in
     let found = c.in_ok-found-in-Ok.found in
-    let has = subst (λ (t : CostTable). HasCosts grid Jjy 120 (slot_cost t (receptions_of c.args.log) Jjy 0)) c.default-table.ensures c.in-Ok.ensures in
+    let has = subst (λ (t : CostTable). HasCosts grid Jjy 120 (bank_costs t (bank_of c.args.log) 0 Jjy)) c.default-table.ensures c.in-Ok.ensures in
     let least = subst (λ (w : Window). AreLeastTwo (IsKey (IsPlain w) (row_cost grid.rows w)) found.first found.second) c.window_of-window.ensures c.in_ok-found-in-Ok.ensures in
     subst (λ (a : Answer). IsDayAnswer day c.args.log a) (sym c.answer_of.ensures) (day_answer day c.requires c.args.log grid has found.first found.second least)
 
 pub returns-clause-reportable : goal.returns-clause-reportable
-returns-clause-reportable c = reportable c.args.day c.requires (day_cost c.args.log) c.answer_of.result (returns-clause-answer c)
+returns-clause-reportable c = reportable c.args.day c.requires (day_cost c.args.day c.args.log) c.answer_of.result (returns-clause-answer c)

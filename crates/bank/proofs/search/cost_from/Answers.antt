@@ -11,7 +11,7 @@ use Rattle.bank.proofs.search.cost_from.Goals as goal
 
 pub loop-slot-init : goal.loop-slot-init
 loop-slot-init c =
-    let f = λ (k : ℕ). set_cost Jjy (cost_at c.args.grid.now.rows k) (set_at (plain c.args.t c.args.second) k) in
+    let f = λ (k : ℕ). set_cost Jjy (cost_at c.args.grid.now.rows k) (set_at Jjy (plain c.args.t c.args.second) k) in
     record { cost = sym (total_below_none f); sent = λ k h. absurd (omega arith); small = omega arith }
 
 pub loop-slot-preserved : goal.loop-slot-preserved
@@ -19,12 +19,12 @@ loop-slot-preserved c =
     let k = c.loop-slot.slot in
     let q = plain c.args.t c.args.second in
     let costs = cost_at c.args.grid.now.rows in
-    let f = λ (j : ℕ). set_cost Jjy (costs j) (set_at q j) in
+    let f = λ (j : ℕ). set_cost Jjy (costs j) (set_at Jjy q j) in
     let before = c.loop-slot.invariant in
     let here = c.in-Some.ensures in
     let price = c.cost-cost.ensures.cost ∙ ap (λ (s : Station). set_cost s (costs k) c.in-Some.set) c.requires.station ∙ ap (set_cost Jjy (costs k)) here.1 in
     record {
       cost = omega (arith, before.cost, price, total_below_more k f);
-      sent = below_more (λ j. IsSent (place_at q j).0) k before.sent here.0;
+      sent = below_more (λ j. IsSent c.args.window.now.stations (place_at q j).0) k before.sent here.0;
       small = omega (arith, c.cost-cost.ensures.bound, before.small);
     }

@@ -9,7 +9,7 @@ use Rattle.bank.proofs.search.cost_from.Given as goal
 
 abbrev pub invariant-loop-slot : goal.invariant-loop-slot
 invariant-loop-slot l = record {
-  cost : l.cost ≡ total_below l.slot (λ k. set_cost Jjy (cost_at l.grid.rows k) (set_at (plain l.t l.second) k));
-  sent : (k : ℕ) → k < l.slot → IsSent (place_at (plain l.t l.second) k).0;
+  cost : l.cost ≡ total_below l.slot (λ k. set_cost Jjy (cost_at l.grid.rows k) (set_at Jjy (plain l.t l.second) k));
+  sent : (k : ℕ) → k < l.slot → IsSent l.window.stations (place_at (plain l.t l.second) k).0;
   small : l.cost ≤ 1_600_000 * l.slot;
 }

@@ -4,7 +4,8 @@ use Rattle.std.proofs.lemmas.List.{length-take-le}
 use Rattle.signal_base.specs.Waveform.{waveform}
 use Rattle.definitions.specs.Logs.{Records}
 use Rattle.symbol_cost.specs.Rows.{heard}
-use Rattle.definitions.specs.Costs.{receptions, second_cost, slot_cost}
+use Rattle.definitions.specs.Receivers.{receptions}
+use Rattle.definitions.specs.Costs.{second_cost, slot_cost}
 use Rattle.signal_base.specs.declared.tuning.Tuning.{Tuning}
 use Rattle.symbol_cost.proofs.RowLaws.{slot_cost_more}
 use Rattle.symbol_cost.proofs.receivers.row_of.Goals as goal

@@ -1,6 +1,6 @@
 use Rattle.std.proofs.Common.{◌≡◌, ◌≤◌, Ok}
 use Rattle.definitions.specs.Walks.{place_at}
-use Rattle.definitions.specs.Texts.{minute_lines}
+use Rattle.definitions.specs.Texts.{at_minutes, minute_line}
 use Rattle.bank_files.specs.declared.files.Failed.{Failed}
 use Rattle.texts.specs.Writing.{Writes}
 use Rattle.texts.proofs.report.write_minutes.Given as goal
@@ -11,5 +11,5 @@ invariant-loop-slot g l =
     record {
       place : l.place ≡ place_at l.q l.slot;
       second : l.place.1 ≤ 60;
-      written : Writes {E = Failed} kind.told kind.read_faults kind.write_faults l.fn.files l.files (minute_lines l.window l.q l.slot) (Ok tt);
+      written : Writes {E = Failed} kind.told kind.read_faults kind.write_faults l.fn.files l.files (at_minutes (minute_line l.window) l.q l.slot) (Ok tt);
     }
