@@ -23,6 +23,5 @@ pub mod Listing
 pub mod Feed
 pub mod Refusals
 pub mod Owed
-pub mod Examples
 pub mod Known
 pub mod Heard

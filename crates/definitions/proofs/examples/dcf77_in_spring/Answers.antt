@@ -1,19 +1,14 @@
 -- DCF77 at 2024-03-31T00:59Z, the minute before summer time.
-use Rattle.std.proofs.Common.{◌≡◌, ◌+◌, ◌*◌, false, refl, ◌∙◌}
+use Rattle.std.proofs.Common.{◌+◌, ◌*◌, false, refl, ◌∙◌}
 use Rattle.definitions.specs.Calendar.{day_at}
 use Rattle.definitions.specs.Summer.{season_at, eu_change_within}
-use Rattle.definitions.specs.Allowed.{dcf_facts}
-use Rattle.definitions.specs.Examples.{dcf77_spring}
 use Rattle.definitions.proofs.ListingLaws.{dcf_listing}
 use Rattle.definitions.proofs.examples.dcf77_in_spring.Goals as goal
 
-facts : dcf_facts false (8856 * 1440 + 59) ≡ dcf77_spring
-unfolding day_at season_at eu_change_within
-facts = refl
-
 pub returns-clause-facts : goal.returns-clause-facts
-returns-clause-facts c = facts
+unfolding day_at season_at eu_change_within
+returns-clause-facts c = refl
 
 pub returns-clause-listing : goal.returns-clause-listing
-unfolding day_at
-returns-clause-listing c = dcf_listing false (8856 * 1440 + 59) dcf77_spring facts ∙ refl
+unfolding day_at season_at eu_change_within
+returns-clause-listing c = dcf_listing false (8856 * 1440 + 59) ∙ refl
