@@ -78,9 +78,7 @@ station_name Jjy = codes "jjy"
 -- whether a station sends DUT1
 abbrev pub sends_dut : Dut → Bool
 sends_dut Absent = false
-sends_dut Free = true
-sends_dut Tied = true
-sends_dut (Tenths d) = true
+sends_dut dut = true
 
 abbrev pub dut_text : Dut → List ℕ
 dut_text Absent = []
@@ -108,9 +106,8 @@ report_head window duts (Undecided c q r) =
 
 -- the minutes of a decided answer
 abbrev pub report_minutes : Window → Answer → List ℕ
-report_minutes window Nothing = []
 report_minutes window (Decided c q next) = at_minutes (minute_line window) q window.seconds
-report_minutes window (Undecided c q r) = []
+report_minutes window answer = []
 
 abbrev pub report : Window → List StationDut → Answer → List ℕ
 report window duts answer = report_head window duts answer ++ report_minutes window answer
