@@ -17,3 +17,4 @@ pub mod UnionLaws
 pub mod BoundLaws
 pub mod SpanLaws
 pub mod BlockLaws
+pub mod ExistLaws

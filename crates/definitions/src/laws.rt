@@ -33,9 +33,10 @@ pub fn answer_is_one()
         → IsDayAnswer day log a → IsDayAnswer day log b → a ≡ b }
 {}
 
-/// There is at most one answer for a window, costs and a ceiling.
-pub fn window_answer_is_one()
-    ensures { (window : Window) (costs : Costs) (ceiling : ℕ) (a b : Answer) → window.to ≤ century_minutes
+/// There is exactly one answer for a window, costs and a ceiling.
+pub fn window_has_one_answer()
+    ensures some { (window : Window) (costs : Costs) (ceiling : ℕ) → window.to ≤ century_minutes → (a : Answer) × IsWindowAnswer window costs ceiling a }
+    ensures one { (window : Window) (costs : Costs) (ceiling : ℕ) (a b : Answer) → window.to ≤ century_minutes
         → IsWindowAnswer window costs ceiling a → IsWindowAnswer window costs ceiling b → a ≡ b }
 {}
 

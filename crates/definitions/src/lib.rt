@@ -47,7 +47,7 @@ pub use known::{
 };
 pub use laws::{
     answer_is_one, days_differ, dut1_is_told_by_free_seconds, each_second_is_sent, keys_differ,
-    phase_fits_best, waveforms_differ, window_answer_is_one, words_are_one,
+    phase_fits_best, waveforms_differ, window_has_one_answer, words_are_one,
 };
 pub use level::Level;
 pub use msf::MsfFacts;
