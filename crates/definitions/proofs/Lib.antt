@@ -18,3 +18,4 @@ pub mod BoundLaws
 pub mod SpanLaws
 pub mod BlockLaws
 pub mod ExistLaws
+pub mod EdgeLaws

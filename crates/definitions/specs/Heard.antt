@@ -1,5 +1,6 @@
 -- Worked examples: small logs, what they cost, their phase, the DUT1 that they tell, and the blocks of a window.
-use Rattle.std.specs.Prelude.{ℕ, ◌-◌, ◌*◌, ◌+◌, ◌==◌, ◌&&◌, not, true, false, if◌then◌else◌, List, [], ◌∷◌, map, length}
+use Rattle.std.specs.Prelude.{ℕ, ◌-◌, ◌*◌, ◌+◌, ◌==◌, ◌&&◌, not, true, false, if◌then◌else◌, List, [], ◌∷◌, ◌++◌, map, length}
+use Rattle.std.specs.List.{flat_map}
 use Rattle.signal_base.specs.declared.station.Station.{Station}
 use Rattle.signal_base.specs.declared.station.Station.TheVariants.{Dcf77, Msf, Wwvb, Jjy}
 use Rattle.signal_base.specs.declared.window.Window.{Window}
@@ -45,6 +46,10 @@ abbrev pub rises : ℕ → List Receiver
 rises delay =
     heard Jjy delay 1 ((0, Low) ∷ (237, High) ∷ (700, Low) ∷ (1237, High) ∷ (1500, Low) ∷ (2237, High) ∷ (4000, High) ∷ []) ∷ []
 
+-- JJY, heard to rise at these times
+abbrev pub rises_at : List ℕ → List Receiver
+rises_at times = heard Jjy 0 1 (flat_map (λ t. (t - 1, Low) ∷ (t, High) ∷ []) times ++ (9000, High) ∷ []) ∷ []
+
 -- the sequence from a second of a minute on, without a leap second
 abbrev pub from_place : ℕ → ℕ → Sequence
 from_place first second = record { first = first; second = second; announced = false }
@@ -70,6 +75,10 @@ leap_walk = map (place_at (record { first = 181 * 1440 + 1439; second = 0; annou
 abbrev pub minute_window : ℕ → Window
 minute_window mask =
     record { stations = record { mask = mask }; start = 0; phase = 0; seconds = 60; from = 0; to = century_minutes }
+
+-- a minute of DCF77 that begins in this minute
+abbrev pub last_window : ℕ → Window
+last_window t = record { stations = record { mask = 1 }; start = 0; phase = 0; seconds = 60; from = t; to = t + 1 }
 
 -- the first minute of June 2000, as it would be with a leap second at the end of the month
 abbrev pub june_announced : Sequence

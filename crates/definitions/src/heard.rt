@@ -1,6 +1,6 @@
 //! Worked examples of what receivers heard, computed from the definitions alone.
 
-ghost use Rattle.std.specs.Prelude.{◌≡◌, ◌+◌, ◌*◌, ◌-◌, ◌∷◌, ◌++◌, codes, [], pos, negsuc, true, false};
+ghost use Rattle.std.specs.Prelude.{◌≡◌, ◌+◌, ◌*◌, ◌-◌, ◌∷◌, ◌++◌, codes, [], map, pos, negsuc, true, false};
 ghost use Rattle.signal_base.specs.declared.station.Station.TheVariants.{Dcf77, Msf, Wwvb, Jjy};
 ghost use Rattle.signal_base.specs.declared.dut.Dut.TheVariants.{Absent, Free, Tied, Tenths};
 ghost use Rattle.signal_base.specs.Table.{difference_table};
@@ -10,13 +10,15 @@ ghost use Rattle.definitions.specs.Phase.{phase_of};
 ghost use Rattle.definitions.specs.Costs.{bank_costs, sequence_cost, set_cost, station_cost};
 ghost use Rattle.definitions.specs.Vocabulary.{free};
 ghost use Rattle.definitions.specs.Feed.{zda_sentence};
-ghost use Rattle.definitions.specs.Walks.{IsLegal};
-ghost use Rattle.definitions.specs.Heard.{at_odds, block_of, broken_off, costs_in, dut_heard, from_place, item_count, june_announced, leap_walk, minute_window, ones_heard, rises, two_pulses};
+ghost use Rattle.definitions.specs.Walks.{IsLegal, IsWalkable};
+ghost use Rattle.definitions.specs.Heard.{at_odds, block_of, broken_off, costs_in, dut_heard, from_place, item_count, june_announced, last_window, leap_walk, minute_window, ones_heard, rises, rises_at, two_pulses};
 
 /// A pulse that is 5 ms too short or too long costs 5, and 100 more under the other bit.
 pub fn two_pulses_cost()
     ensures zero { costs_in two_pulses Dcf77 0 (0 ∷ 1 ∷ 2 ∷ []) ≡ 5 ∷ 105 ∷ 95 ∷ [] }
     ensures one { costs_in two_pulses Dcf77 1 (0 ∷ 1 ∷ 2 ∷ []) ≡ 105 ∷ 5 ∷ 205 ∷ [] }
+    ensures later { map (bank_costs difference_table two_pulses 1000 Dcf77 0) (0 ∷ 1 ∷ 2 ∷ []) ≡ 105 ∷ 5 ∷ 205 ∷ [] }
+    ensures other { costs_in two_pulses Jjy 0 (0 ∷ 1 ∷ 2 ∷ []) ≡ 0 ∷ 0 ∷ 0 ∷ [] }
 {}
 
 /// A tenth of which a millisecond is unknown costs nothing.
@@ -34,6 +36,21 @@ pub fn receivers_at_odds()
 pub fn phase_of_rises()
     ensures plain { phase_of 0 3 (rises 0) ≡ 237 }
     ensures delayed { phase_of 0 3 (rises 237) ≡ 0 }
+{}
+
+/// Which edges a phase is of: those that fall at DCF77, and in a window of so many seconds, from its first millisecond
+/// up to, and without, the one after its last.
+pub fn edges_of_a_phase()
+    ensures falls { phase_of 0 3 two_pulses ≡ 0 }
+    ensures inside { phase_of 1000 1 (rises_at (500 ∷ 1237 ∷ 2000 ∷ 3000 ∷ [])) ≡ 237 }
+    ensures first { phase_of 1000 3 (rises_at (1000 ∷ 1500 ∷ 2000 ∷ 2500 ∷ [])) ≡ 0 }
+{}
+
+/// An edge counts for a phase where it is less than 50 ms away, on the circle of a second.
+pub fn edges_near_a_phase()
+    ensures near { phase_of 1000 3 (rises_at (1000 ∷ 2049 ∷ 3098 ∷ [])) ≡ 49 }
+    ensures not_near { phase_of 1000 3 (rises_at (1000 ∷ 2050 ∷ 3100 ∷ [])) ≡ 0 }
+    ensures round { phase_of 1000 3 (rises_at (1990 ∷ 3010 ∷ [])) ≡ 0 }
 {}
 
 /// DUT1 as a minute tells it: of MSF two negative tenths, a tie of -2 and 0, and none; of WWVB -3; and what isn't told.
@@ -85,4 +102,12 @@ pub fn feed_in_spring()
 pub fn announcement_in_june()
     ensures told { IsLegal (minute_window 4) june_announced }
     ensures not_told { ¬ (IsLegal (minute_window 1) june_announced) }
+{}
+
+/// The last minute that DCF77 can send in the century: a walk of 60 seconds from its first on is walkable, and one from its
+/// second on isn't.
+pub fn last_walk_of_dcf77()
+    ensures first { IsWalkable (last_window 52_595_938) (from_place 52_595_938 0) }
+    ensures second { ¬ (IsWalkable (last_window 52_595_938) (from_place 52_595_938 1)) }
+    ensures range { ¬ (IsWalkable (last_window 52_595_937) (from_place 52_595_938 0)) }
 {}

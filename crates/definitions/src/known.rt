@@ -1,10 +1,12 @@
 //! Dates that the public knows, computed from the definitions alone. A day is named by how many days it comes after
 //! 2000-01-01.
 
-ghost use Rattle.std.specs.Prelude.{◌≡◌, ◌∷◌, ◌-◌, ◌+◌, ◌*◌, [], map, true, false};
+ghost use Rattle.std.specs.Prelude.{◌≡◌, ◌∷◌, ◌-◌, ◌+◌, ◌*◌, [], map, is_some, true, false};
 ghost use Rattle.signal_base.specs.declared.station.Station.TheVariants.{Dcf77, Msf, Wwvb, Jjy};
 ghost use Rattle.definitions.specs.Calendar.{day_at, century_minutes, is_leap_end, minute_length, utc_fields};
-ghost use Rattle.definitions.specs.Allowed.{encoded_year};
+ghost use Rattle.definitions.specs.declared.zone.Zone.TheVariants.{CentralEurope, Japan, Uk, Utc};
+ghost use Rattle.definitions.specs.Zones.{local_fields};
+ghost use Rattle.definitions.specs.Allowed.{dcf_facts, encoded_year, jjy_facts, msf_facts, wwvb_facts};
 ghost use Rattle.definitions.specs.Vocabulary.{only};
 ghost use Rattle.definitions.specs.Known.{dcf77_around, eu_around, us_around, us_seconds};
 
@@ -71,6 +73,34 @@ pub fn leap_second_of_2016()
     ensures after { is_leap_end (6209 * 1440 + 1440) ≡ false }
     ensures long { minute_length true (6209 * 1440 + 1439) ≡ 61 }
     ensures plain { minute_length false (6209 * 1440 + 1439) ≡ 60 }
+{}
+
+/// From when on a change of summer time is announced: DCF77 an hour before it, MSF 61 minutes.
+pub fn announced_changes()
+    ensures dcf77 { (dcf_facts false (8856 * 1440)).change ≡ true }
+    ensures dcf77_before { (dcf_facts false (8855 * 1440 + 1439)).change ≡ false }
+    ensures msf { (msf_facts false (8855 * 1440 + 1439)).change ≡ true }
+    ensures msf_before { (msf_facts false (8855 * 1440 + 1438)).change ≡ false }
+{}
+
+/// From when on the leap second of 2016 was announced: by DCF77 in the hour before it, by WWVB in its whole month, by JJY
+/// from the second UTC day of the month on.
+pub fn announced_leap_seconds()
+    ensures dcf77 { (dcf_facts true (6209 * 1440 + 1380)).leap ≡ true }
+    ensures dcf77_before { (dcf_facts true (6209 * 1440 + 1379)).leap ≡ false }
+    ensures wwvb { (wwvb_facts true (6179 * 1440)).leap ≡ true }
+    ensures wwvb_before { (wwvb_facts true (6178 * 1440 + 1439)).leap ≡ false }
+    ensures jjy { (jjy_facts true (6180 * 1440)).leap ≡ true }
+    ensures jjy_before { (jjy_facts true (6179 * 1440 + 1439)).leap ≡ false }
+    ensures not_announced { (jjy_facts false (6180 * 1440)).leap ≡ false }
+{}
+
+/// The first minute of each zone's year 2100 isn't told, and the minute before it is.
+pub fn local_years_end()
+    ensures utc { map (λ t. is_some (local_fields Utc t)) ((century_minutes - 1) ∷ century_minutes ∷ []) ≡ true ∷ false ∷ [] }
+    ensures europe { map (λ t. is_some (local_fields CentralEurope t)) ((century_minutes - 61) ∷ (century_minutes - 60) ∷ []) ≡ true ∷ false ∷ [] }
+    ensures uk { map (λ t. is_some (local_fields Uk t)) ((century_minutes - 1) ∷ century_minutes ∷ []) ≡ true ∷ false ∷ [] }
+    ensures japan { map (λ t. is_some (local_fields Japan t)) ((century_minutes - 541) ∷ (century_minutes - 540) ∷ []) ≡ true ∷ false ∷ [] }
 {}
 
 /// The last minute in which each station can encode the year, and the minute after it.

@@ -16,15 +16,18 @@ ghost use Rattle.definitions.specs.Receivers.{Receiver};
 ghost use Rattle.definitions.specs.Phase.{fit, phase_of};
 ghost use Rattle.definitions.specs.Costs.{Costs};
 ghost use Rattle.definitions.specs.Answers.{IsWindowAnswer};
-ghost use Rattle.definitions.specs.Walks.{IsSequence, key_of};
+ghost use Rattle.definitions.specs.Walks.{IsSequence, ceiling_key, key_of};
 ghost use Rattle.definitions.specs.Ends.{sequence_of, cost_of};
 ghost use Rattle.definitions.specs.Owed.{IsDayAnswer, IsDecode, day_text};
 
-/// Two different sequences have different keys, whatever they cost, and a key gives its sequence and cost back.
+/// Two different sequences have different keys, whatever they cost, and a key gives its sequence and cost back. The
+/// ceiling's key tells the keys of costs up to the ceiling from those beyond.
 pub fn keys_differ()
     ensures differ { (c d : ℕ) (q r : Sequence) → IsSequence q → IsSequence r → q ≢ r → key_of c q ≢ key_of d r }
     ensures sequence { (c : ℕ) (q : Sequence) → IsSequence q → sequence_of (key_of c q) ≡ q }
     ensures cost { (c : ℕ) (q : Sequence) → IsSequence q → cost_of (key_of c q) ≡ c }
+    ensures within { (ceiling c : ℕ) (q : Sequence) → IsSequence q → c ≤ ceiling → key_of c q ≤ ceiling_key ceiling }
+    ensures beyond { (ceiling c : ℕ) (q : Sequence) → IsSequence q → ceiling < c → ceiling_key ceiling < key_of c q }
 {}
 
 /// There is at most one answer for a day and a log.

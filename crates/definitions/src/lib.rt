@@ -36,14 +36,15 @@ pub use examples::{
 };
 pub use fields::Fields;
 pub use heard::{
-    announcement_in_june, blocks_of_a_window, dut1_costs, dut1_heard, feed_in_spring,
-    phase_of_rises, receivers_at_odds, stations_are_summed, two_pulses_cost,
-    unknown_tenths_cost_nothing, walk_through_a_leap_second,
+    announcement_in_june, blocks_of_a_window, dut1_costs, dut1_heard, edges_near_a_phase,
+    edges_of_a_phase, feed_in_spring, last_walk_of_dcf77, phase_of_rises, receivers_at_odds,
+    stations_are_summed, two_pulses_cost, unknown_tenths_cost_nothing, walk_through_a_leap_second,
 };
 pub use jjy::JjyFacts;
 pub use known::{
-    american_changes, american_seconds, dcf77_around_its_changes, european_changes,
-    fields_of_a_minute, known_weekdays, last_minutes, leap_second_of_2016,
+    american_changes, american_seconds, announced_changes, announced_leap_seconds,
+    dcf77_around_its_changes, european_changes, fields_of_a_minute, known_weekdays, last_minutes,
+    leap_second_of_2016, local_years_end,
 };
 pub use laws::{
     answer_is_one, days_differ, dut1_is_told_by_free_seconds, each_second_is_sent, keys_differ,

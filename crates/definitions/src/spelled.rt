@@ -9,7 +9,7 @@ ghost use Rattle.definitions.specs.Refusals.ConfigurationFault.{TooLarge, NotTom
 ghost use Rattle.definitions.specs.Refusals.CertificateFault.{BadLine, NotAbove, OtherWindow, TooLarge as CertificateTooLarge, TooManySteps, Uncovered, WrongBound, WrongEnds};
 ghost use Rattle.definitions.specs.Heard.{dut_told, from_place, new_year_window};
 ghost use Rattle.definitions.specs.Refusals.{bad_word_line, certificate_fault_line, configuration_fault_line, empty_range_line, log_fault_line, log_too_large_line, usage_line};
-ghost use Rattle.definitions.specs.Texts.{certified_report, line, minute_line, report, report_head, trial_summary};
+ghost use Rattle.definitions.specs.Texts.{at_minutes, certified_report, dut_lines, line, minute_line, report, report_head, trial_answer, trial_summary};
 
 /// Reports of the three answers, and one of a
 pub fn reports()
@@ -17,24 +17,32 @@ pub fn reports()
     ensures undecided { report new_year_window [] (Undecided 0 (from_place (161 * 1440 + 375) 0) (from_place (527 * 1440 + 375) 0))
         ≡ line (codes "undecided 0") ++ line (codes "phase 0") ++ line (codes "sequence 2000-06-10T06:15Z 0 no")
         ++ line (codes "sequence 2001-06-11T06:15Z 0 no") }
+    ensures announced { report new_year_window [] (Undecided 0 (from_place (5659 * 1440 + 1439) 29) (record { first = 5659 * 1440 + 1439; second = 30; announced = true }))
+        ≡ line (codes "undecided 0") ++ line (codes "phase 0") ++ line (codes "sequence 2015-06-30T23:59Z 29 no")
+        ++ line (codes "sequence 2015-06-30T23:59Z 30 yes") }
     ensures decided { report_head new_year_window (dut_told Msf (Tenths (negsuc 1)) ∷ []) (Decided 0 (from_place (8962 * 1440 + 720) 0) (Some 200))
         ≡ line (codes "decided 0") ++ line (codes "phase 0") ++ line (codes "sequence 2024-07-15T12:00Z 0 no") ++ line (codes "next 200")
         ++ line (codes "dut1 -2") }
     ensures tied { report_head new_year_window (dut_told Msf Tied ∷ []) (Decided 100 (from_place (8962 * 1440 + 720) 0) (Some 300))
         ≡ line (codes "decided 100") ++ line (codes "phase 0") ++ line (codes "sequence 2024-07-15T12:00Z 0 no") ++ line (codes "next 300")
         ++ line (codes "dut1 undecided") }
+    ensures free { dut_lines (dut_told Wwvb Free ∷ []) ≡ line (codes "dut1 free") }
     ensures several { report_head new_year_window (dut_told Msf (Tenths (pos 0)) ∷ dut_told Wwvb (Tenths (pos 0)) ∷ []) (Decided 0 (from_place (8962 * 1440 + 720) 0) (Some 500))
         ≡ line (codes "decided 0") ++ line (codes "phase 0") ++ line (codes "sequence 2024-07-15T12:00Z 0 no") ++ line (codes "next 500")
         ++ line (codes "dut1 msf 0") ++ line (codes "dut1 wwvb 0") }
     ensures alone { report_head new_year_window (dut_told Dcf77 Absent ∷ []) (Decided 0 (from_place 52_595_938 0) None)
         ≡ line (codes "decided 0") ++ line (codes "phase 0") ++ line (codes "sequence 2099-12-31T22:58Z 0 no") ++ line (codes "next none") }
     ensures minute { minute_line new_year_window (8927 * 1440 + 377) 60 ≡ line (codes "minute 2024-06-10T06:17Z at 60000") }
+    ensures minutes { at_minutes (minute_line new_year_window) (from_place (8927 * 1440 + 376) 58) 4 ≡ line (codes "minute 2024-06-10T06:17Z at 2000") }
     ensures certified { certified_report new_year_window [] Nothing ≡ line (codes "certified") ++ line (codes "none") ++ line (codes "phase 0") }
 {}
 
-/// A trial of MSF that is decided with what was sent.
+/// A trial of MSF that is decided with what was sent, one that is undecided, and one without an answer.
 pub fn trial_of_msf()
-    ensures { trial_summary 5 Msf 2 (from_place 5_000_015 5) (Decided 0 (from_place 5_000_015 5) None)
+    ensures undecided { trial_answer (Undecided 0 (from_place 0 0) (from_place 1 0))
+        ≡ line (codes "undecided") ++ line (codes "first 2000-01-01T00:00Z 0 no") ++ line (codes "other 2000-01-01T00:01Z 0 no") }
+    ensures none { trial_answer Nothing ≡ line (codes "none") }
+    ensures decided { trial_summary 5 Msf 2 (from_place 5_000_015 5) (Decided 0 (from_place 5_000_015 5) None)
         ≡ line (codes "trial 5") ++ line (codes "station msf") ++ line (codes "receivers 2") ++ line (codes "sent 2009-07-04T05:35Z 5 no")
         ++ line (codes "decided") ++ line (codes "first 2009-07-04T05:35Z 5 no") }
 {}
