@@ -1,6 +1,5 @@
 -- A bound is one, and no legal sequence of its block costs less.
-use Rattle.std.proofs.Common.{◌≡◌, ℕ, zero, suc, ◌+◌, ◌<◌, ◌≤◌, Bool, true, false, ◌&&◌, nat_lt, if◌then◌else◌, List, [], ◌∷◌, length, map, filter, fold, sum_by, min, ℤ, Option, Some, None, unwrap_or, refl, sym, ap, ◌∙◌, subst, arith}
-use Rattle.std.proofs.lemmas.Bool.{ltb-true}
+use Rattle.std.proofs.Common.{◌≡◌, ℕ, zero, suc, ◌+◌, ◌<◌, ◌≤◌, Bool, true, false, ◌&&◌, if◌then◌else◌, List, [], ◌∷◌, length, map, filter, fold, sum_by, min, ℤ, Option, Some, None, unwrap_or, refl, sym, ap, ◌∙◌, subst, arith}
 use Rattle.signal_base.specs.declared.station.Station.{Station}
 use Rattle.signal_base.specs.declared.station.Station.TheVariants.{Dcf77, Msf, Wwvb, Jjy}
 use Rattle.signal_base.specs.declared.window.Window.{Window}
@@ -8,13 +7,13 @@ use Rattle.definitions.specs.declared.sequence.Sequence.{Sequence}
 use Rattle.definitions.specs.declared.block.Block.{Block}
 use Rattle.definitions.specs.declared.block.Span.{Span}
 use Rattle.definitions.specs.declared.block.Span.TheVariants.{Year, Day, Hour, Minute}
-use Rattle.definitions.specs.Calendar.{minute_length, is_leap_end}
 use Rattle.definitions.specs.Allowed.{is_heard, stations_of}
 use Rattle.definitions.specs.Walks.{index_of, key_of, place_at, set_at, IsLegal, IsWalkable}
 use Rattle.definitions.specs.Dut1.{has_dut1, is_dut1_second, dut1_values, dut1_symbol}
 use Rattle.definitions.specs.Costs.{Costs, total_below, least, set_cost, lies_in_one_day, untied_cost, dut1_cost, least_dut1_cost, station_cost, sequence_cost}
 use Rattle.definitions.specs.Blocks.{IsBlock, IsIn, IsUnion, first_of, union_cost, IsUnionBound, IsMinuteBound, IsBound, IsBoundBy, block_key, span_end}
 use Rattle.definitions.proofs.KeyLaws.{same_sequence}
+use Rattle.definitions.proofs.PlaceLaws.{within_minute}
 use Rattle.definitions.proofs.SetLaws.{sent}
 use Rattle.definitions.proofs.Dut1Laws.{dut1_sets, dut1_bit}
 use Rattle.definitions.proofs.UnionLaws.{within_le, wider_costs_no_more, free_costs_no_more}
@@ -109,24 +108,6 @@ module _ (station : Station) (costs : ℕ → ℕ → ℕ) (n : ℕ) (q : Sequen
             least_values station (total_below n told) (dut1_cost station costs n q) e
                 (λ d. total_le n told (λ k. if tells k then costs k (dut1_symbol station d (place_at q k).1) else 0) (λ k lt. told_le d k)),
           )
-
-some_seconds : (b : Bool) → 0 < (if b then 61 else 60)
-some_seconds true = omega arith
-some_seconds false = omega arith
-
-abbrev IsInMinute : Bool → ℕ × ℕ → Type 0
-IsInMinute announced place = place.1 < minute_length announced place.0
-
-next_within : (announced : Bool) (place : ℕ × ℕ) (b : Bool) → nat_lt (place.1 + 1) (minute_length announced place.0) ≡ b
-    → IsInMinute announced (if b then (place.0, place.1 + 1) else (place.0 + 1, 0))
-next_within announced place true e = ltb-true _ _ e
-next_within announced place false e = some_seconds (announced && is_leap_end (place.0 + 1))
-
--- a walk stays within its minutes
-within_minute : (q : Sequence) → q.second < minute_length q.announced q.first → (k : ℕ) → IsInMinute q.announced (place_at q k)
-unfolding place_at
-within_minute q lt zero = lt
-within_minute q lt (suc k) = next_within q.announced (place_at q k) (nat_lt ((place_at q k).1 + 1) (minute_length q.announced (place_at q k).0)) refl
 
 -- a union is one
 pub unions_one : (window : Window) (b : Block) (station : Station) (k m n : ℕ) → IsUnion window b station k m → IsUnion window b station k n → m ≡ n

@@ -1,7 +1,8 @@
--- Where a walk is without a leap second.
-use Rattle.std.proofs.Common.{◌≡◌, ℕ, zero, suc, ◌+◌, ◌/◌, ◌%◌, ◌<◌, Bool, true, false, nat_lt, refl, ap, ◌∙◌, arith}
+-- Where a walk is: within its minutes, and by sixties where there is no leap second.
+use Rattle.std.proofs.Common.{◌≡◌, ℕ, zero, suc, ◌+◌, ◌/◌, ◌%◌, ◌<◌, Bool, true, false, ◌&&◌, nat_lt, if◌then◌else◌, refl, ap, ◌∙◌, arith}
 use Rattle.std.proofs.lemmas.Bool.{ltb-true, ltb-false}
 use Rattle.definitions.specs.declared.sequence.Sequence.{Sequence}
+use Rattle.definitions.specs.Calendar.{minute_length, is_leap_end}
 use Rattle.definitions.specs.Walks.{next_place, place_at}
 
 -- the second that comes n seconds after the start of a minute, where no minute has a second 60
@@ -27,3 +28,21 @@ place_at-plain q (suc k) plain small =
     let one_more : suc (q.second + k) ≡ q.second + suc k = omega arith in
     ap (λ a. next_place a (place_at q k)) plain ∙ ap (next_place false) (place_at-plain q k plain small)
     ∙ plain_step q.first (q.second + k) _ refl ∙ ap (plain_place q.first) one_more
+
+some_seconds : (b : Bool) → 0 < (if b then 61 else 60)
+some_seconds true = omega arith
+some_seconds false = omega arith
+
+abbrev pub IsInMinute : Bool → ℕ × ℕ → Type 0
+IsInMinute announced place = place.1 < minute_length announced place.0
+
+next_within : (announced : Bool) (place : ℕ × ℕ) (b : Bool) → nat_lt (place.1 + 1) (minute_length announced place.0) ≡ b
+    → IsInMinute announced (if b then (place.0, place.1 + 1) else (place.0 + 1, 0))
+next_within announced place true e = ltb-true _ _ e
+next_within announced place false e = some_seconds (announced && is_leap_end (place.0 + 1))
+
+-- a walk stays within its minutes
+pub within_minute : (q : Sequence) → q.second < minute_length q.announced q.first → (k : ℕ) → IsInMinute q.announced (place_at q k)
+unfolding place_at
+within_minute q lt zero = lt
+within_minute q lt (suc k) = next_within q.announced (place_at q k) (nat_lt ((place_at q k).1 + 1) (minute_length q.announced (place_at q k).0)) refl
