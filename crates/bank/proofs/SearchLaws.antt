@@ -1,5 +1,5 @@
 -- The costs of walks, and the least two of the keys that come.
-use Rattle.std.proofs.Common.{◌≡◌, ℕ, ◌+◌, ◌/◌, ◌%◌, ◌<◌, ◌⊎◌, inl, inr, Bool, true, false, nat_lt, Option, None, option_map, MatchOption, List, [], ◌∷◌, ◌++◌, length, get_or, slice_index, refl, sym, ap, ◌∙◌, subst, arith, zero-add}
+use Rattle.std.proofs.Common.{◌≡◌, ℕ, ◌+◌, ◌/◌, ◌%◌, ◌<◌, ◌⊎◌, inl, inr, Bool, true, false, nat_lt, Option, None, option_map, List, [], ◌∷◌, ◌++◌, length, get_or, slice_index, refl, sym, ap, ◌∙◌, subst, arith, zero-add}
 use Rattle.std.proofs.lemmas.Bool.{ltb-true, ltb-false, cases_order}
 use Rattle.std.proofs.Math.ListN.{get_or-append, length-append}
 use Rattle.std.proofs.lemmas.List.{get_or_push}
@@ -8,37 +8,35 @@ use Rattle.definitions.proofs.CostLaws.{total_below_none}
 use Rattle.std.proofs.lemmas.List.FromFn.{get_or-map-range_with_len}
 use Rattle.signal_base.specs.declared.station.Station.TheVariants.{Jjy}
 use Rattle.definitions.specs.Calendar.{century_minutes}
-use Rattle.definitions.specs.Allowed.{IsSent, allowed, encoded_year}
+use Rattle.definitions.specs.Allowed.{allowed, encoded_year}
 use Rattle.definitions.specs.Walks.{place_at}
 use Rattle.definitions.proofs.PlaceLaws.{place_at-plain}
-use Rattle.bank.specs.Plain.{AreSets, jjy_alone, plain, sent_sets}
+use Rattle.bank.specs.Plain.{AreSets, IsSentSet, plain, sent_sets}
+use Rattle.definitions.specs.Owed.{jjy_alone}
 use Rattle.bank.proofs.StationLaws.{sent_by_jjy, encoded_by_jjy}
 
 -- what a second of a minute carries, as the search looks it up
 abbrev pub looked_up : ℕ → ℕ → Option ℕ
 looked_up m s = option_map (λ sets. slice_index sets s) (sent_sets m)
 
--- it is what a second carries where its minute is sent
-abbrev pub IsLookedUp : ℕ × ℕ → Option ℕ → Type 0
-IsLookedUp place found = MatchOption found (¬ (IsSent jjy_alone place.0)) (λ set. IsSent jjy_alone place.0 × (set ≡ allowed Jjy false place))
-
-pub set_cases : (m s : ℕ) → s < 61 → IsLookedUp (m, s) (looked_up m s)
+-- it is the set of that second
+pub set_cases : (m s : ℕ) → s < 61 → IsSentSet jjy_alone (m, s) (looked_up m s)
 set_cases m s within = by_century _ refl
   where
-    by_year : m < century_minutes → nat_lt m century_minutes ≡ true → (b : Bool) → nat_lt (encoded_year Jjy m) 2100 ≡ b → IsLookedUp (m, s) (looked_up m s)
+    by_year : m < century_minutes → nat_lt m century_minutes ≡ true → (b : Bool) → nat_lt (encoded_year Jjy m) 2100 ≡ b → IsSentSet jjy_alone (m, s) (looked_up m s)
     by_year early c true e =
         let year = ltb-true _ _ e in
         rw (c, e) (sent_by_jjy m early (omega arith), get_or-map-range_with_len (λ (s : ℕ). allowed Jjy false (m, s)) 0 61 s s 0 within (zero-add s))
     by_year early c false e = let late = ltb-false _ _ e in rw (c, e) (λ sent. omega (arith, encoded_by_jjy m sent))
 
-    by_century : (b : Bool) → nat_lt m century_minutes ≡ b → IsLookedUp (m, s) (looked_up m s)
+    by_century : (b : Bool) → nat_lt m century_minutes ≡ b → IsSentSet jjy_alone (m, s) (looked_up m s)
     by_century true c = by_year (ltb-true _ _ c) c _ refl
     by_century false c = let late = ltb-false _ _ c in rw c (λ sent. omega (arith, sent.0))
 
 -- the same of the place of a sequence that isn't announced
-pub place_cases : (t p k : ℕ) → p < 60 → IsLookedUp (place_at (plain t p) k) (looked_up (t + (p + k) / 60) ((p + k) % 60))
+pub place_cases : (t p k : ℕ) → p < 60 → IsSentSet jjy_alone (place_at (plain t p) k) (looked_up (t + (p + k) / 60) ((p + k) % 60))
 place_cases t p k small =
-    subst (λ place. IsLookedUp place (looked_up (t + (p + k) / 60) ((p + k) % 60))) (sym (place_at-plain (plain t p) k refl small))
+    subst (λ place. IsSentSet jjy_alone place (looked_up (t + (p + k) / 60) ((p + k) % 60))) (sym (place_at-plain (plain t p) k refl small))
     (set_cases (t + (p + k) / 60) ((p + k) % 60) (omega arith))
 
 -- one more minute

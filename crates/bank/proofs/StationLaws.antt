@@ -8,7 +8,7 @@ use Rattle.definitions.specs.declared.sequence.Sequence.{Sequence}
 use Rattle.definitions.specs.Calendar.{century_minutes}
 use Rattle.definitions.specs.Allowed.{encoded_year, is_heard, stations_of, IsSent}
 use Rattle.definitions.specs.Costs.{Costs, station_cost, sequence_cost}
-use Rattle.bank.specs.Plain.{jjy_alone}
+use Rattle.definitions.specs.Owed.{jjy_alone}
 
 -- no other station is heard
 each_encodes : (t : ℕ) → encoded_year Jjy t ≤ 2099 → (station : Station) → is_heard jjy_alone station ≡ true → encoded_year station t ≤ 2099

@@ -1,18 +1,14 @@
 -- The sequences that aren't announced, and those of them that the search has seen.
-use Rattle.std.specs.Prelude.{ℕ, ◌≡◌, ◌<◌, ◌⊎◌, false, nat_lt, if◌then◌else◌, ◌+◌, List, length, slice_index_or, Option, None}
+use Rattle.std.specs.Prelude.{ℕ, ◌≡◌, ◌<◌, ◌⊎◌, false, nat_lt, if◌then◌else◌, ◌+◌, List, length, slice_index_or, Option, None, MatchOption}
 use Rattle.signal_base.specs.declared.station.Station.TheVariants.{Jjy}
 use Rattle.signal_base.specs.declared.station.Stations.{Stations}
 use Rattle.signal_base.specs.declared.window.Window.{Window}
 use Rattle.definitions.specs.declared.sequence.Sequence.{Sequence}
 use Rattle.definitions.specs.Calendar.{century_minutes}
-use Rattle.definitions.specs.Allowed.{telegram_of}
+use Rattle.definitions.specs.Allowed.{allowed, telegram_of, IsSent}
 use Rattle.definitions.specs.Walks.{IsWalkable, key_of}
 use Rattle.definitions.specs.Costs.{station_cost}
 use Rattle.symbol_cost.specs.Grid.{cost_at}
-
--- JJY and no other station
-abbrev pub jjy_alone : Stations
-jjy_alone = record { mask = 8 }
 
 -- a sequence that isn't announced
 abbrev pub plain : ℕ → ℕ → Sequence
@@ -37,6 +33,10 @@ IsSeen rows window t p key = (q : Sequence) × IsPlain window q × IsBefore t p 
 -- what the seconds of a minute may carry at JJY, or none where it isn't sent
 abbrev pub sent_sets : ℕ → Option (List ℕ)
 sent_sets t = if nat_lt t century_minutes then telegram_of Jjy false t else None
+
+-- the set that JJY may carry in a second, or none where these stations don't send its minute
+abbrev pub IsSentSet : Stations → ℕ × ℕ → Option ℕ → Type 0
+IsSentSet stations place found = MatchOption found (¬ (IsSent stations place.0)) (λ set. IsSent stations place.0 × (set ≡ allowed Jjy false place))
 
 -- these are the sets of the minutes from t on
 abbrev pub AreSets : List (Option (List ℕ)) → ℕ → Type 0

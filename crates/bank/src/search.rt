@@ -4,9 +4,9 @@ ghost use Rattle.std.specs.Prelude.{◌≡◌, ◌+◌, ◌*◌, ◌-◌, ◌/�
 ghost use Rattle.signal_base.specs.declared.station.Station.TheVariants.{Jjy};
 ghost use Rattle.definitions.specs.Calendar.{century_minutes};
 ghost use Rattle.definitions.specs.Ends.{AreLeastTwo, IsKey};
-ghost use Rattle.definitions.specs.Allowed.{IsSent};
-ghost use Rattle.definitions.specs.Walks.{IsWalkable, place_at, set_at};
-ghost use Rattle.bank.specs.Plain.{AreSets, IsPlain, IsSeen, jjy_alone, plain, row_cost, sent_sets};
+ghost use Rattle.definitions.specs.Walks.{IsWalkable, place_at};
+ghost use Rattle.bank.specs.Plain.{AreSets, IsPlain, IsSeen, IsSentSet, plain, row_cost, sent_sets};
+ghost use Rattle.definitions.specs.Owed.{jjy_alone};
 
 use crate::found::Found;
 use civil::Civil;
@@ -139,7 +139,7 @@ fn set_in_slot(minutes: &[Sets], window: &Window, t: u32, second: u8, slot: u16)
     requires end { window.now.to ≤ century_minutes }
     requires second { second < 60 }
     requires slot { slot < 1200 }
-    ensures { MatchOption result (¬ (IsSent window.now.stations (place_at (plain t second) slot).0)) (λ set. IsSent window.now.stations (place_at (plain t second) slot).0 × (set ≡ set_at Jjy (plain t second) slot)) }
+    ensures { IsSentSet window.now.stations (place_at (plain t second) slot) result }
 {
     let place = second as usize + slot as usize;
     let minute = (t - window.from) as usize + place / 60;

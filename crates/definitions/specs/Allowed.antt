@@ -124,7 +124,8 @@ allowed Msf announced place = msf_second (msf_facts announced place.0) place.1
 allowed Wwvb announced place = wwvb_second (wwvb_facts announced place.0) place.1
 allowed Jjy announced place = jjy_second (jjy_facts announced place.0) place.1
 
--- what the seconds of a minute may carry, of one that there isn't nothing, or none where its year isn't encoded
+-- what the 61 seconds that a minute can have may carry, or none where its year isn't encoded; a second 60 that the
+-- minute doesn't have carries nothing
 abbrev pub telegram_of : Station → Bool → ℕ → Option (List ℕ)
 telegram_of station announced t =
     if nat_lt (encoded_year station t) 2100

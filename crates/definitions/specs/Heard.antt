@@ -27,6 +27,10 @@ heard station delay weight log = record { station = station; heard = record { tu
 abbrev pub two_pulses : List Receiver
 two_pulses = heard Dcf77 30 1 ((0, High) ∷ (30, Low) ∷ (125, High) ∷ (1030, Low) ∷ (1235, High) ∷ (3000, High) ∷ []) ∷ []
 
+-- JJY, of which nothing is heard
+abbrev pub silence : List Receiver
+silence = heard Jjy 0 1 ((0, High) ∷ (1000, High) ∷ []) ∷ []
+
 -- WWVB, of which the log tells nothing from its fifth tenth on
 abbrev pub broken_off : List Receiver
 broken_off = heard Wwvb 0 1 ((0, Low) ∷ (200, High) ∷ (420, Unknown) ∷ (1000, Unknown) ∷ []) ∷ []

@@ -3,6 +3,7 @@ use Rattle.std.specs.Prelude.{ℕ, ◌+◌, ◌*◌, ◌≡◌, ◌≢◌, ◌<�
 use Rattle.signal_base.specs.declared.dut.Dut.TheVariants.{Absent}
 use Rattle.signal_base.specs.declared.dut.StationDut.{StationDut}
 use Rattle.signal_base.specs.declared.station.Station.TheVariants.{Jjy}
+use Rattle.signal_base.specs.declared.station.Stations.{Stations}
 use Rattle.signal_base.specs.declared.window.Window.{Window}
 use Rattle.signal_base.specs.Table.{difference_table}
 use Rattle.definitions.specs.declared.day.Day.{Day}
@@ -34,11 +35,15 @@ pub record IsDecode (words : List (List ℕ)) (day : ℕ) (log : List ℕ) : Typ
   pub of_century : day < century_days
   pub file : IsFileWord log
 
+-- JJY and no other station
+abbrev pub jjy_alone : Stations
+jjy_alone = record { mask = 8 }
+
 -- the two minutes of JJY that are looked for, from the receiver's first millisecond, over one UTC day
 abbrev pub day_window : ℕ → Window
 day_window day =
     record {
-      stations = record { mask = 8 };
+      stations = jjy_alone;
       start = 0;
       phase = 0;
       seconds = 120;

@@ -11,7 +11,7 @@ ghost use Rattle.definitions.specs.Costs.{bank_costs, sequence_cost, set_cost, s
 ghost use Rattle.definitions.specs.Vocabulary.{free};
 ghost use Rattle.definitions.specs.Feed.{zda_sentence};
 ghost use Rattle.definitions.specs.Walks.{IsLegal, IsWalkable};
-ghost use Rattle.definitions.specs.Heard.{at_odds, block_of, broken_off, costs_in, dut_heard, from_place, item_count, june_announced, last_window, leap_walk, minute_window, ones_heard, rises, rises_at, two_pulses};
+ghost use Rattle.definitions.specs.Heard.{at_odds, block_of, broken_off, costs_in, dut_heard, from_place, item_count, june_announced, last_window, leap_walk, minute_window, ones_heard, rises, rises_at, silence, two_pulses};
 
 /// A pulse that is 5 ms too short or too long costs 5, and 100 more under the other bit.
 pub fn two_pulses_cost()
@@ -19,6 +19,11 @@ pub fn two_pulses_cost()
     ensures one { costs_in two_pulses Dcf77 1 (0 ∷ 1 ∷ 2 ∷ []) ≡ 105 ∷ 5 ∷ 205 ∷ [] }
     ensures later { map (bank_costs difference_table two_pulses 1000 Dcf77 0) (0 ∷ 1 ∷ 2 ∷ []) ≡ 105 ∷ 5 ∷ 205 ∷ [] }
     ensures other { costs_in two_pulses Jjy 0 (0 ∷ 1 ∷ 2 ∷ []) ≡ 0 ∷ 0 ∷ 0 ∷ [] }
+{}
+
+/// A second without a pulse costs each low tenth of a symbol, the last one too.
+pub fn silence_costs()
+    ensures { costs_in silence Jjy 0 (0 ∷ 1 ∷ 2 ∷ []) ≡ 200 ∷ 500 ∷ 800 ∷ [] }
 {}
 
 /// A tenth of which a millisecond is unknown costs nothing.
@@ -53,12 +58,18 @@ pub fn edges_near_a_phase()
     ensures round { phase_of 1000 3 (rises_at (1990 ∷ 3010 ∷ [])) ≡ 0 }
 {}
 
-/// DUT1 as a minute tells it: of MSF two negative tenths, a tie of -2 and 0, and none; of WWVB -3; and what isn't told.
+/// DUT1 as a minute tells it: of MSF two negative tenths, a tie of -2 and 0, and none; of WWVB -3; the most and the fewest
+/// tenths of each; and what isn't told.
 pub fn dut1_heard()
     ensures negative { dut_heard Msf (9 ∷ 10 ∷ []) (from_place 720 0) ≡ Tenths (negsuc 1) }
     ensures tied { dut_heard Msf (10 ∷ []) (from_place 720 0) ≡ Tied }
     ensures nought { dut_heard Msf [] (from_place 720 0) ≡ Tenths (pos 0) }
     ensures wwvb { dut_heard Wwvb (37 ∷ 42 ∷ 43 ∷ []) (from_place 720 0) ≡ Tenths (negsuc 2) }
+    ensures most { dut_heard Msf (1 ∷ 2 ∷ 3 ∷ 4 ∷ 5 ∷ 6 ∷ 7 ∷ 8 ∷ []) (from_place 720 0) ≡ Tenths (pos 8) }
+    ensures beyond { dut_heard Msf (1 ∷ 2 ∷ 3 ∷ 4 ∷ 5 ∷ 6 ∷ 7 ∷ 8 ∷ 9 ∷ []) (from_place 720 0) ≡ Tenths (pos 8) }
+    ensures fewest { dut_heard Msf (9 ∷ 10 ∷ 11 ∷ 12 ∷ 13 ∷ 14 ∷ 15 ∷ 16 ∷ []) (from_place 720 0) ≡ Tenths (negsuc 7) }
+    ensures wwvb_most { dut_heard Wwvb (36 ∷ 38 ∷ 40 ∷ 43 ∷ []) (from_place 720 0) ≡ Tenths (pos 9) }
+    ensures wwvb_fewest { dut_heard Wwvb (37 ∷ 40 ∷ 43 ∷ []) (from_place 720 0) ≡ Tenths (negsuc 8) }
     ensures two_days { dut_heard Msf [] (from_place 1439 30) ≡ Free }
     ensures not_sent { dut_heard Jjy [] (from_place 720 0) ≡ Absent }
 {}

@@ -21,6 +21,26 @@ pub returns-clause-wwvb : goal.returns-clause-wwvb
 unfolding day_at place_at total_below
 returns-clause-wwvb c = refl
 
+pub returns-clause-most : goal.returns-clause-most
+unfolding day_at place_at total_below
+returns-clause-most c = refl
+
+pub returns-clause-beyond : goal.returns-clause-beyond
+unfolding day_at place_at total_below
+returns-clause-beyond c = refl
+
+pub returns-clause-fewest : goal.returns-clause-fewest
+unfolding day_at place_at total_below
+returns-clause-fewest c = refl
+
+pub returns-clause-wwvb_most : goal.returns-clause-wwvb_most
+unfolding day_at place_at total_below
+returns-clause-wwvb_most c = refl
+
+pub returns-clause-wwvb_fewest : goal.returns-clause-wwvb_fewest
+unfolding day_at place_at total_below
+returns-clause-wwvb_fewest c = refl
+
 pub returns-clause-two_days : goal.returns-clause-two_days
 unfolding day_at place_at total_below
 returns-clause-two_days c = refl
