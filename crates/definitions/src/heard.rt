@@ -6,12 +6,21 @@ ghost use Rattle.signal_base.specs.declared.dut.Dut.TheVariants.{Absent, Free, T
 ghost use Rattle.signal_base.specs.Table.{difference_table};
 ghost use Rattle.definitions.specs.declared.block.Span.TheVariants.{Year, Day, Hour, Minute};
 ghost use Rattle.definitions.specs.Blocks.{children};
+ghost use Rattle.definitions.specs.declared.level.Level.TheVariants.{High, Low, Unknown};
+ghost use Rattle.definitions.specs.Logs.{level_at};
 ghost use Rattle.definitions.specs.Phase.{phase_of};
 ghost use Rattle.definitions.specs.Costs.{bank_costs, sequence_cost, set_cost, station_cost};
 ghost use Rattle.definitions.specs.Vocabulary.{free};
 ghost use Rattle.definitions.specs.Feed.{zda_sentence};
 ghost use Rattle.definitions.specs.Walks.{IsLegal, IsWalkable};
 ghost use Rattle.definitions.specs.Heard.{at_odds, block_of, broken_off, costs_in, dut_heard, from_place, item_count, june_announced, last_window, leap_walk, minute_window, ones_heard, rises, rises_at, silence, two_pulses};
+
+/// The levels before the first record, from it on, and from the last record on.
+pub fn levels_of_a_log()
+    ensures records { map (level_at ((3, High) ∷ (5, Low) ∷ (7, High) ∷ [])) (2 ∷ 3 ∷ 4 ∷ 5 ∷ 6 ∷ 7 ∷ [])
+        ≡ Unknown ∷ High ∷ High ∷ Low ∷ Low ∷ Unknown ∷ [] }
+    ensures none { level_at [] 0 ≡ Unknown }
+{}
 
 /// A pulse that is 5 ms too short or too long costs 5, and 100 more under the other bit.
 pub fn two_pulses_cost()
@@ -56,6 +65,7 @@ pub fn edges_near_a_phase()
     ensures near { phase_of 1000 3 (rises_at (1000 ∷ 2049 ∷ 3098 ∷ [])) ≡ 49 }
     ensures not_near { phase_of 1000 3 (rises_at (1000 ∷ 2050 ∷ 3100 ∷ [])) ≡ 0 }
     ensures round { phase_of 1000 3 (rises_at (1990 ∷ 3010 ∷ [])) ≡ 0 }
+    ensures not_quite_round { phase_of 1000 3 (rises_at (1999 ∷ 3049 ∷ [])) ≡ 0 }
 {}
 
 /// DUT1 as a minute tells it: of MSF two negative tenths, a tie of -2 and 0, and none; of WWVB -3; the most and the fewest

@@ -33,6 +33,8 @@ pub fn reports()
     ensures alone { report_head new_year_window (dut_told Dcf77 Absent ∷ []) (Decided 0 (from_place 52_595_938 0) None)
         ≡ line (codes "decided 0") ++ line (codes "phase 0") ++ line (codes "sequence 2099-12-31T22:58Z 0 no") ++ line (codes "next none") }
     ensures minute { minute_line new_year_window (8927 * 1440 + 377) 60 ≡ line (codes "minute 2024-06-10T06:17Z at 60000") }
+    ensures later { minute_line (record new_year_window { start = 5000; phase = 237 }) (8927 * 1440 + 377) 60 ≡ line (codes "minute 2024-06-10T06:17Z at 65237") }
+    ensures phase { report (record new_year_window { phase = 237 }) [] Nothing ≡ line (codes "none") ++ line (codes "phase 237") }
     ensures minutes { at_minutes (minute_line new_year_window) (from_place (8927 * 1440 + 376) 58) 4 ≡ line (codes "minute 2024-06-10T06:17Z at 2000") }
     ensures certified { certified_report new_year_window [] Nothing ≡ line (codes "certified") ++ line (codes "none") ++ line (codes "phase 0") }
 {}

@@ -14,3 +14,7 @@ returns-clause-not_near c = refl
 pub returns-clause-round : goal.returns-clause-round
 unfolding first_peak
 returns-clause-round c = refl
+
+pub returns-clause-not_quite_round : goal.returns-clause-not_quite_round
+unfolding first_peak
+returns-clause-not_quite_round c = refl

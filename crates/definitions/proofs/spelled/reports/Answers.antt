@@ -42,6 +42,14 @@ pub returns-clause-minute : goal.returns-clause-minute
 unfolding digits day_at at_minutes place_at
 returns-clause-minute c = refl
 
+pub returns-clause-later : goal.returns-clause-later
+unfolding digits day_at at_minutes place_at
+returns-clause-later c = refl
+
+pub returns-clause-phase : goal.returns-clause-phase
+unfolding digits day_at at_minutes place_at
+returns-clause-phase c = refl
+
 pub returns-clause-minutes : goal.returns-clause-minutes
 unfolding digits day_at at_minutes place_at
 returns-clause-minutes c = refl
