@@ -38,8 +38,8 @@ pub use fields::Fields;
 pub use heard::{
     announcement_in_june, blocks_of_a_window, dut1_costs, dut1_heard, edges_near_a_phase,
     edges_of_a_phase, feed_in_spring, last_walk_of_dcf77, levels_of_a_log, phase_of_rises,
-    receivers_at_odds, stations_are_summed, two_pulses_cost, unknown_tenths_cost_nothing,
-    walk_through_a_leap_second,
+    receivers_at_odds, silence_costs, stations_are_summed, two_pulses_cost,
+    unknown_tenths_cost_nothing, walk_through_a_leap_second,
 };
 pub use jjy::JjyFacts;
 pub use known::{
