@@ -4,9 +4,12 @@ use Rattle.std.proofs.lemmas.Bool.{and_parts, ltb-true, ltb-false, leb-true}
 use Rattle.std.proofs.lemmas.Bool.Decides.{nat_tests}
 use Rattle.definitions.specs.declared.day.Day.{Day}
 use Rattle.definitions.specs.Calendar.{day_at, utc_fields, century_minutes}
-use Rattle.definitions.specs.Summer.{is_last_sunday, season_at}
-use Rattle.definitions.specs.Seasons.{IsTheDay, HasSummer, change_on}
-use Rattle.definitions.proofs.CenturyLaws.{year_begin, march_day, october_day, state, day_of_state, known, year_of}
+use Rattle.definitions.specs.Summer.{is_last_sunday, season_at, us_begins, us_ends, us_code}
+use Rattle.definitions.specs.Seasons.{IsTheDay, HasSummer, HasAmericanSummer, american_code, change_on}
+use Rattle.definitions.proofs.CenturyLaws.{year_begin, sunday_by, march_day, october_day, day_of_state, us_first, us_last, us_known, known, year_of}
+
+abbrev state : ℕ → Day × Bool
+state n = season_at (is_last_sunday 3) (is_last_sunday 10) n
 
 -- the day of a year that passes a test, where the days that pass are those of one number
 the_day : (test : Day → Bool) (day : ℕ → ℕ) → ((n : ℕ) → n < 36525 → test (day_at n) ≡ (n == day ((day_at n).year - 2000)))
@@ -31,7 +34,7 @@ later_is : (n : ℕ) → n < 36525 → (state (n + 1)).1 ≡ later n (march_day 
 unfolding season_at
 later_is n lt =
     let k = known n lt in
-    rw (add-one, day_of_state n, k.march, k.october, k.season) refl
+    rw (add-one, day_of_state (is_last_sunday 3) (is_last_sunday 10) march_day october_day n, k.begins_on, k.ends_on, k.season) refl
 
 on-now : (m n o : ℕ) → (nat_lt m n && nat_le n o) ≡ true → (m < n) × (n ≤ o)
 on-now m n o e = let b = and_parts _ _ e in (ltb-true _ _ b.0, leb-true _ _ b.1)
@@ -81,14 +84,50 @@ module _ (i t : ℕ) (few : i < 100) (within : t < century_minutes) (of_year : (
 
 has_summer : (i : ℕ) → i < 100 → HasSummer (2000 + i) (march_day i) (october_day i)
 has_summer i few = record {
-  begins = the_day (is_last_sunday 3) march_day (λ n lt. (known n lt).march) i few (omega arith) (omega arith) (omega arith);
-  ends = the_day (is_last_sunday 10) october_day (λ n lt. (known n lt).october) i few (omega arith) (omega arith) (omega arith);
+  begins = the_day (is_last_sunday 3) march_day (λ n lt. (known n lt).begins_on) i few (omega arith) (omega arith) (omega arith);
+  ends = the_day (is_last_sunday 10) october_day (λ n lt. (known n lt).ends_on) i few (omega arith) (omega arith) (omega arith);
   between = λ t lt y e. between i t few lt y _ refl e;
   always = λ t lt y from to. always i t few lt y _ refl from to;
 }
 
-pub summer_lies_between_its_changes : (year : ℕ) → 2000 ≤ year → year < 2100 → (march : ℕ) × (october : ℕ) × HasSummer year march october
-summer_lies_between_its_changes year from to =
+pub european_summer_lies_between_its_changes : (year : ℕ) → 2000 ≤ year → year < 2100 → (march : ℕ) × (october : ℕ) × HasSummer year march october
+european_summer_lies_between_its_changes year from to =
     let i = year - 2000 in
     let is : 2000 + (year - 2000) ≡ year = omega arith in
     (march_day i, october_day i, subst (λ y. HasSummer y (march_day i) (october_day i)) is (has_summer i (omega arith)))
+
+-- the American days of a year lie in it, in their order
+us_order : (i : ℕ) → i < 100 → (year_begin i ≤ us_first i) × ((us_first i < us_last i) × (us_last i < year_begin (i + 1)))
+us_order i few = by_rule (nat_lt i 7)
+  where
+    by_rule : (b : Bool) → (year_begin i ≤ (if b then sunday_by (year_begin (i + 1) - 269) else sunday_by (year_begin (i + 1) - 293)))
+        × (((if b then sunday_by (year_begin (i + 1) - 269) else sunday_by (year_begin (i + 1) - 293)) < (if b then sunday_by (year_begin (i + 1) - 62) else sunday_by (year_begin (i + 1) - 55)))
+        × ((if b then sunday_by (year_begin (i + 1) - 62) else sunday_by (year_begin (i + 1) - 55)) < year_begin (i + 1)))
+    by_rule true = (omega arith, (omega arith, omega arith))
+    by_rule false = (omega arith, (omega arith, omega arith))
+
+coded : (n a b : ℕ) → a < b → (if n == a then 2 else if n == b then 1 else if nat_lt a n && nat_le n b then 3 else 0) ≡ american_code a b n
+coded n a b lt = grind (arith, nat_tests)
+
+us_code_is : (i t : ℕ) → i < 100 → t < century_minutes → (utc_fields t).year ≡ 2000 + i → us_code t ≡ american_code (us_first i) (us_last i) (t / 1440)
+us_code_is i t few lt of_year =
+    let n = t / 1440 in
+    let k = us_known (t / 1440) (omega arith) in
+    let at : (day_at (t / 1440)).year - 2000 ≡ i = omega (arith, of_year) in
+    rw (day_of_state us_begins us_ends us_first us_last (t / 1440), k.begins_on, k.ends_on, k.season, at) (coded (t / 1440) (us_first i) (us_last i) (us_order i few).1.0)
+
+us_summer : (i : ℕ) → i < 100 → HasAmericanSummer (2000 + i) (us_first i) (us_last i)
+us_summer i few =
+    let order = us_order i few in
+    record {
+      begins = the_day us_begins us_first (λ n lt. (us_known n lt).begins_on) i few (omega (arith, order)) order.0 (omega (arith, order));
+      ends = the_day us_ends us_last (λ n lt. (us_known n lt).ends_on) i few (omega (arith, order)) (omega (arith, order)) order.1.1;
+      in_order = order.1.0;
+      coded = λ t lt y. us_code_is i t few lt y;
+    }
+
+pub american_summer_lies_between_its_changes : (year : ℕ) → 2000 ≤ year → year < 2100 → (first : ℕ) × (last : ℕ) × HasAmericanSummer year first last
+american_summer_lies_between_its_changes year from to =
+    let i = year - 2000 in
+    let is : 2000 + (year - 2000) ≡ year = omega arith in
+    (us_first i, us_last i, subst (λ y. HasAmericanSummer y (us_first i) (us_last i)) is (us_summer i (omega arith)))

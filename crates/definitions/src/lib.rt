@@ -54,7 +54,9 @@ pub use laws::{
 pub use level::Level;
 pub use msf::MsfFacts;
 pub use parity::{dcf77_groups_are_even, msf_groups_are_odd};
-pub use seasons::summer_lies_between_its_changes;
+pub use seasons::{
+    american_summer_lies_between_its_changes, european_summer_lies_between_its_changes,
+};
 pub use sequence::Sequence;
 pub use spelled::{
     refused_certificates, refused_configurations, refused_logs, refused_words, reports,
