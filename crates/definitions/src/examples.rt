@@ -3,9 +3,9 @@
 
 ghost use Rattle.std.specs.Prelude.{◌≡◌, ◌+◌, ◌*◌, ◌∷◌, ◌++◌, [], codes, map, true, false};
 ghost use Rattle.signal_base.specs.declared.station.Station.TheVariants.{Dcf77, Msf, Wwvb, Jjy};
-ghost use Rattle.definitions.specs.Allowed.{dcf_facts, msf_facts, wwvb_facts, jjy_facts};
+ghost use Rattle.definitions.specs.Allowed.{allowed, dcf_facts, msf_facts, wwvb_facts, jjy_facts};
 ghost use Rattle.definitions.specs.Msf.{msf_second};
-ghost use Rattle.definitions.specs.Vocabulary.{free, only};
+ghost use Rattle.definitions.specs.Vocabulary.{free, only, unscored};
 ghost use Rattle.definitions.specs.Listing.{listing};
 
 /// DCF77 at 2016-12-31T23:59Z, the minute with the leap second: 01:00 on Sunday 2017-01-01 follows.
@@ -54,6 +54,13 @@ pub fn jjy_at_quarter_to_four()
         ≡ record { minute = 45; hour = 15; day_of_year = 162; year = 24; weekday = 1; leap = false; long = false } }
     ensures listing { listing Jjy false (8927 * 1440 + 405)
         ≡ codes "encode jjy 2024-06-10T06:45Z 60" ++ 10 ∷ codes "M10000101M000100101M000100110M001000110M*********M??????000M" ++ 10 ∷ [] }
+{}
+
+/// JJY's call sign in the minutes 15 and 45 of the hour: what the seconds 40, 48 and 50 may carry at 2024-06-10T06:15Z, and
+/// at 06:16Z.
+pub fn jjy_with_its_call_sign()
+    ensures sent { map (λ s. allowed Jjy false (8927 * 1440 + 375, s)) (40 ∷ 48 ∷ 50 ∷ []) ≡ unscored ∷ unscored ∷ free ∷ [] }
+    ensures not_sent { map (λ s. allowed Jjy false (8927 * 1440 + 376, s)) (40 ∷ 48 ∷ 50 ∷ []) ≡ only 0 ∷ only 0 ∷ only 0 ∷ [] }
 {}
 
 /// MSF at 2085-12-31T23:59Z, with a leap second: the seconds about the one that the minute has more, and a year of the

@@ -1,14 +1,14 @@
 //! Dates that the public knows, computed from the definitions alone. A day is named by how many days it comes after
 //! 2000-01-01.
 
-ghost use Rattle.std.specs.Prelude.{◌≡◌, ◌∷◌, ◌-◌, ◌+◌, ◌*◌, [], map, is_some, true, false};
+ghost use Rattle.std.specs.Prelude.{◌≡◌, ◌∷◌, ◌-◌, ◌+◌, ◌*◌, [], map, is_some, true, false, None};
 ghost use Rattle.signal_base.specs.declared.station.Station.TheVariants.{Dcf77, Msf, Wwvb, Jjy};
 ghost use Rattle.definitions.specs.Calendar.{day_at, century_minutes, is_leap_end, minute_length, utc_fields};
 ghost use Rattle.definitions.specs.declared.zone.Zone.TheVariants.{CentralEurope, Japan, Uk, Utc};
 ghost use Rattle.definitions.specs.Zones.{local_fields};
-ghost use Rattle.definitions.specs.Allowed.{dcf_facts, encoded_year, jjy_facts, msf_facts, wwvb_facts};
+ghost use Rattle.definitions.specs.Allowed.{dcf_facts, encoded_year, jjy_facts, msf_facts, telegram_of, wwvb_facts};
 ghost use Rattle.definitions.specs.Vocabulary.{only};
-ghost use Rattle.definitions.specs.Known.{dcf77_around, eu_around, us_around, us_seconds};
+ghost use Rattle.definitions.specs.Known.{dcf77_around, eu_around, msf_around, us_around, us_seconds};
 
 /// Weekdays and days of the year, from 2000 to 2099.
 pub fn known_weekdays()
@@ -60,6 +60,12 @@ pub fn dcf77_around_its_changes()
     ensures autumn { dcf77_around 9066 ≡ (2, 59, true, true) ∷ (2, 0, false, true) ∷ (2, 1, false, false) ∷ [] }
 {}
 
+/// MSF's minutes around the changes of 2024: 02:00 follows 00:59, and 01:00 comes twice.
+pub fn msf_around_its_changes()
+    ensures spring { msf_around 8856 ≡ (0, 59, false, true) ∷ (2, 0, true, true) ∷ (2, 1, true, false) ∷ [] }
+    ensures autumn { msf_around 9066 ≡ (1, 59, true, true) ∷ (1, 0, false, true) ∷ (1, 1, false, false) ∷ [] }
+{}
+
 /// The fields of 2024-06-10T06:16Z, a Monday.
 pub fn fields_of_a_minute()
     ensures { utc_fields (8927 * 1440 + 376)
@@ -103,7 +109,7 @@ pub fn local_years_end()
     ensures japan { map (λ t. is_some (local_fields Japan t)) ((century_minutes - 541) ∷ (century_minutes - 540) ∷ []) ≡ true ∷ false ∷ [] }
 {}
 
-/// The last minute in which each station can encode the year, and the minute after it.
+/// The last minute in which each station can encode the year, and the minute after it, which has no telegram.
 pub fn last_minutes()
     ensures dcf77 { encoded_year Dcf77 (century_minutes - 62) ≡ 2099 }
     ensures dcf77_after { encoded_year Dcf77 (century_minutes - 61) ≡ 2100 }
@@ -113,4 +119,5 @@ pub fn last_minutes()
     ensures wwvb_after { encoded_year Wwvb century_minutes ≡ 2100 }
     ensures jjy { encoded_year Jjy (century_minutes - 541) ≡ 2099 }
     ensures jjy_after { encoded_year Jjy (century_minutes - 540) ≡ 2100 }
+    ensures none { telegram_of Jjy false (century_minutes - 540) ≡ None }
 {}

@@ -31,8 +31,8 @@ pub use day::Day;
 pub use dcf77::DcfFacts;
 pub use examples::{
     dcf77_in_spring, dcf77_with_a_leap_second, jjy_at_quarter_to_four, jjy_with_a_leap_second,
-    msf_in_summer, msf_longer_by_second_17, msf_with_a_leap_second, wwvb_on_a_leap_day,
-    wwvb_with_a_leap_second,
+    jjy_with_its_call_sign, msf_in_summer, msf_longer_by_second_17, msf_with_a_leap_second,
+    wwvb_on_a_leap_day, wwvb_with_a_leap_second,
 };
 pub use fields::Fields;
 pub use heard::{
@@ -45,7 +45,7 @@ pub use jjy::JjyFacts;
 pub use known::{
     american_changes, american_seconds, announced_changes, announced_leap_seconds,
     dcf77_around_its_changes, european_changes, fields_of_a_minute, known_weekdays, last_minutes,
-    leap_second_of_2016, local_years_end,
+    leap_second_of_2016, local_years_end, msf_around_its_changes,
 };
 pub use laws::{
     answer_is_one, days_differ, dut1_is_told_by_free_seconds, each_second_is_sent, keys_differ,

@@ -1,5 +1,8 @@
-use Rattle.std.proofs.Common.{refl}
-use Rattle.definitions.specs.Calendar.{day_at}
+use Rattle.std.proofs.Common.{◌≡◌, ◌-◌, Bool, false, nat_lt, if◌then◌else◌, map, Some, None, refl, ap}
+use Rattle.std.specs.List.{range_with_len}
+use Rattle.signal_base.specs.declared.station.Station.TheVariants.{Jjy}
+use Rattle.definitions.specs.Allowed.{allowed, encoded_year}
+use Rattle.definitions.specs.Calendar.{century_minutes, day_at}
 use Rattle.definitions.specs.Summer.{season_at}
 use Rattle.definitions.proofs.known.last_minutes.Goals as goal
 
@@ -34,3 +37,11 @@ returns-clause-jjy c = refl
 pub returns-clause-jjy_after : goal.returns-clause-jjy_after
 unfolding day_at season_at
 returns-clause-jjy_after c = refl
+
+late : nat_lt (encoded_year Jjy (century_minutes - 540)) 2100 ≡ false
+unfolding day_at season_at
+late = refl
+
+pub returns-clause-none : goal.returns-clause-none
+returns-clause-none c =
+    ap (λ (b : Bool). if b then Some (map (λ s. allowed Jjy false (century_minutes - 540, s)) (range_with_len 0 61)) else None) late
