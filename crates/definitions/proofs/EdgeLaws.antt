@@ -6,7 +6,7 @@ use Rattle.definitions.specs.Calendar.{day_at}
 use Rattle.definitions.specs.Summer.{season_at}
 use Rattle.definitions.specs.Allowed.{encoded_year, is_heard}
 use Rattle.definitions.specs.Walks.{place_at, IsWalkable}
-use Rattle.definitions.specs.Heard.{from_place, last_window}
+use Rattle.definitions.specs.Heard.{from_place, window_of}
 use Rattle.definitions.proofs.PlaceLaws.{place_at-plain}
 
 year : encoded_year Dcf77 52595938 ≡ 2099
@@ -20,13 +20,13 @@ next_year = refl
 minute : (s k : ℕ) → s < 60 → (place_at (from_place 52595938 s) k).0 ≡ 52595938 + (s + k) / 60
 minute s k lt = ap (λ (p : ℕ × ℕ). p.0) (place_at-plain (from_place 52595938 s) k refl lt)
 
-alone : (station : Station) → is_heard (last_window 52595938).stations station ≡ true → encoded_year station 52595938 ≤ 2099
+alone : (station : Station) → is_heard (window_of 1 52595938 52595939).stations station ≡ true → encoded_year station 52595938 ≤ 2099
 alone Dcf77 heard = omega (arith, year)
 alone Msf heard = absurd cc
 alone Wwvb heard = absurd cc
 alone Jjy heard = absurd cc
 
-pub first : IsWalkable (last_window 52595938) (from_place 52595938 0)
+pub first : IsWalkable (window_of 1 52595938 52595939) (from_place 52595938 0)
 first = record {
   not_before = omega arith;
   before_end = omega arith;
@@ -35,10 +35,10 @@ first = record {
       (omega (arith, there), λ station heard. omega (arith, ap (encoded_year station) there, alone station heard));
 }
 
-pub second : ¬ (IsWalkable (last_window 52595938) (from_place 52595938 1))
+pub second : ¬ (IsWalkable (window_of 1 52595938 52595939) (from_place 52595938 1))
 second is =
     let there : (place_at (from_place 52595938 1) 59).0 ≡ 52595939 = omega (arith, minute 1 59 (omega arith)) in
     omega (arith, (is.sent 59 (omega arith)).1 Dcf77 refl, ap (encoded_year Dcf77) there, next_year)
 
-pub range : ¬ (IsWalkable (last_window 52595937) (from_place 52595938 0))
+pub range : ¬ (IsWalkable (window_of 1 52595937 52595938) (from_place 52595938 0))
 range is = omega (arith, is.before_end)

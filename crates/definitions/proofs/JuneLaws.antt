@@ -4,12 +4,12 @@ use Rattle.std.proofs.lemmas.Bool.{lt-ltb}
 use Rattle.signal_base.specs.declared.station.Station.{Station}
 use Rattle.signal_base.specs.declared.station.Station.TheVariants.{Dcf77, Msf, Wwvb, Jjy}
 use Rattle.definitions.specs.declared.dcf77.DcfFacts.{DcfFacts}
-use Rattle.definitions.specs.Calendar.{day_at, minute_length}
+use Rattle.definitions.specs.Calendar.{century_minutes, day_at, minute_length}
 use Rattle.definitions.specs.Summer.{season_at, eu_change_within}
 use Rattle.definitions.specs.Allowed.{allowed, dcf_facts, encoded_year, is_heard}
 use Rattle.definitions.specs.Dcf77.{dcf_second}
 use Rattle.definitions.specs.Walks.{place_at, next_place, set_at, unannounced, IsWalkable, IsLegal}
-use Rattle.definitions.specs.Heard.{minute_window, june_announced}
+use Rattle.definitions.specs.Heard.{window_of, june_announced}
 
 short : (b : Bool) → minute_length b 218880 ≡ 60
 unfolding day_at
@@ -35,7 +35,7 @@ year Msf = refl
 year Wwvb = refl
 year Jjy = refl
 
-walkable : (mask : ℕ) (b : Bool) → IsWalkable (minute_window mask) (record { first = 218880; second = 0; announced = b })
+walkable : (mask : ℕ) (b : Bool) → IsWalkable (window_of mask 0 century_minutes) (record { first = 218880; second = 0; announced = b })
 walkable mask b = record {
   not_before = omega arith;
   before_end = omega arith;
@@ -53,7 +53,7 @@ not_warned : allowed Wwvb false (218880, 56) ≡ 1
 unfolding day_at season_at
 not_warned = refl
 
-pub told : IsLegal (minute_window 4) june_announced
+pub told : IsLegal (window_of 4 0 century_minutes) june_announced
 told = (
   walkable 4 true,
   λ e. inr (inr (
@@ -78,14 +78,14 @@ hidden k lt =
     ap (allowed Dcf77 true) (places true k lt) ∙ ap (λ (f : DcfFacts). dcf_second f k) same_facts
     ∙ sym (ap (allowed Dcf77 false) (places false k lt))
 
-never : (station : Station) (k : ℕ) → is_heard (minute_window 1).stations station ≡ true → k < 60
+never : (station : Station) (k : ℕ) → is_heard (window_of 1 0 century_minutes).stations station ≡ true → k < 60
     → set_at station june_announced k ≢ set_at station (unannounced june_announced) k → ⊥
 never Dcf77 k heard lt apart = apart (hidden k lt)
 never Msf k heard lt apart = absurd cc
 never Wwvb k heard lt apart = absurd cc
 never Jjy k heard lt apart = absurd cc
 
-pub not_told : ¬ (IsLegal (minute_window 1) june_announced)
+pub not_told : ¬ (IsLegal (window_of 1 0 century_minutes) june_announced)
 not_told legal = elim (legal.1 refl) [
   | inl e ↦ omega (arith, e)
   | inr rest ↦ elim rest [

@@ -58,20 +58,12 @@ unfoldable pub Reaches : Span → ℕ → ℕ → ℕ → Type 0
 Reaches s zero lo hi = hi ≤ lo
 Reaches s (suc n) lo hi = (hi ≤ lo) ⊎ Reaches s n (span_end s lo) hi
 
-reach_days : (n lo hi : ℕ) → hi ≤ (lo / 1440 + n) * 1440 → Reaches Day n lo hi
+-- Where a number grows by one with each span, so many spans reach what lies below some such number.
+reach_by : (s : Span) (count : ℕ → ℕ) → ((t : ℕ) → count (span_end s t) ≡ count t + 1) → (hi end : ℕ) → ((t : ℕ) → end ≤ count t → hi ≤ t)
+    → (n lo : ℕ) → end ≤ count lo + n → Reaches s n lo hi
 unfolding Reaches
-reach_days zero lo hi le = omega arith
-reach_days (suc n) lo hi le = inr (reach_days n (span_end Day lo) hi (omega arith))
-
-reach_hours : (n lo hi : ℕ) → hi ≤ (lo / 60 + n) * 60 → Reaches Hour n lo hi
-unfolding Reaches
-reach_hours zero lo hi le = omega arith
-reach_hours (suc n) lo hi le = inr (reach_hours n (span_end Hour lo) hi (omega arith))
-
-reach_minutes : (n lo hi : ℕ) → hi ≤ lo + n → Reaches Minute n lo hi
-unfolding Reaches
-reach_minutes zero lo hi le = omega arith
-reach_minutes (suc n) lo hi le = inr (reach_minutes n (span_end Minute lo) hi (omega arith))
+reach_by s count step hi end over zero lo le = over lo (omega (arith, le))
+reach_by s count step hi end over (suc n) lo le = inr (reach_by s count step hi end over n (span_end s lo) (omega (arith, le, step lo)))
 
 year_step : (i lo hi : ℕ) → lo ≡ year_begin i * 1440 → lo < century_minutes → span_end Year lo ≡ year_begin (i + 1) * 1440
 year_step i lo hi at lt = year_ends lo lt ∙ ap (λ j. year_begin (j + 1) * 1440) (number_of_year i lo lt (omega (arith, at)) (omega (arith, at)))
@@ -94,10 +86,11 @@ century_reaches lo hi lt end =
     inr (reach_years 99 (year_number lo + 1) (span_end Year lo) hi (omega arith) (year_ends lo (omega arith)) end)
 
 pub year_reaches : (lo hi : ℕ) → lo < century_minutes → hi ≤ span_end Year lo → Reaches Day 366 lo hi
-year_reaches lo hi lt le = reach_days 366 lo hi (omega (arith, year_ends lo lt, year_bounds lo lt, le))
+year_reaches lo hi lt le =
+    reach_by Day (λ t. t / 1440) (λ t. omega arith) hi (lo / 1440 + 366) (λ t far. omega (arith, far, year_ends lo lt, year_bounds lo lt, le)) 366 lo (omega arith)
 
 pub day_reaches : (lo hi : ℕ) → hi ≤ span_end Day lo → Reaches Hour 24 lo hi
-day_reaches lo hi le = reach_hours 24 lo hi (omega arith)
+day_reaches lo hi le = reach_by Hour (λ t. t / 60) (λ t. omega arith) hi (lo / 60 + 24) (λ t far. omega (arith, far, le)) 24 lo (omega arith)
 
 pub hour_reaches : (lo hi : ℕ) → hi ≤ span_end Hour lo → Reaches Minute 60 lo hi
-hour_reaches lo hi le = reach_minutes 60 lo hi (omega arith)
+hour_reaches lo hi le = reach_by Minute (λ t. t) (λ t. omega arith) hi (lo + 60) (λ t far. omega (arith, far, le)) 60 lo (omega arith)

@@ -1,5 +1,5 @@
 -- What a sequence costs: how far it is from what the receivers heard.
-use Rattle.std.specs.Prelude.{ℕ, zero, suc, ◌+◌, ◌*◌, ◌/◌, Bool, false, ◌==◌, ◌&&◌, if◌then◌else◌, List, [], ◌∷◌, map, filter, sum_by, fold, min, slice_index, slice_index_or, Option, Some, None, unwrap_or, ℤ}
+use Rattle.std.specs.Prelude.{ℕ, zero, suc, ◌+◌, ◌*◌, ◌/◌, Bool, false, ◌==◌, ◌&&◌, not, if◌then◌else◌, List, [], ◌∷◌, map, filter, sum_by, fold, min, slice_index, slice_index_or, Option, Some, None, unwrap_or, ℤ}
 use Rattle.std.specs.List.{range_with_len, list_all}
 use Rattle.signal_base.specs.declared.station.Station.{Station}
 use Rattle.signal_base.specs.declared.window.Window.{Window}
@@ -109,10 +109,6 @@ dut_among (d ∷ e ∷ ds) = Tied
 -- what a station tells of DUT1 in a sequence: a value where it alone costs least
 abbrev pub dut_of : Station → (ℕ → ℕ → ℕ) → ℕ → Sequence → Dut
 dut_of station costs n q =
-    if has_dut1 station
-    then (
-    if lies_in_one_day n q
-    then dut_among (filter (λ d. dut1_cost station costs n q d == least_dut1_cost station costs n q) (dut1_values station))
-    else Free
-    )
-    else Absent
+    if not (has_dut1 station) then Absent
+    else if not (lies_in_one_day n q) then Free
+    else dut_among (filter (λ d. dut1_cost station costs n q d == least_dut1_cost station costs n q) (dut1_values station))

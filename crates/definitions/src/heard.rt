@@ -1,11 +1,12 @@
 //! Worked examples of what receivers heard, computed from the definitions alone.
 
-ghost use Rattle.std.specs.Prelude.{◌≡◌, ◌+◌, ◌*◌, ◌-◌, ◌∷◌, ◌++◌, codes, [], map, pos, negsuc, true, false};
+ghost use Rattle.std.specs.Prelude.{◌≡◌, ◌+◌, ◌*◌, ◌-◌, ◌∷◌, ◌++◌, codes, [], length, map, pos, negsuc, true, false};
 ghost use Rattle.signal_base.specs.declared.station.Station.TheVariants.{Dcf77, Msf, Wwvb, Jjy};
 ghost use Rattle.signal_base.specs.declared.dut.Dut.TheVariants.{Absent, Free, Tied, Tenths};
 ghost use Rattle.signal_base.specs.Table.{difference_table};
 ghost use Rattle.definitions.specs.declared.block.Span.TheVariants.{Year, Day, Hour, Minute};
-ghost use Rattle.definitions.specs.Blocks.{children};
+ghost use Rattle.definitions.specs.Calendar.{century_minutes};
+ghost use Rattle.definitions.specs.Blocks.{children, items};
 ghost use Rattle.definitions.specs.declared.level.Level.TheVariants.{High, Low, Unknown};
 ghost use Rattle.definitions.specs.Logs.{level_at};
 ghost use Rattle.definitions.specs.Phase.{phase_of};
@@ -13,7 +14,7 @@ ghost use Rattle.definitions.specs.Costs.{bank_costs, sequence_cost, set_cost, s
 ghost use Rattle.definitions.specs.Vocabulary.{free};
 ghost use Rattle.definitions.specs.Feed.{zda_sentence};
 ghost use Rattle.definitions.specs.Walks.{IsLegal, IsWalkable};
-ghost use Rattle.definitions.specs.Heard.{at_odds, block_of, broken_off, costs_in, dut_heard, from_place, item_count, june_announced, last_window, leap_walk, minute_window, ones_heard, rises, rises_at, silence, two_pulses};
+ghost use Rattle.definitions.specs.Heard.{at_odds, block_of, costs_in, dut_heard, from_place, heard, june_announced, leap_walk, ones_heard, rises_at, two_pulses, window_of};
 
 /// The levels before the first record, from it on, and from the last record on.
 pub fn levels_of_a_log()
@@ -32,12 +33,12 @@ pub fn two_pulses_cost()
 
 /// A second without a pulse costs each low tenth of a symbol, the last one too.
 pub fn silence_costs()
-    ensures { costs_in silence Jjy 0 (0 ∷ 1 ∷ 2 ∷ []) ≡ 200 ∷ 500 ∷ 800 ∷ [] }
+    ensures { costs_in (heard Jjy 0 1 ((0, High) ∷ (1000, High) ∷ []) ∷ []) Jjy 0 (0 ∷ 1 ∷ 2 ∷ []) ≡ 200 ∷ 500 ∷ 800 ∷ [] }
 {}
 
 /// A tenth of which a millisecond is unknown costs nothing.
 pub fn unknown_tenths_cost_nothing()
-    ensures { costs_in broken_off Wwvb 0 (0 ∷ 1 ∷ 2 ∷ []) ≡ 0 ∷ 200 ∷ 200 ∷ [] }
+    ensures { costs_in (heard Wwvb 0 1 ((0, Low) ∷ (200, High) ∷ (420, Unknown) ∷ (1000, Unknown) ∷ []) ∷ []) Wwvb 0 (0 ∷ 1 ∷ 2 ∷ []) ≡ 0 ∷ 200 ∷ 200 ∷ [] }
 {}
 
 /// Receivers are summed by their weights before a symbol is chosen.
@@ -48,24 +49,24 @@ pub fn receivers_at_odds()
 
 /// A phase is that of the seconds as they were heard, a delay of the receiver aside.
 pub fn phase_of_rises()
-    ensures plain { phase_of 0 3 (rises 0) ≡ 237 }
-    ensures delayed { phase_of 0 3 (rises 237) ≡ 0 }
+    ensures plain { phase_of 0 3 (rises_at 0 (237 ∷ 1237 ∷ 2237 ∷ [])) ≡ 237 }
+    ensures delayed { phase_of 0 3 (rises_at 237 (237 ∷ 1237 ∷ 2237 ∷ [])) ≡ 0 }
 {}
 
 /// Which edges a phase is of: those that fall at DCF77, and in a window of so many seconds, from its first millisecond
 /// up to, and without, the one after its last.
 pub fn edges_of_a_phase()
     ensures falls { phase_of 0 3 two_pulses ≡ 0 }
-    ensures inside { phase_of 1000 1 (rises_at (500 ∷ 1237 ∷ 2000 ∷ 3000 ∷ [])) ≡ 237 }
-    ensures first { phase_of 1000 3 (rises_at (1000 ∷ 1500 ∷ 2000 ∷ 2500 ∷ [])) ≡ 0 }
+    ensures inside { phase_of 1000 1 (rises_at 0 (500 ∷ 1237 ∷ 2000 ∷ 3000 ∷ [])) ≡ 237 }
+    ensures first { phase_of 1000 3 (rises_at 0 (1000 ∷ 1500 ∷ 2000 ∷ 2500 ∷ [])) ≡ 0 }
 {}
 
 /// An edge counts for a phase where it is less than 50 ms away, on the circle of a second.
 pub fn edges_near_a_phase()
-    ensures near { phase_of 1000 3 (rises_at (1000 ∷ 2049 ∷ 3098 ∷ [])) ≡ 49 }
-    ensures not_near { phase_of 1000 3 (rises_at (1000 ∷ 2050 ∷ 3100 ∷ [])) ≡ 0 }
-    ensures round { phase_of 1000 3 (rises_at (1990 ∷ 3010 ∷ [])) ≡ 0 }
-    ensures not_quite_round { phase_of 1000 3 (rises_at (1999 ∷ 3049 ∷ [])) ≡ 0 }
+    ensures near { phase_of 1000 3 (rises_at 0 (1000 ∷ 2049 ∷ 3098 ∷ [])) ≡ 49 }
+    ensures not_near { phase_of 1000 3 (rises_at 0 (1000 ∷ 2050 ∷ 3100 ∷ [])) ≡ 0 }
+    ensures round { phase_of 1000 3 (rises_at 0 (1990 ∷ 3010 ∷ [])) ≡ 0 }
+    ensures not_quite_round { phase_of 1000 3 (rises_at 0 (1999 ∷ 3049 ∷ [])) ≡ 0 }
 {}
 
 /// DUT1 as a minute tells it: of MSF two negative tenths, a tie of -2 and 0, and none; of WWVB -3; the most and the fewest
@@ -92,9 +93,9 @@ pub fn dut1_costs()
 
 /// At one for each second, a minute costs 60 for each station, and at JJY 9 less where it isn't scored.
 pub fn stations_are_summed()
-    ensures two { sequence_cost (λ station k x. 1) (minute_window 3) (from_place 705 0) ≡ 120 }
-    ensures jjy { sequence_cost (λ station k x. 1) (minute_window 8) (from_place 705 0) ≡ 51 }
-    ensures four { sequence_cost (λ station k x. 1) (minute_window 15) (from_place 705 0) ≡ 231 }
+    ensures two { sequence_cost (λ station k x. 1) (window_of 3 0 century_minutes) (from_place 705 0) ≡ 120 }
+    ensures jjy { sequence_cost (λ station k x. 1) (window_of 8 0 century_minutes) (from_place 705 0) ≡ 51 }
+    ensures four { sequence_cost (λ station k x. 1) (window_of 15 0 century_minutes) (from_place 705 0) ≡ 231 }
 {}
 
 /// The seconds 0, 59 and 60 of a minute with a leap second, and the first of the next two.
@@ -104,7 +105,7 @@ pub fn walk_through_a_leap_second()
 
 /// A window of two years has two items for each beginning; a block's children are cut to it.
 pub fn blocks_of_a_window()
-    ensures items { item_count ≡ 242 }
+    ensures items { length (items (window_of 8 (366 * 1440 - 60) (366 * 1440 + 60))) ≡ 242 }
     ensures year { children (block_of Year 52_595_938 52_596_000) ≡ block_of Day 52_595_938 52_596_000 ∷ [] }
     ensures day { children (block_of Day 52_595_938 52_596_000) ≡ block_of Hour 52_595_938 52_595_940 ∷ block_of Hour 52_595_940 52_596_000 ∷ [] }
     ensures hour { children (block_of Hour 52_595_938 52_595_940) ≡ block_of Minute 52_595_938 52_595_939 ∷ block_of Minute 52_595_939 52_595_940 ∷ [] }
@@ -121,14 +122,14 @@ pub fn feed_in_spring()
 /// A leap second at the end of June 2000, announced in the month's first minute: WWVB tells it there, and DCF77 not yet,
 /// so it is a hypothesis of WWVB alone.
 pub fn announcement_in_june()
-    ensures told { IsLegal (minute_window 4) june_announced }
-    ensures not_told { ¬ (IsLegal (minute_window 1) june_announced) }
+    ensures told { IsLegal (window_of 4 0 century_minutes) june_announced }
+    ensures not_told { ¬ (IsLegal (window_of 1 0 century_minutes) june_announced) }
 {}
 
 /// The last minute that DCF77 can send in the century: a walk of 60 seconds from its first on is walkable, and one from its
 /// second on isn't.
 pub fn last_walk_of_dcf77()
-    ensures first { IsWalkable (last_window 52_595_938) (from_place 52_595_938 0) }
-    ensures second { ¬ (IsWalkable (last_window 52_595_938) (from_place 52_595_938 1)) }
-    ensures range { ¬ (IsWalkable (last_window 52_595_937) (from_place 52_595_938 0)) }
+    ensures first { IsWalkable (window_of 1 52_595_938 52_595_939) (from_place 52_595_938 0) }
+    ensures second { ¬ (IsWalkable (window_of 1 52_595_938 52_595_939) (from_place 52_595_938 1)) }
+    ensures range { ¬ (IsWalkable (window_of 1 52_595_937 52_595_938) (from_place 52_595_938 0)) }
 {}

@@ -7,36 +7,36 @@ ghost use Rattle.definitions.specs.declared.answer.Answer.TheVariants.{Nothing, 
 ghost use Rattle.definitions.specs.Lines.LineFault.{Shape, NotRising, TooManyRecords};
 ghost use Rattle.definitions.specs.Refusals.ConfigurationFault.{TooLarge, NotToml, MissingKey, WrongKind, OutOfRange, UnknownKey};
 ghost use Rattle.definitions.specs.Refusals.CertificateFault.{BadLine, NotAbove, OtherWindow, TooLarge as CertificateTooLarge, TooManySteps, Uncovered, WrongBound, WrongEnds};
-ghost use Rattle.definitions.specs.Heard.{dut_told, from_place, new_year_window};
+ghost use Rattle.definitions.specs.Heard.{dut_told, from_place, window_of};
 ghost use Rattle.definitions.specs.Refusals.{bad_word_line, certificate_fault_line, configuration_fault_line, empty_range_line, log_fault_line, log_too_large_line, usage_line};
 ghost use Rattle.definitions.specs.Texts.{at_minutes, certified_report, dut_lines, line, minute_line, report, report_head, trial_answer, trial_summary};
 
 /// Reports of the three answers, and one of a
 pub fn reports()
-    ensures none { report new_year_window [] Nothing ≡ line (codes "none") ++ line (codes "phase 0") }
-    ensures undecided { report new_year_window [] (Undecided 0 (from_place (161 * 1440 + 375) 0) (from_place (527 * 1440 + 375) 0))
+    ensures none { report (window_of 8 0 60) [] Nothing ≡ line (codes "none") ++ line (codes "phase 0") }
+    ensures undecided { report (window_of 8 0 60) [] (Undecided 0 (from_place (161 * 1440 + 375) 0) (from_place (527 * 1440 + 375) 0))
         ≡ line (codes "undecided 0") ++ line (codes "phase 0") ++ line (codes "sequence 2000-06-10T06:15Z 0 no")
         ++ line (codes "sequence 2001-06-11T06:15Z 0 no") }
-    ensures announced { report new_year_window [] (Undecided 0 (from_place (5659 * 1440 + 1439) 29) (record { first = 5659 * 1440 + 1439; second = 30; announced = true }))
+    ensures announced { report (window_of 8 0 60) [] (Undecided 0 (from_place (5659 * 1440 + 1439) 29) (record { first = 5659 * 1440 + 1439; second = 30; announced = true }))
         ≡ line (codes "undecided 0") ++ line (codes "phase 0") ++ line (codes "sequence 2015-06-30T23:59Z 29 no")
         ++ line (codes "sequence 2015-06-30T23:59Z 30 yes") }
-    ensures decided { report_head new_year_window (dut_told Msf (Tenths (negsuc 1)) ∷ []) (Decided 0 (from_place (8962 * 1440 + 720) 0) (Some 200))
+    ensures decided { report_head (window_of 8 0 60) (dut_told Msf (Tenths (negsuc 1)) ∷ []) (Decided 0 (from_place (8962 * 1440 + 720) 0) (Some 200))
         ≡ line (codes "decided 0") ++ line (codes "phase 0") ++ line (codes "sequence 2024-07-15T12:00Z 0 no") ++ line (codes "next 200")
         ++ line (codes "dut1 -2") }
-    ensures tied { report_head new_year_window (dut_told Msf Tied ∷ []) (Decided 100 (from_place (8962 * 1440 + 720) 0) (Some 300))
+    ensures tied { report_head (window_of 8 0 60) (dut_told Msf Tied ∷ []) (Decided 100 (from_place (8962 * 1440 + 720) 0) (Some 300))
         ≡ line (codes "decided 100") ++ line (codes "phase 0") ++ line (codes "sequence 2024-07-15T12:00Z 0 no") ++ line (codes "next 300")
         ++ line (codes "dut1 undecided") }
     ensures free { dut_lines (dut_told Wwvb Free ∷ []) ≡ line (codes "dut1 free") }
-    ensures several { report_head new_year_window (dut_told Msf (Tenths (pos 0)) ∷ dut_told Wwvb (Tenths (pos 0)) ∷ []) (Decided 0 (from_place (8962 * 1440 + 720) 0) (Some 500))
+    ensures several { report_head (window_of 8 0 60) (dut_told Msf (Tenths (pos 0)) ∷ dut_told Wwvb (Tenths (pos 0)) ∷ []) (Decided 0 (from_place (8962 * 1440 + 720) 0) (Some 500))
         ≡ line (codes "decided 0") ++ line (codes "phase 0") ++ line (codes "sequence 2024-07-15T12:00Z 0 no") ++ line (codes "next 500")
         ++ line (codes "dut1 msf 0") ++ line (codes "dut1 wwvb 0") }
-    ensures alone { report_head new_year_window (dut_told Dcf77 Absent ∷ []) (Decided 0 (from_place 52_595_938 0) None)
+    ensures alone { report_head (window_of 8 0 60) (dut_told Dcf77 Absent ∷ []) (Decided 0 (from_place 52_595_938 0) None)
         ≡ line (codes "decided 0") ++ line (codes "phase 0") ++ line (codes "sequence 2099-12-31T22:58Z 0 no") ++ line (codes "next none") }
-    ensures minute { minute_line new_year_window (8927 * 1440 + 377) 60 ≡ line (codes "minute 2024-06-10T06:17Z at 60000") }
-    ensures later { minute_line (record new_year_window { start = 5000; phase = 237 }) (8927 * 1440 + 377) 60 ≡ line (codes "minute 2024-06-10T06:17Z at 65237") }
-    ensures phase { report (record new_year_window { phase = 237 }) [] Nothing ≡ line (codes "none") ++ line (codes "phase 237") }
-    ensures minutes { at_minutes (minute_line new_year_window) (from_place (8927 * 1440 + 376) 58) 4 ≡ line (codes "minute 2024-06-10T06:17Z at 2000") }
-    ensures certified { certified_report new_year_window [] Nothing ≡ line (codes "certified") ++ line (codes "none") ++ line (codes "phase 0") }
+    ensures minute { minute_line (window_of 8 0 60) (8927 * 1440 + 377) 60 ≡ line (codes "minute 2024-06-10T06:17Z at 60000") }
+    ensures later { minute_line (record (window_of 8 0 60) { start = 5000; phase = 237 }) (8927 * 1440 + 377) 60 ≡ line (codes "minute 2024-06-10T06:17Z at 65237") }
+    ensures phase { report (record (window_of 8 0 60) { phase = 237 }) [] Nothing ≡ line (codes "none") ++ line (codes "phase 237") }
+    ensures minutes { at_minutes (minute_line (window_of 8 0 60)) (from_place (8927 * 1440 + 376) 58) 4 ≡ line (codes "minute 2024-06-10T06:17Z at 2000") }
+    ensures certified { certified_report (window_of 8 0 60) [] Nothing ≡ line (codes "certified") ++ line (codes "none") ++ line (codes "phase 0") }
 {}
 
 /// A trial of MSF that is decided with what was sent, one that is undecided, and one without an answer.
