@@ -9,14 +9,15 @@ use Rattle.signal_base.specs.Table.{difference_table}
 use Rattle.definitions.specs.declared.sequence.Sequence.{Sequence}
 use Rattle.definitions.specs.declared.answer.Answer.{Answer}
 use Rattle.definitions.specs.declared.answer.Answer.TheVariants.{Nothing, Decided, Undecided}
-use Rattle.definitions.specs.Calendar.{century_days}
-use Rattle.definitions.specs.Logs.{Records}
-use Rattle.definitions.specs.Walks.{key_of, set_at}
-use Rattle.definitions.specs.Costs.{bank_costs, set_cost}
-use Rattle.definitions.specs.Answers.{IsAnswer}
-use Rattle.definitions.specs.Ends.{AreLeastTwo, IsKey, answer_from}
-use Rattle.definitions.specs.Owed.{IsOfDay, bank_of, day_cost, day_window}
-use Rattle.definitions.proofs.AnswerLaws.{of_day}
+use Rattle.definitions.specs.time.Calendar.{century_days}
+use Rattle.definitions.specs.heard.Logs.{Records}
+use Rattle.definitions.specs.sequences.Keys.{key_of}
+use Rattle.definitions.specs.sequences.Walks.{set_at}
+use Rattle.definitions.specs.heard.Costs.{bank_costs, set_cost}
+use Rattle.definitions.specs.answers.Answers.{IsAnswer}
+use Rattle.definitions.specs.answers.FirstTwo.{AreLeastTwo, IsKey, answer_from}
+use Rattle.due.specs.Owed.{IsOfDay, bank_of, day_cost, day_window}
+use Rattle.due.proofs.DayLaws.{of_day}
 use Rattle.definitions.proofs.CostLaws.{set_cost_same, total_below_same}
 use Rattle.definitions.proofs.EndLaws.{answer_is}
 use Rattle.symbol_cost.specs.Grid.{Grid, HasCosts, IsPriced, cost_at}

@@ -3,13 +3,13 @@ use Rattle.std.proofs.Common.{◌≡◌, ◌≢◌, ℕ, ◌≤◌, inl, inr, �
 use Rattle.bank_files.specs.Told.{Told, Holds, Tells, AppendsFront, appended, output_name}
 use Rattle.bank_files.specs.Files.{KeepsCounts, KeepsAll}
 use Rattle.bank_files.proofs.Lasting.{HasFault-from}
-use Rattle.definitions.specs.Owed.{IsDecode, IsFileWord, OwesForLog, Bad_words, Decodes, Refused, log_limit}
-use Rattle.definitions.specs.Lines as lines
+use Rattle.due.specs.Owed.{IsDecode, IsFileWord, OwesForLog, Bad_words, Decodes, Refused, log_limit}
+use Rattle.formats.specs.LogLines as lines
 use Rattle.pulse_log.specs.declared.fault.LogFault.{LogFault}
 use Rattle.pulse_log.specs.declared.fault.LogFault.TheVariants.{Shape, NotRising, TooManyRecords}
 use Rattle.pulse_log.specs.declared.fault.LogFault.TheVariants as faults
 use Rattle.pulse_log.specs.Reading.{IsFaultOf}
-use Rattle.definitions.specs.Refusals.{usage_line}
+use Rattle.formats.specs.Refusals.{usage_line}
 use Rattle.bank.specs.declared.stop.Stop.{Stop}
 use Rattle.bank.specs.declared.stop.Stop.TheVariants.{Failed, NoMemory}
 use Rattle.bank.specs.RunEnds.{EndsWith, EndsForLog, EndsForWords, IsOneOf, IsOwedFor}

@@ -4,9 +4,10 @@ use Rattle.std.proofs.lemmas.Bool.{ltb-true, ltb-false, cases_order}
 use Rattle.std.proofs.lemmas.Bool.Decides.{nat_tests}
 use Rattle.signal_base.specs.declared.window.Window.{Window}
 use Rattle.definitions.specs.declared.sequence.Sequence.{Sequence}
-use Rattle.definitions.specs.Calendar.{minute_length}
-use Rattle.definitions.specs.Walks.{IsWalkable, key_of}
-use Rattle.definitions.specs.Ends.{AreLeastTwo, IsKey}
+use Rattle.definitions.specs.time.Calendar.{minute_length}
+use Rattle.definitions.specs.sequences.Walks.{IsWalkable}
+use Rattle.definitions.specs.sequences.Keys.{key_of}
+use Rattle.definitions.specs.answers.FirstTwo.{AreLeastTwo, IsKey}
 use Rattle.definitions.proofs.KeyLaws.{same_sequence}
 use Rattle.bank.specs.Found.{first_with, second_with}
 use Rattle.bank.specs.Plain.{plain, IsPlain, IsSeen, row_cost}

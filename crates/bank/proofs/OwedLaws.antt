@@ -1,14 +1,14 @@
 -- What is owed for the same words and contents is one status and one text.
 use Rattle.std.proofs.Common.{◌≡◌, ℕ, ◌<◌, List, sym, ◌∙◌, subst, arith}
 use Rattle.definitions.specs.declared.answer.Answer.{Answer}
-use Rattle.definitions.specs.Calendar.{century_days}
-use Rattle.definitions.specs.Logs.{Records}
-use Rattle.definitions.specs.Lines.{LineFault}
-use Rattle.definitions.specs.Texts.{report}
-use Rattle.definitions.specs.Refusals.{log_fault_line}
-use Rattle.definitions.specs.Owed.{Owes, Bad_words, Decodes, OwesForLog, Too_large, Refused, Answered, IsDayAnswer, day_window, no_duts, status_of, receiver_name}
-use Rattle.definitions.proofs.AnswerLaws.{day_answer_is_one}
-use Rattle.definitions.proofs.DateLaws.{words_are_one}
+use Rattle.definitions.specs.time.Calendar.{century_days}
+use Rattle.definitions.specs.heard.Logs.{Records}
+use Rattle.formats.specs.LogLines.{LineFault}
+use Rattle.formats.specs.Reports.{report}
+use Rattle.formats.specs.Refusals.{log_fault_line}
+use Rattle.due.specs.Owed.{Owes, Bad_words, Decodes, OwesForLog, Too_large, Refused, Answered, IsDayAnswer, day_window, no_duts, status_of, receiver_name}
+use Rattle.due.proofs.DayLaws.{day_answer_is_one}
+use Rattle.due.proofs.DayLaws.{words_are_one}
 use Rattle.bank_files.specs.Told.{Told}
 use Rattle.bank.specs.RunEnds.{Printed}
 use Rattle.pulse_log.proofs.OnceLemmas.{one_log, one_refusal, log_not_refused}

@@ -3,16 +3,16 @@ use Rattle.std.proofs.Common.{◌≡◌, ℕ, ◌+◌, ◌/◌, ◌%◌, ◌<◌
 use Rattle.std.proofs.lemmas.Bool.{ltb-true, ltb-false, cases_order}
 use Rattle.std.proofs.Math.ListN.{get_or-append, length-append}
 use Rattle.std.proofs.lemmas.List.{get_or_push}
-use Rattle.definitions.specs.Costs.{total_below}
+use Rattle.definitions.specs.heard.Costs.{total_below}
 use Rattle.definitions.proofs.CostLaws.{total_below_none}
 use Rattle.std.proofs.lemmas.List.FromFn.{get_or-map-range_with_len}
 use Rattle.signal_base.specs.declared.station.Station.TheVariants.{Jjy}
-use Rattle.definitions.specs.Calendar.{century_minutes}
-use Rattle.definitions.specs.Allowed.{allowed, encoded_year}
-use Rattle.definitions.specs.Walks.{place_at}
+use Rattle.definitions.specs.time.Calendar.{century_minutes}
+use Rattle.definitions.specs.codes.Allowed.{allowed, encoded_year}
+use Rattle.definitions.specs.sequences.Walks.{place_at}
 use Rattle.definitions.proofs.PlaceLaws.{place_at-plain}
 use Rattle.bank.specs.Plain.{AreSets, IsSentSet, plain, sent_sets}
-use Rattle.definitions.specs.Owed.{jjy_alone}
+use Rattle.due.specs.Owed.{jjy_alone}
 use Rattle.bank.proofs.StationLaws.{sent_by_jjy, encoded_by_jjy}
 
 -- what a second of a minute carries, as the search looks it up

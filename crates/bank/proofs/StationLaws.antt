@@ -5,10 +5,10 @@ use Rattle.signal_base.specs.declared.station.Station.TheVariants.{Dcf77, Msf, W
 use Rattle.signal_base.specs.declared.station.Stations.{Stations}
 use Rattle.signal_base.specs.declared.window.Window.{Window}
 use Rattle.definitions.specs.declared.sequence.Sequence.{Sequence}
-use Rattle.definitions.specs.Calendar.{century_minutes}
-use Rattle.definitions.specs.Allowed.{encoded_year, is_heard, stations_of, IsSent}
-use Rattle.definitions.specs.Costs.{Costs, station_cost, sequence_cost}
-use Rattle.definitions.specs.Owed.{jjy_alone}
+use Rattle.definitions.specs.time.Calendar.{century_minutes}
+use Rattle.definitions.specs.codes.Allowed.{encoded_year, is_heard, stations_of, IsSent}
+use Rattle.definitions.specs.heard.Costs.{Costs, station_cost, sequence_cost}
+use Rattle.due.specs.Owed.{jjy_alone}
 
 -- no other station is heard
 each_encodes : (t : ℕ) → encoded_year Jjy t ≤ 2099 → (station : Station) → is_heard jjy_alone station ≡ true → encoded_year station t ≤ 2099

@@ -1,6 +1,6 @@
 -- What the words say.
 use Rattle.std.proofs.Common.{◌≡◌, ℕ, ◌<◌, List, [], ◌∷◌, length, get_or, refl, arith}
-use Rattle.definitions.specs.Texts.{date_text}
+use Rattle.definitions.specs.time.Spelling.{date_text}
 use Rattle.bank.specs.Words.{read_year, read_month, read_day}
 
 -- the numbers of a date come back from its text

@@ -1,6 +1,6 @@
 -- The least key and the least of the others, kept while keys come.
 use Rattle.std.specs.Prelude.{ℕ, ◌==◌, nat_lt, if◌then◌else◌, Option, Some, None}
-use Rattle.definitions.specs.Costs.{lesser_with}
+use Rattle.definitions.specs.heard.Costs.{lesser_with}
 
 -- the least with one more key
 abbrev pub first_with : Option ℕ → ℕ → Option ℕ

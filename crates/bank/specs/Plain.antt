@@ -4,10 +4,11 @@ use Rattle.signal_base.specs.declared.station.Station.TheVariants.{Jjy}
 use Rattle.signal_base.specs.declared.station.Stations.{Stations}
 use Rattle.signal_base.specs.declared.window.Window.{Window}
 use Rattle.definitions.specs.declared.sequence.Sequence.{Sequence}
-use Rattle.definitions.specs.Calendar.{century_minutes}
-use Rattle.definitions.specs.Allowed.{allowed, telegram_of, IsSent}
-use Rattle.definitions.specs.Walks.{IsWalkable, key_of}
-use Rattle.definitions.specs.Costs.{station_cost}
+use Rattle.definitions.specs.time.Calendar.{century_minutes}
+use Rattle.definitions.specs.codes.Allowed.{allowed, telegram_of, IsSent}
+use Rattle.definitions.specs.sequences.Walks.{IsWalkable}
+use Rattle.definitions.specs.sequences.Keys.{key_of}
+use Rattle.definitions.specs.heard.Costs.{station_cost}
 use Rattle.symbol_cost.specs.Grid.{cost_at}
 
 -- a sequence that isn't announced

@@ -1,15 +1,15 @@
 -- How a run ends, by what it answers.
 use Rattle.std.specs.Prelude.{ℕ, ◌≡◌, ◌<◌, ◌⊎◌, List, ◌++◌, codes, Result, Ok, Err}
 use Rattle.std.specs.Fmt.{decimal}
-use Rattle.definitions.specs.Texts.{line}
-use Rattle.definitions.specs.Refusals.{log_text, log_fault_line}
-use Rattle.definitions.specs.Lines as lines
+use Rattle.formats.specs.Bytes.{line}
+use Rattle.formats.specs.Refusals.{log_text, log_fault_line}
+use Rattle.formats.specs.LogLines as lines
 use Rattle.pulse_log.specs.declared.fault.LogFault.{LogFault}
 use Rattle.pulse_log.specs.declared.fault.LogFault.TheVariants.{Shape, NotRising, TooManyRecords}
 use Rattle.pulse_log.specs.declared.fault.LogFault.TheVariants as faults
 use Rattle.bank_files.specs.Told.{Told, Holds, Tells, AppendsFront, appended, output_name}
 use Rattle.bank_files.specs.Fault.{HasFault}
-use Rattle.definitions.specs.Owed.{IsDecode, Owes, OwesForLog, receiver_name}
+use Rattle.due.specs.Owed.{IsDecode, Owes, OwesForLog, receiver_name}
 use Rattle.bank.specs.declared.stop.Stop.{Stop}
 use Rattle.bank.specs.declared.stop.Stop.TheVariants.{Failed, NoMemory}
 

@@ -1,8 +1,8 @@
 //! The answer for one log over one day.
 
 ghost use Rattle.std.specs.Prelude.{◌≡◌, ◌<◌, IfOk};
-ghost use Rattle.definitions.specs.Calendar.{century_days};
-ghost use Rattle.definitions.specs.Owed.{IsDayAnswer, day_window};
+ghost use Rattle.definitions.specs.time.Calendar.{century_days};
+ghost use Rattle.due.specs.Owed.{IsDayAnswer, day_window};
 ghost use Rattle.texts.specs.Writing.{IsReportable};
 
 use crate::search::search;

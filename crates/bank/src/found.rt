@@ -1,7 +1,7 @@
 //! The keys of the first two sequences.
 
 ghost use Rattle.std.specs.Prelude.{◌≡◌};
-ghost use Rattle.definitions.specs.Costs.{lesser_with};
+ghost use Rattle.definitions.specs.heard.Costs.{lesser_with};
 ghost use Rattle.bank.specs.Found.{first_with, second_with};
 
 /// The least key that came, and the least of the others.

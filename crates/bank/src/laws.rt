@@ -1,7 +1,7 @@
 //! What a run owes is one status and one text.
 
 ghost use Rattle.std.specs.Prelude.{ℕ, ◌≡◌, List};
-ghost use Rattle.definitions.specs.Owed.{Owes};
+ghost use Rattle.due.specs.Owed.{Owes};
 
 /// For the same words and contents, at most one status and one text are owed.
 pub fn owed_is_one()

@@ -3,9 +3,9 @@
 ghost use Rattle.std.specs.Prelude.{◌≡◌, ◌≢◌, ◌<◌, ◌≤◌, ◌⊎◌, ℕ, List, length};
 ghost use Rattle.bank_files.specs.Told.{output_name};
 ghost use Rattle.bank_files.specs.Files.{KeepsCounts, KeepsOthers};
-ghost use Rattle.definitions.specs.Calendar.{century_days};
-ghost use Rattle.definitions.specs.Owed.{Owes, OwesForLog, day_window, no_duts, status_of};
-ghost use Rattle.definitions.specs.Texts.{report};
+ghost use Rattle.definitions.specs.time.Calendar.{century_days};
+ghost use Rattle.due.specs.Owed.{Owes, OwesForLog, day_window, no_duts, status_of};
+ghost use Rattle.formats.specs.Reports.{report};
 ghost use Rattle.texts.specs.Writing.{IsReportable};
 ghost use Rattle.texts.specs.Refusals.{IsShort, refusal_line};
 ghost use Rattle.bank.specs.Words.{texts_of};

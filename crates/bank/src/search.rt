@@ -2,11 +2,11 @@
 
 ghost use Rattle.std.specs.Prelude.{◌≡◌, ◌+◌, ◌*◌, ◌-◌, ◌/◌, ◌<◌, ◌≤◌, ℕ, IfOk, MatchOption, length, vec_len, slice_index, IfSome, option_map};
 ghost use Rattle.signal_base.specs.declared.station.Station.TheVariants.{Jjy};
-ghost use Rattle.definitions.specs.Calendar.{century_minutes};
-ghost use Rattle.definitions.specs.Ends.{AreLeastTwo, IsKey};
-ghost use Rattle.definitions.specs.Walks.{IsWalkable, place_at};
+ghost use Rattle.definitions.specs.time.Calendar.{century_minutes};
+ghost use Rattle.definitions.specs.answers.FirstTwo.{AreLeastTwo, IsKey};
+ghost use Rattle.definitions.specs.sequences.Walks.{IsWalkable, place_at};
 ghost use Rattle.bank.specs.Plain.{AreSets, IsPlain, IsSeen, IsSentSet, plain, row_cost, sent_sets};
-ghost use Rattle.definitions.specs.Owed.{jjy_alone};
+ghost use Rattle.due.specs.Owed.{jjy_alone};
 
 use crate::found::Found;
 use civil::Civil;

@@ -1,9 +1,10 @@
 //! The words of the command line: `decode DATE LOG`.
 
 ghost use Rattle.std.specs.Prelude.{◌≡◌, ◌<◌, ◌↔◌, ℕ, List, IfSome, IfNone, IsTrue, ◌+◌, ◌%◌, codes, length};
-ghost use Rattle.definitions.specs.Calendar.{century_days, day_at};
-ghost use Rattle.definitions.specs.Owed.{IsDecode, IsFileWord, day_text};
-ghost use Rattle.definitions.specs.Texts.{date_text};
+ghost use Rattle.definitions.specs.time.Calendar.{century_days, day_at};
+ghost use Rattle.due.specs.Owed.{IsDecode, IsFileWord};
+ghost use Rattle.definitions.specs.time.Spelling.{day_text};
+ghost use Rattle.definitions.specs.time.Spelling.{date_text};
 ghost use Rattle.bank.specs.Words.{read_day, read_month, read_year, texts_of};
 
 use civil::Civil;

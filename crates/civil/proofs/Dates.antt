@@ -14,7 +14,7 @@ use Rattle.definitions.specs.declared.day.Day.{Day}
 use Rattle.civil.specs.declared.days.Entry.{Entry}
 use Rattle.civil.specs.Days.{IsPlausible, AreEntries, entry_at, first_entry}
 use Rattle.civil.specs.Dated.{IsOn}
-use Rattle.definitions.specs.Calendar.{day_at, next_day, first_day, month_length, next_weekday}
+use Rattle.definitions.specs.time.Calendar.{day_at, next_day, first_day, month_length, next_weekday}
 
 -- the date of these numbers
 abbrev date_of : (y m d : ℕ) → y ≤ 9999 → 1 ≤ m → m ≤ 12 → 1 ≤ d → d ≤ month_length y m → Date

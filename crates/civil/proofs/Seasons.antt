@@ -3,8 +3,8 @@ use Rattle.std.proofs.Common.{◌≡◌, ℕ, zero, suc, ◌+◌, ◌/◌, ◌%�
 use Rattle.std.proofs.lemmas.Bool.{eqb-true, eqb-false, lt-leb, le-leb, eq-eqb, ne_eqb}
 use Rattle.std.proofs.lemmas.Bool.Decides.{nat_tests}
 use Rattle.definitions.specs.declared.day.Day.{Day}
-use Rattle.definitions.specs.Calendar.{day_at, next_day, minutes_per_day}
-use Rattle.definitions.specs.Summer.{season_at, is_eu_change, eu_change_within, us_begins, us_ends, us_code, us_code_on}
+use Rattle.definitions.specs.time.Calendar.{day_at, next_day, minutes_per_day}
+use Rattle.definitions.specs.time.Summer.{season_at, is_eu_change, eu_change_within, us_begins, us_ends, us_code, us_code_on}
 use Rattle.civil.specs.Seasons.{season_after, us_season, is_eu_change_day, IsNextOneOclock}
 
 -- the day beside a season

@@ -2,8 +2,8 @@
 use Rattle.std.specs.Prelude.{ℕ, ◌≡◌, ◌<◌, ◌≤◌, List, false, slice_index_or}
 use Rattle.definitions.specs.declared.day.Day.{Day}
 use Rattle.definitions.specs.declared.fields.Fields.{Fields}
-use Rattle.definitions.specs.Calendar.{day_at, first_day}
-use Rattle.definitions.specs.Summer.{eu_season}
+use Rattle.definitions.specs.time.Calendar.{day_at, first_day}
+use Rattle.definitions.specs.time.Summer.{eu_season}
 use Rattle.civil.specs.declared.days.Entry.{Entry}
 use Rattle.civil.specs.Seasons.{us_season}
 

@@ -1,8 +1,8 @@
 -- How summer time passes from day to day, and the minutes at which Europe's changes.
 use Rattle.std.specs.Prelude.{ℕ, ◌≡◌, ◌+◌, ◌%◌, ◌<◌, ◌≤◌, Bool, false, true, ◌||◌, if◌then◌else◌}
 use Rattle.definitions.specs.declared.day.Day.{Day}
-use Rattle.definitions.specs.Calendar.{minutes_per_day}
-use Rattle.definitions.specs.Summer.{season_at, is_last_sunday, us_begins, us_ends}
+use Rattle.definitions.specs.time.Calendar.{minutes_per_day}
+use Rattle.definitions.specs.time.Summer.{season_at, is_last_sunday, us_begins, us_ends}
 
 -- a season is on as the day after begins
 abbrev pub season_after : Bool → Bool → Bool → Bool

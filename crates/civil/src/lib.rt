@@ -2,9 +2,9 @@
 #![tactic(auto)]
 
 ghost use Rattle.std.specs.Prelude.{◌≡◌, ◌/◌, ◌<◌, ◌≤◌, ℕ, IfSome, IfNone, vec_len};
-ghost use Rattle.definitions.specs.Calendar.{century_days, century_minutes, day_at, is_leap_end, is_leap_month, utc_fields};
-ghost use Rattle.definitions.specs.Summer.{eu_change_within, is_eu_summer, us_code};
-ghost use Rattle.definitions.specs.Zones.{local_fields, zone_shift};
+ghost use Rattle.definitions.specs.time.Calendar.{century_days, century_minutes, day_at, is_leap_end, is_leap_month, utc_fields};
+ghost use Rattle.definitions.specs.time.Summer.{eu_change_within, is_eu_summer, us_code};
+ghost use Rattle.definitions.specs.time.Zones.{local_fields, zone_shift};
 ghost use Rattle.civil.specs.Days.{AreEntries, ArePlausible, IsPlausible, entry_at, table_days};
 ghost use Rattle.civil.specs.Seasons.{IsNextOneOclock};
 

@@ -1,8 +1,8 @@
 //! The days on which summer time begins and ends, in Europe and in the United States.
 
 ghost use Rattle.std.specs.Prelude.{◌≡◌, ◌<◌};
-ghost use Rattle.definitions.specs.Calendar.{is_leap_year, month_length};
-ghost use Rattle.definitions.specs.Summer.{is_first_sunday, is_last_sunday, is_second_sunday, is_sunday_of, us_begins, us_code_on, us_ends};
+ghost use Rattle.definitions.specs.time.Calendar.{is_leap_year, month_length};
+ghost use Rattle.definitions.specs.time.Summer.{is_first_sunday, is_last_sunday, is_second_sunday, is_sunday_of, us_begins, us_code_on, us_ends};
 ghost use Rattle.civil.specs.Seasons.{eu_season_after, is_eu_change_day, us_season_after};
 
 use definitions::Day;

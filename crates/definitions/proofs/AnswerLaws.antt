@@ -4,13 +4,13 @@ use Rattle.std.proofs.lemmas.Bool.{cases_eq}
 use Rattle.definitions.specs.declared.sequence.Sequence.{Sequence}
 use Rattle.definitions.specs.declared.answer.Answer.{Answer}
 use Rattle.definitions.specs.declared.answer.Answer.TheVariants.{Nothing, Decided, Undecided}
-use Rattle.definitions.specs.Calendar.{century_days, century_minutes, minute_length, is_leap_end}
-use Rattle.definitions.specs.Logs.{Records}
+use Rattle.definitions.specs.time.Calendar.{century_days, century_minutes, minute_length, is_leap_end}
+use Rattle.definitions.specs.heard.Logs.{Records}
 use Rattle.signal_base.specs.declared.window.Window.{Window}
-use Rattle.definitions.specs.Walks.{IsSequence, IsWalkable, IsLegal, key_of}
-use Rattle.definitions.specs.Costs.{Costs, sequence_cost}
-use Rattle.definitions.specs.Answers.{IsAdmitted, IsAnswer, IsDecided, IsUndecided, IsNext, IsWindowAnswer}
-use Rattle.definitions.specs.Owed.{IsOfDay, IsDayAnswer, day_cost}
+use Rattle.definitions.specs.sequences.Walks.{IsSequence, IsWalkable, IsLegal}
+use Rattle.definitions.specs.sequences.Keys.{key_of}
+use Rattle.definitions.specs.heard.Costs.{Costs, sequence_cost}
+use Rattle.definitions.specs.answers.Answers.{IsAdmitted, IsAnswer, IsDecided, IsUndecided, IsNext, IsWindowAnswer}
 use Rattle.definitions.proofs.KeyLaws.{same_sequence, cost_of-key_of, cost_of-le}
 
 -- two Bools are one or they aren't
@@ -129,17 +129,6 @@ module _ (admitted : Sequence → Type 0) (cost : Sequence → ℕ) (each : (q :
 pub answer_is_one : (admitted : Sequence → Type 0) (cost : Sequence → ℕ) → ((q : Sequence) → admitted q → IsSequence q)
     → (a b : Answer) → IsAnswer admitted cost a → IsAnswer admitted cost b → a ≡ b
 answer_is_one admitted cost each a b x y = one_answer admitted cost each a b x y
-
--- the sequences of a day of the century are sequences
-pub of_day : (day : ℕ) (q : Sequence) → day < century_days → IsOfDay day q → IsSequence q
-of_day day q century is =
-    let short : q.second < 60 = subst (λ a. q.second < minute_length a q.first) is.1 is.0.second in
-    let before = is.0.before_end in
-    record { first_minute = omega arith; first_second = omega arith }
-
--- a day's answer is the only one
-pub day_answer_is_one : (day : ℕ) (log : Records) (a b : Answer) → day < century_days → IsDayAnswer day log a → IsDayAnswer day log b → a ≡ b
-day_answer_is_one day log a b century x y = answer_is_one (IsOfDay day) (day_cost day log) (λ q is. of_day day q century is) a b x y
 
 length_bound : (b : Bool) → (if b then 61 else 60) ≤ 61
 length_bound true = omega arith

@@ -7,8 +7,8 @@ use Rattle.definitions.specs.declared.sequence.Sequence.{Sequence}
 use Rattle.definitions.specs.declared.block.Block.{Block}
 use Rattle.definitions.specs.declared.block.Span.{Span}
 use Rattle.definitions.specs.declared.block.Span.TheVariants.{Year, Day, Hour, Minute}
-use Rattle.definitions.specs.Calendar.{century_minutes}
-use Rattle.definitions.specs.Blocks.{span_end, block_from, blocks, items, children, children_by, IsBlock, IsIn, IsInNone, IsInOne}
+use Rattle.definitions.specs.time.Calendar.{century_minutes}
+use Rattle.definitions.specs.answers.Blocks.{span_end, block_from, blocks, items, children, children_by, IsBlock, IsIn, IsInNone, IsInOne}
 use Rattle.definitions.proofs.SpanLaws.{span_after, same_span, shorter, within_longer, Reaches, century_reaches, year_reaches, day_reaches, hour_reaches}
 
 -- lists put together

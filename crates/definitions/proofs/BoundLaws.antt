@@ -7,11 +7,12 @@ use Rattle.definitions.specs.declared.sequence.Sequence.{Sequence}
 use Rattle.definitions.specs.declared.block.Block.{Block}
 use Rattle.definitions.specs.declared.block.Span.{Span}
 use Rattle.definitions.specs.declared.block.Span.TheVariants.{Year, Day, Hour, Minute}
-use Rattle.definitions.specs.Allowed.{is_heard, stations_of}
-use Rattle.definitions.specs.Walks.{index_of, key_of, place_at, set_at, IsLegal, IsWalkable}
-use Rattle.definitions.specs.Dut1.{has_dut1, is_dut1_second, dut1_values, dut1_symbol}
-use Rattle.definitions.specs.Costs.{Costs, total_below, least, set_cost, lies_in_one_day, untied_cost, dut1_cost, least_dut1_cost, station_cost, sequence_cost}
-use Rattle.definitions.specs.Blocks.{IsBlock, IsIn, IsUnion, first_of, union_cost, IsUnionBound, IsMinuteBound, IsBound, IsBoundBy, block_key, span_end}
+use Rattle.definitions.specs.codes.Allowed.{is_heard, stations_of}
+use Rattle.definitions.specs.sequences.Keys.{index_of, key_of}
+use Rattle.definitions.specs.sequences.Walks.{place_at, set_at, IsLegal, IsWalkable}
+use Rattle.definitions.specs.heard.Dut1.{has_dut1, is_dut1_second, dut1_values, dut1_symbol}
+use Rattle.definitions.specs.heard.Costs.{Costs, total_below, least, set_cost, lies_in_one_day, untied_cost, dut1_cost, least_dut1_cost, station_cost, sequence_cost}
+use Rattle.definitions.specs.answers.Blocks.{IsBlock, IsIn, IsUnion, first_of, union_cost, IsUnionBound, IsMinuteBound, IsBound, IsBoundBy, block_key, span_end}
 use Rattle.definitions.proofs.KeyLaws.{same_sequence}
 use Rattle.definitions.proofs.PlaceLaws.{within_minute}
 use Rattle.definitions.proofs.SetLaws.{sent}

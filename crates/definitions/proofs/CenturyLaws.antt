@@ -2,8 +2,8 @@
 use Rattle.std.proofs.Common.{◌≡◌, ℕ, zero, suc, ◌+◌, ◌-◌, ◌*◌, ◌/◌, ◌%◌, ◌<◌, ◌≤◌, Bool, true, false, ◌&&◌, ◌==◌, nat_lt, nat_le, if◌then◌else◌, refl, sym, ap, subst, arith, eqb-true}
 use Rattle.std.proofs.lemmas.Bool.{and_parts, ltb-true, leb-true}
 use Rattle.definitions.specs.declared.day.Day.{Day}
-use Rattle.definitions.specs.Calendar.{first_day, next_day, day_at, is_leap_year}
-use Rattle.definitions.specs.Summer.{is_last_sunday, season_at, us_begins, us_ends}
+use Rattle.definitions.specs.time.Calendar.{first_day, next_day, day_at, is_leap_year}
+use Rattle.definitions.specs.time.Summer.{is_last_sunday, season_at, us_begins, us_ends}
 
 -- the number of 1 January of the year 2000 + i
 abbrev pub year_begin : ℕ → ℕ

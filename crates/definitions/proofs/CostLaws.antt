@@ -5,12 +5,12 @@ use Rattle.std.proofs.lemmas.List.Elements.{filter-append}
 use Rattle.signal_base.specs.declared.tuning.Tuning.{Tuning}
 use Rattle.definitions.specs.declared.level.Level.{Level}
 use Rattle.definitions.specs.declared.level.Level.TheVariants.{High, Low, Unknown}
-use Rattle.definitions.specs.Logs.{Records, low_count, count_level, level_at}
-use Rattle.definitions.specs.Receivers.{receptions}
-use Rattle.definitions.specs.Costs.{total_below, least, lesser_with, set_cost}
+use Rattle.definitions.specs.heard.Logs.{Records, low_count, count_level, level_at}
+use Rattle.definitions.specs.heard.Receivers.{receptions}
+use Rattle.definitions.specs.heard.Costs.{total_below, least, lesser_with, set_cost}
 use Rattle.signal_base.specs.declared.station.Station.{Station}
 use Rattle.signal_base.specs.Waveform.{symbol_count}
-use Rattle.definitions.specs.Vocabulary.{unscored}
+use Rattle.definitions.specs.codes.Vocabulary.{unscored}
 use Rattle.std.specs.List.{range_with_len}
 use Rattle.signal_base.specs.Mask.{has_bit}
 

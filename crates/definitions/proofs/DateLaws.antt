@@ -3,9 +3,9 @@ use Rattle.std.proofs.Common.{◌≡◌, ℕ, zero, suc, ◌+◌, ◌-◌, ◌*�
 use Rattle.std.proofs.lemmas.Bool.{ltb-true, cases_order}
 use Rattle.std.proofs.lemmas.Bool.Decides.{nat_tests}
 use Rattle.definitions.specs.declared.day.Day.{Day}
-use Rattle.definitions.specs.Calendar.{day_at, next_day, month_length, century_days}
-use Rattle.definitions.specs.Texts.{date_text}
-use Rattle.definitions.specs.Owed.{day_text, IsDecode}
+use Rattle.definitions.specs.time.Calendar.{day_at, next_day, month_length, century_days}
+use Rattle.definitions.specs.time.Spelling.{date_text}
+use Rattle.definitions.specs.time.Spelling.{day_text}
 
 -- years don't fall
 year_step : (d : Day) → d.year ≤ (next_day d).year
@@ -126,12 +126,3 @@ days_differ m n early also e =
     let z = early_year n (omega arith) in
     let same = same_date _ _ _ _ _ _ (omega (arith, y)) (omega (arith, d.month)) (omega (arith, d.day)) (omega (arith, z)) (omega (arith, f.month)) (omega (arith, f.day)) e in
     same_code m n (omega (arith, same))
-
-second_and_third : {X : Type 0} (xs : List X) (k a b c d : X) → xs ≡ k ∷ a ∷ b ∷ [] → xs ≡ k ∷ c ∷ d ∷ [] → (a ≡ c) × (b ≡ d)
-second_and_third xs k a b c d e f = (cc, cc)
-
--- words name one day and one file
-pub words_are_one : (words : List (List ℕ)) (m n : ℕ) (log other : List ℕ) → IsDecode words m log → IsDecode words n other → (m ≡ n) × (log ≡ other)
-words_are_one words m n log other is also =
-    let same = second_and_third words _ _ _ _ _ is.words_are also.words_are in
-    (days_differ m n is.of_century also.of_century same.0, same.1)

@@ -7,11 +7,11 @@ use Rattle.signal_base.specs.declared.station.Station.TheVariants.{Dcf77, Msf, W
 use Rattle.signal_base.specs.Mask.{has_bit}
 use Rattle.definitions.specs.declared.msf.MsfFacts.{MsfFacts}
 use Rattle.definitions.specs.declared.wwvb.WwvbFacts.{WwvbFacts}
-use Rattle.definitions.specs.Vocabulary.{free, only, no_second, weights_from, is_within}
-use Rattle.definitions.specs.Allowed.{allowed, msf_facts, wwvb_facts}
-use Rattle.definitions.specs.Dut1.{is_dut1_second, dut1_symbol, wwvb_sign}
-use Rattle.definitions.specs.Msf.{code_second, msf_second}
-use Rattle.definitions.specs.Wwvb.{wwvb_second}
+use Rattle.definitions.specs.codes.Vocabulary.{free, only, no_second, weights_from, is_within}
+use Rattle.definitions.specs.codes.Allowed.{allowed, msf_facts, wwvb_facts}
+use Rattle.definitions.specs.heard.Dut1.{is_dut1_second, dut1_symbol, wwvb_sign}
+use Rattle.definitions.specs.codes.Msf.{code_second, msf_second}
+use Rattle.definitions.specs.codes.Wwvb.{wwvb_second}
 use Rattle.definitions.proofs.SetLaws.{IsBit, either, flag, no_flag, carried}
 
 msf_free : (f : MsfFacts) (s : ℕ) → is_within 1 16 s ≡ true → msf_second f s ≡ free

@@ -2,11 +2,11 @@
 use Rattle.std.proofs.Common.{◌≡◌, ℕ, ◌+◌, ◌/◌, ◌<◌, ◌≤◌, true, refl, ap, arith}
 use Rattle.signal_base.specs.declared.station.Station.{Station}
 use Rattle.signal_base.specs.declared.station.Station.TheVariants.{Dcf77, Msf, Wwvb, Jjy}
-use Rattle.definitions.specs.Calendar.{day_at}
-use Rattle.definitions.specs.Summer.{season_at}
-use Rattle.definitions.specs.Allowed.{encoded_year, is_heard}
-use Rattle.definitions.specs.Walks.{place_at, IsWalkable}
-use Rattle.definitions.specs.Heard.{from_place, window_of}
+use Rattle.definitions.specs.time.Calendar.{day_at}
+use Rattle.definitions.specs.time.Summer.{season_at}
+use Rattle.definitions.specs.codes.Allowed.{encoded_year, is_heard}
+use Rattle.definitions.specs.sequences.Walks.{place_at, IsWalkable}
+use Rattle.definitions.specs.examples.Sequences.{from_place, window_of}
 use Rattle.definitions.proofs.PlaceLaws.{place_at-plain}
 
 year : encoded_year Dcf77 52595938 ≡ 2099

@@ -2,9 +2,10 @@
 use Rattle.std.proofs.Common.{◌≡◌, ◌≢◌, ℕ, ◌<◌, ◌≤◌, ◌⊎◌, inl, inr, Bool, true, false, nat_lt, Option, Some, None, refl, ap, subst, arith}
 use Rattle.std.proofs.lemmas.Bool.{ltb-true, ltb-false}
 use Rattle.definitions.specs.declared.sequence.Sequence.{Sequence}
-use Rattle.definitions.specs.Walks.{IsSequence, key_of}
-use Rattle.definitions.specs.Answers.{IsAnswer, IsDecided, IsUndecided}
-use Rattle.definitions.specs.Ends.{answer_from, answer_after, IsKey, AreLeastTwo}
+use Rattle.definitions.specs.sequences.Walks.{IsSequence}
+use Rattle.definitions.specs.sequences.Keys.{key_of}
+use Rattle.definitions.specs.answers.Answers.{IsAnswer, IsDecided, IsUndecided}
+use Rattle.definitions.specs.answers.FirstTwo.{answer_from, answer_after, IsKey, AreLeastTwo}
 use Rattle.definitions.proofs.KeyLaws.{cost_of-key_of, sequence_of-key_of, key_of_injective, cost_of-le}
 
 module _ (admitted : Sequence → Type 0) (cost : Sequence → ℕ) (each : (q : Sequence) → admitted q → IsSequence q) where

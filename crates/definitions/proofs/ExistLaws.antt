@@ -7,12 +7,14 @@ use Rattle.signal_base.specs.declared.station.Stations.{Stations}
 use Rattle.signal_base.specs.declared.window.Window.{Window}
 use Rattle.definitions.specs.declared.sequence.Sequence.{Sequence}
 use Rattle.definitions.specs.declared.answer.Answer.{Answer}
-use Rattle.definitions.specs.Calendar.{century_minutes, minute_length}
-use Rattle.definitions.specs.Allowed.{encoded_year, is_heard, IsSent}
-use Rattle.definitions.specs.Walks.{key_of, place_at, set_at, unannounced, IsWalkable, ShowsLeap, IsLegal, IsSequence}
-use Rattle.definitions.specs.Costs.{Costs, sequence_cost}
-use Rattle.definitions.specs.Answers.{IsAdmitted, IsWindowAnswer}
-use Rattle.definitions.specs.Ends.{AreLeastTwo, IsKey, answer_from, sequence_of}
+use Rattle.definitions.specs.time.Calendar.{century_minutes, minute_length}
+use Rattle.definitions.specs.codes.Allowed.{encoded_year, is_heard, IsSent}
+use Rattle.definitions.specs.sequences.Keys.{key_of}
+use Rattle.definitions.specs.sequences.Walks.{place_at, set_at, unannounced, IsWalkable, ShowsLeap, IsLegal, IsSequence}
+use Rattle.definitions.specs.heard.Costs.{Costs, sequence_cost}
+use Rattle.definitions.specs.answers.Answers.{IsAdmitted, IsWindowAnswer}
+use Rattle.definitions.specs.answers.FirstTwo.{AreLeastTwo, IsKey, answer_from}
+use Rattle.definitions.specs.sequences.Keys.{sequence_of}
 use Rattle.definitions.proofs.KeyLaws.{sequence_of-key_of, index_bound}
 use Rattle.definitions.proofs.EndLaws.{answer_is}
 use Rattle.definitions.proofs.AnswerLaws.{walkable_sequence}

@@ -4,12 +4,12 @@ use Rattle.std.proofs.lemmas.Bool.{lt-ltb}
 use Rattle.signal_base.specs.declared.station.Station.{Station}
 use Rattle.signal_base.specs.declared.station.Station.TheVariants.{Dcf77, Msf, Wwvb, Jjy}
 use Rattle.definitions.specs.declared.dcf77.DcfFacts.{DcfFacts}
-use Rattle.definitions.specs.Calendar.{century_minutes, day_at, minute_length}
-use Rattle.definitions.specs.Summer.{season_at, eu_change_within}
-use Rattle.definitions.specs.Allowed.{allowed, dcf_facts, encoded_year, is_heard}
-use Rattle.definitions.specs.Dcf77.{dcf_second}
-use Rattle.definitions.specs.Walks.{place_at, next_place, set_at, unannounced, IsWalkable, IsLegal}
-use Rattle.definitions.specs.Heard.{window_of, june_announced}
+use Rattle.definitions.specs.time.Calendar.{century_minutes, day_at, minute_length}
+use Rattle.definitions.specs.time.Summer.{season_at, eu_change_within}
+use Rattle.definitions.specs.codes.Allowed.{allowed, dcf_facts, encoded_year, is_heard}
+use Rattle.definitions.specs.codes.Dcf77.{dcf_second}
+use Rattle.definitions.specs.sequences.Walks.{place_at, next_place, set_at, unannounced, IsWalkable, IsLegal}
+use Rattle.definitions.specs.examples.Sequences.{window_of, june_announced}
 
 short : (b : Bool) → minute_length b 218880 ≡ 60
 unfolding day_at

@@ -2,9 +2,10 @@
 use Rattle.std.proofs.Common.{◌≡◌, ℕ, ◌+◌, ◌*◌, ◌/◌, ◌%◌, ◌^◌, ◌<◌, ◌≤◌, Bool, true, false, refl, sym, ap, ◌∙◌, arith}
 use Rattle.std.proofs.lemmas.Bool.Decides.{nat_tests}
 use Rattle.definitions.specs.declared.sequence.Sequence.{Sequence}
-use Rattle.definitions.specs.Calendar.{century_minutes}
-use Rattle.definitions.specs.Walks.{IsSequence, index_of, index_end, key_of}
-use Rattle.definitions.specs.Ends.{sequence_at, sequence_of, cost_of}
+use Rattle.definitions.specs.time.Calendar.{century_minutes}
+use Rattle.definitions.specs.sequences.Walks.{IsSequence}
+use Rattle.definitions.specs.sequences.Keys.{index_of, index_end, key_of}
+use Rattle.definitions.specs.sequences.Keys.{sequence_at, sequence_of, cost_of}
 
 by_fields : (f s f' s' : ℕ) (a a' : Bool) → f ≡ f' → s ≡ s' → a ≡ a' → ◌≡◌ {A = Sequence} (record { first = f; second = s; announced = a }) (record { first = f'; second = s'; announced = a' })
 by_fields f s f' s' a a' e g h = cc

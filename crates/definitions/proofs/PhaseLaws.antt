@@ -1,7 +1,7 @@
 -- The first peak of a function is its greatest value, and the first of them.
 use Rattle.std.proofs.Common.{◌≡◌, ℕ, zero, suc, ◌<◌, ◌≤◌, inl, inr, Bool, true, false, nat_lt, if◌then◌else◌, refl, sym, subst, arith}
 use Rattle.std.proofs.lemmas.Bool.{ltb-true, ltb-false, cases_order}
-use Rattle.definitions.specs.Phase.{first_peak}
+use Rattle.definitions.specs.heard.Phase.{first_peak}
 
 -- the number p is the first of those up to n at which f is greatest
 pub record IsFirstPeak (f : ℕ → ℕ) (n p : ℕ) : Type 0 where

@@ -2,8 +2,8 @@
 use Rattle.std.proofs.Common.{◌≡◌, ℕ, zero, suc, ◌+◌, ◌/◌, ◌%◌, ◌<◌, Bool, true, false, ◌&&◌, nat_lt, if◌then◌else◌, refl, ap, ◌∙◌, arith}
 use Rattle.std.proofs.lemmas.Bool.{ltb-true, ltb-false}
 use Rattle.definitions.specs.declared.sequence.Sequence.{Sequence}
-use Rattle.definitions.specs.Calendar.{minute_length, is_leap_end}
-use Rattle.definitions.specs.Walks.{next_place, place_at}
+use Rattle.definitions.specs.time.Calendar.{minute_length, is_leap_end}
+use Rattle.definitions.specs.sequences.Walks.{next_place, place_at}
 
 -- the second that comes n seconds after the start of a minute, where no minute has a second 60
 abbrev pub plain_place : ℕ → ℕ → ℕ × ℕ

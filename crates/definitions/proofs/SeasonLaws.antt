@@ -3,9 +3,9 @@ use Rattle.std.proofs.Common.{◌≡◌, ℕ, ◌+◌, ◌-◌, ◌/◌, ◌%◌
 use Rattle.std.proofs.lemmas.Bool.{and_parts, ltb-true, ltb-false, leb-true}
 use Rattle.std.proofs.lemmas.Bool.Decides.{nat_tests}
 use Rattle.definitions.specs.declared.day.Day.{Day}
-use Rattle.definitions.specs.Calendar.{day_at, utc_fields, century_minutes}
-use Rattle.definitions.specs.Summer.{is_last_sunday, season_at, us_begins, us_ends, us_code}
-use Rattle.definitions.specs.Seasons.{IsTheDay, HasSummer, HasAmericanSummer, american_code, change_on}
+use Rattle.definitions.specs.time.Calendar.{day_at, utc_fields, century_minutes}
+use Rattle.definitions.specs.time.Summer.{is_last_sunday, season_at, us_begins, us_ends, us_code}
+use Rattle.definitions.specs.time.Seasons.{IsTheDay, HasSummer, HasAmericanSummer, american_code, change_on}
 use Rattle.definitions.proofs.CenturyLaws.{year_begin, sunday_by, march_day, october_day, day_of_state, us_first, us_last, us_known, known, year_of}
 
 abbrev state : ℕ → Day × Bool

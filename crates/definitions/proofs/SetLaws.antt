@@ -8,14 +8,14 @@ use Rattle.definitions.specs.declared.dcf77.DcfFacts.{DcfFacts}
 use Rattle.definitions.specs.declared.msf.MsfFacts.{MsfFacts}
 use Rattle.definitions.specs.declared.wwvb.WwvbFacts.{WwvbFacts}
 use Rattle.definitions.specs.declared.jjy.JjyFacts.{JjyFacts}
-use Rattle.definitions.specs.Vocabulary.{only, free, no_second, Field, digit_bit, weight_of, carried_bit, ones, is_within}
-use Rattle.definitions.specs.Calendar.{minute_length, minutes_per_day}
-use Rattle.definitions.specs.Summer.{season_at, us_begins, us_ends, us_code}
-use Rattle.definitions.specs.Allowed.{IsSetOf, allowed, dcf_facts, msf_facts, wwvb_facts, jjy_facts}
-use Rattle.definitions.specs.Dcf77 as dcf
-use Rattle.definitions.specs.Msf as msf
-use Rattle.definitions.specs.Wwvb as wwvb
-use Rattle.definitions.specs.Jjy as jjy
+use Rattle.definitions.specs.codes.Vocabulary.{only, free, no_second, Field, digit_bit, weight_of, carried_bit, ones, is_within}
+use Rattle.definitions.specs.time.Calendar.{minute_length, minutes_per_day}
+use Rattle.definitions.specs.time.Summer.{season_at, us_begins, us_ends, us_code}
+use Rattle.definitions.specs.codes.Allowed.{IsSetOf, allowed, dcf_facts, msf_facts, wwvb_facts, jjy_facts}
+use Rattle.definitions.specs.codes.Dcf77 as dcf
+use Rattle.definitions.specs.codes.Msf as msf
+use Rattle.definitions.specs.codes.Wwvb as wwvb
+use Rattle.definitions.specs.codes.Jjy as jjy
 
 -- what holds of both holds of either
 pub either : (P : ℕ → Type 0) (c : Bool) (a b : ℕ) → P a → P b → P (if c then a else b)

@@ -3,8 +3,8 @@ use Rattle.std.proofs.Common.{◌≡◌, ℕ, zero, suc, ◌+◌, ◌-◌, ◌*�
 use Rattle.std.proofs.lemmas.Bool.{cases_order}
 use Rattle.definitions.specs.declared.block.Span.{Span}
 use Rattle.definitions.specs.declared.block.Span.TheVariants.{Year, Day, Hour, Minute}
-use Rattle.definitions.specs.Calendar.{day_at, century_minutes}
-use Rattle.definitions.specs.Blocks.{span_end}
+use Rattle.definitions.specs.time.Calendar.{day_at, century_minutes}
+use Rattle.definitions.specs.answers.Blocks.{span_end}
 use Rattle.definitions.proofs.CenturyLaws.{year_begin, known, year_of}
 
 -- the number of the year of a minute, from 2000 on

@@ -5,9 +5,9 @@ use Rattle.signal_base.specs.declared.station.Station.{Station}
 use Rattle.signal_base.specs.declared.station.Station.TheVariants.{Dcf77, Msf, Wwvb, Jjy}
 use Rattle.signal_base.specs.Mask.{has_bit}
 use Rattle.signal_base.specs.Waveform.{symbol_count}
-use Rattle.definitions.specs.Vocabulary.{free, unscored}
-use Rattle.definitions.specs.Allowed.{IsSetOf}
-use Rattle.definitions.specs.Costs.{lesser_with, set_cost}
+use Rattle.definitions.specs.codes.Vocabulary.{free, unscored}
+use Rattle.definitions.specs.codes.Allowed.{IsSetOf}
+use Rattle.definitions.specs.heard.Costs.{lesser_with, set_cost}
 use Rattle.definitions.proofs.SetLaws.{IsBit}
 use Rattle.definitions.proofs.Dut1Laws.{in_free}
 use Rattle.definitions.proofs.CostLaws.{least_below, least_below-in, least_below-out}

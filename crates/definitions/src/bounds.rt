@@ -7,10 +7,11 @@ ghost use Rattle.signal_base.specs.declared.window.Window.{Window};
 ghost use Rattle.definitions.specs.declared.block.Block.{Block};
 ghost use Rattle.definitions.specs.declared.block.Span.TheVariants.{Minute};
 ghost use Rattle.definitions.specs.declared.sequence.Sequence.{Sequence};
-ghost use Rattle.definitions.specs.Calendar.{century_minutes};
-ghost use Rattle.definitions.specs.Walks.{IsLegal, key_of};
-ghost use Rattle.definitions.specs.Costs.{Costs, sequence_cost};
-ghost use Rattle.definitions.specs.Blocks.{IsBlock, IsBound, IsIn, IsInOne, IsUnion, block_key, children, items};
+ghost use Rattle.definitions.specs.time.Calendar.{century_minutes};
+ghost use Rattle.definitions.specs.sequences.Walks.{IsLegal};
+ghost use Rattle.definitions.specs.sequences.Keys.{key_of};
+ghost use Rattle.definitions.specs.heard.Costs.{Costs, sequence_cost};
+ghost use Rattle.definitions.specs.answers.Blocks.{IsBlock, IsBound, IsIn, IsInOne, IsUnion, block_key, children, items};
 
 /// There is at most one union of a block's sets, and at most one bound.
 pub fn bound_is_one()

@@ -7,18 +7,18 @@ ghost use Rattle.signal_base.specs.Mask.{has_bit};
 ghost use Rattle.signal_base.specs.Waveform.{symbol_count, waveform};
 ghost use Rattle.definitions.specs.declared.sequence.Sequence.{Sequence};
 ghost use Rattle.definitions.specs.declared.answer.Answer.{Answer};
-ghost use Rattle.definitions.specs.Calendar.{day_at, century_days, century_minutes, minute_length};
-ghost use Rattle.definitions.specs.Vocabulary.{free, no_second};
-ghost use Rattle.definitions.specs.Allowed.{IsSetOf, allowed};
-ghost use Rattle.definitions.specs.Dut1.{dut1_symbol, is_dut1_second};
-ghost use Rattle.definitions.specs.Logs.{Records};
-ghost use Rattle.definitions.specs.Receivers.{Receiver};
-ghost use Rattle.definitions.specs.Phase.{fit, phase_of};
-ghost use Rattle.definitions.specs.Costs.{Costs};
-ghost use Rattle.definitions.specs.Answers.{IsWindowAnswer};
-ghost use Rattle.definitions.specs.Walks.{IsSequence, ceiling_key, key_of};
-ghost use Rattle.definitions.specs.Ends.{sequence_of, cost_of};
-ghost use Rattle.definitions.specs.Owed.{IsDayAnswer, IsDecode, day_text};
+ghost use Rattle.definitions.specs.time.Calendar.{day_at, century_days, century_minutes, minute_length};
+ghost use Rattle.definitions.specs.codes.Vocabulary.{free, no_second};
+ghost use Rattle.definitions.specs.codes.Allowed.{IsSetOf, allowed};
+ghost use Rattle.definitions.specs.heard.Dut1.{dut1_symbol, is_dut1_second};
+ghost use Rattle.definitions.specs.heard.Receivers.{Receiver};
+ghost use Rattle.definitions.specs.heard.Phase.{fit, phase_of};
+ghost use Rattle.definitions.specs.heard.Costs.{Costs};
+ghost use Rattle.definitions.specs.answers.Answers.{IsWindowAnswer};
+ghost use Rattle.definitions.specs.sequences.Walks.{IsSequence};
+ghost use Rattle.definitions.specs.sequences.Keys.{ceiling_key, key_of};
+ghost use Rattle.definitions.specs.sequences.Keys.{sequence_of, cost_of};
+ghost use Rattle.definitions.specs.time.Spelling.{day_text};
 
 /// Two different sequences have different keys, whatever they cost, and a key gives its sequence and cost back. The
 /// ceiling's key tells the keys of costs up to the ceiling from those beyond.
@@ -28,12 +28,6 @@ pub fn keys_differ()
     ensures cost { (c : ℕ) (q : Sequence) → IsSequence q → cost_of (key_of c q) ≡ c }
     ensures within { (ceiling c : ℕ) (q : Sequence) → IsSequence q → c ≤ ceiling → key_of c q ≤ ceiling_key ceiling }
     ensures beyond { (ceiling c : ℕ) (q : Sequence) → IsSequence q → ceiling < c → ceiling_key ceiling < key_of c q }
-{}
-
-/// There is at most one answer for a day and a log.
-pub fn answer_is_one()
-    ensures { (day : ℕ) (log : Records) (a b : Answer) → day < century_days
-        → IsDayAnswer day log a → IsDayAnswer day log b → a ≡ b }
 {}
 
 /// There is exactly one answer for a window, costs and a ceiling.
@@ -54,12 +48,6 @@ pub fn phase_fits_best()
 pub fn days_differ()
     ensures { (m n : ℕ) → m < century_days → n < century_days
         → day_text (day_at m) ≡ day_text (day_at n) → m ≡ n }
-{}
-
-/// Words ask for one day and one log.
-pub fn words_are_one()
-    ensures { (words : List (List ℕ)) (m n : ℕ) (log other : List ℕ)
-        → IsDecode words m log → IsDecode words n other → (m ≡ n) × (log ≡ other) }
 {}
 
 /// Different symbols of a station have different waveforms.

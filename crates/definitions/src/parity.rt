@@ -4,8 +4,8 @@ ghost use Rattle.std.specs.Prelude.{◌≡◌, ◌+◌, ◌%◌, sum_by};
 ghost use Rattle.std.specs.List.{range_with_len};
 ghost use Rattle.definitions.specs.declared.dcf77.DcfFacts.{DcfFacts};
 ghost use Rattle.definitions.specs.declared.msf.MsfFacts.{MsfFacts};
-ghost use Rattle.definitions.specs.Dcf77.{dcf_bit};
-ghost use Rattle.definitions.specs.Msf.{bit_a, bit_b};
+ghost use Rattle.definitions.specs.codes.Dcf77.{dcf_bit};
+ghost use Rattle.definitions.specs.codes.Msf.{bit_a, bit_b};
 
 /// In each telegram of DCF77 each group of seconds that ends with a parity bit has an even number of ones: 21 to 28,
 /// 29 to 35, 36 to 58.

@@ -4,8 +4,8 @@
 
 ghost use Rattle.std.specs.Prelude.{◌≡◌, ◌+◌, ◌%◌, ◌<◌, ◌≤◌, IfSome, IsTrue, length, map, nat_lt};
 ghost use Rattle.std.specs.List.{list_all, range_with_len};
-ghost use Rattle.definitions.specs.Vocabulary.{carried_bit, digit_bit, ones, only, weight_of};
-ghost use Rattle.definitions.specs.Jjy.{is_call_minute, is_marked, jjy_bit, jjy_fields, jjy_second};
+ghost use Rattle.definitions.specs.codes.Vocabulary.{carried_bit, digit_bit, ones, only, weight_of};
+ghost use Rattle.definitions.specs.codes.Jjy.{is_call_minute, is_marked, jjy_bit, jjy_fields, jjy_second};
 ghost use Rattle.jjy_code.specs.Facts.{AreInRange};
 
 pub use definitions::JjyFacts;

@@ -4,7 +4,7 @@ use Rattle.std.proofs.Math.Numerals.{one-add, add-one}
 use Rattle.std.proofs.lemmas.Bool.{ltb-true, ltb-false, ne_eqb}
 use Rattle.std.proofs.lemmas.List.{take_rest, drop_all}
 use Rattle.std.specs.List.{prefix_len, position}
-use Rattle.definitions.specs.Lines.{lines_of, onto_first, without_cr}
+use Rattle.formats.specs.LogLines.{lines_of, onto_first, without_cr}
 
 -- how many bytes stand before the first LF
 abbrev pub before_end : List ℕ → ℕ

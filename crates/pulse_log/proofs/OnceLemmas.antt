@@ -6,8 +6,8 @@ use Rattle.std.proofs.lemmas.Fmt.{decimal_is_IsNumeral, decimal_injective}
 use Rattle.std.proofs.lemmas.List.{get_or_append_left}
 use Rattle.std.proofs.lemmas.Str.Parse.{digit_at}
 use Rattle.definitions.specs.declared.level.Level.{Level}
-use Rattle.definitions.specs.Logs.{Records}
-use Rattle.definitions.specs.Lines.{lines_of, without_cr, letter, most_records, IsSkipped, IsRecord, IsLater, ReadsOn, IsLog, LineFault, Shape, NotRising, TooManyRecords, IsBad, IsRefused}
+use Rattle.definitions.specs.heard.Logs.{Records}
+use Rattle.formats.specs.LogLines.{lines_of, without_cr, letter, most_records, IsSkipped, IsRecord, IsLater, ReadsOn, IsLog, LineFault, Shape, NotRising, TooManyRecords, IsBad, IsRefused}
 use Rattle.pulse_log.specs.declared.fault.LogFault.{LogFault}
 use Rattle.pulse_log.specs.declared.fault.LogFault.TheVariants as faults
 use Rattle.pulse_log.specs.Line.{SpellsRecord}

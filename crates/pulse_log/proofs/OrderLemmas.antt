@@ -4,8 +4,8 @@ use Rattle.std.proofs.lemmas.List.{get_or_append_left, get_or_push, length_push}
 use Rattle.std.proofs.lemmas.Bool.{cases_lt}
 use Rattle.std.proofs.lemmas.List.Elements.{All-push}
 use Rattle.definitions.specs.declared.level.Level.{Level}
-use Rattle.definitions.specs.Logs.{Records}
-use Rattle.definitions.specs.Lines.{most_records, IsLater}
+use Rattle.definitions.specs.heard.Logs.{Records}
+use Rattle.formats.specs.LogLines.{most_records, IsLater}
 use Rattle.pulse_log.specs.Rising.{IsRising, IsOrderly}
 
 -- what is later than all is later than the last

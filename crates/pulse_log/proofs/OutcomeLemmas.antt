@@ -9,8 +9,8 @@ use Rattle.std.proofs.lemmas.Slice.Eq.{bytes_eq-Decides}
 use Rattle.std.proofs.lemmas.Str.Parse.{numerals_by_value, tells_digits}
 use Rattle.definitions.specs.declared.level.Level.{Level}
 use Rattle.definitions.specs.declared.level.Level.TheVariants.{High, Low, Unknown}
-use Rattle.definitions.specs.Logs.{Records}
-use Rattle.definitions.specs.Lines.{lines_of, without_cr, letter, most_records, IsSkipped, IsRecord, IsLater, ReadsOn, LineFault, Shape, NotRising, TooManyRecords, IsBad}
+use Rattle.definitions.specs.heard.Logs.{Records}
+use Rattle.formats.specs.LogLines.{lines_of, without_cr, letter, most_records, IsSkipped, IsRecord, IsLater, ReadsOn, LineFault, Shape, NotRising, TooManyRecords, IsBad}
 use Rattle.pulse_log.specs.Line.{SpellsRecord}
 use Rattle.pulse_log.specs.Outcome.{HasOutcome}
 use Rattle.pulse_log.proofs.TimeLemmas.{SpellsRecord-parts}

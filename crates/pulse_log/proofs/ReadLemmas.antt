@@ -2,8 +2,8 @@
 use Rattle.std.proofs.Common.{◌≡◌, ℕ, ◌+◌, ◌<◌, inl, inr, List, [], ◌∷◌, ◌++◌, length, refl, sym, ap, ◌∙◌, subst, append_assoc, append-nil}
 use Rattle.std.proofs.lemmas.List.{length_push}
 use Rattle.definitions.specs.declared.level.Level.{Level}
-use Rattle.definitions.specs.Logs.{Records}
-use Rattle.definitions.specs.Lines.{lines_of, most_records, IsSkipped, IsRecord, IsLater, ReadsOn, IsLog, LineFault, IsBad, IsRefused}
+use Rattle.definitions.specs.heard.Logs.{Records}
+use Rattle.formats.specs.LogLines.{lines_of, most_records, IsSkipped, IsRecord, IsLater, ReadsOn, IsLog, LineFault, IsBad, IsRefused}
 use Rattle.pulse_log.specs.Rising.{IsOrderly}
 use Rattle.pulse_log.proofs.OnceLemmas.{Goes, ReadsOn-push}
 use Rattle.pulse_log.proofs.OrderLemmas.{IsOrderly-push, IsOrderly-nil}

@@ -10,7 +10,7 @@ use Rattle.std.proofs.lemmas.List.{same_from_push, take_all}
 use Rattle.std.proofs.lemmas.Str.Parse.{IsNumeralModel, numerals_by_value, tells_digits, digits_value_short, digit_at}
 use Rattle.definitions.specs.declared.level.Level.{Level}
 use Rattle.definitions.specs.declared.level.Level.TheVariants.{High, Low, Unknown}
-use Rattle.definitions.specs.Lines.{letter}
+use Rattle.formats.specs.LogLines.{letter}
 use Rattle.pulse_log.specs.Line.{SpellsTime, SpellsRecord}
 
 own : IsNumeralModel (AllDigits 10) (digits_value 10)

@@ -2,7 +2,7 @@
 use Rattle.std.specs.Prelude.{◌≡◌, ℕ, ◌<◌, List, [], ◌∷◌, ◌++◌}
 use Rattle.std.specs.Fmt.{decimal}
 use Rattle.definitions.specs.declared.level.Level.{Level}
-use Rattle.definitions.specs.Lines.{IsSkipped, IsRecord, letter}
+use Rattle.formats.specs.LogLines.{IsSkipped, IsRecord, letter}
 use Rattle.pulse_log.specs.declared.line.Line.{Line}
 use Rattle.pulse_log.specs.declared.line.Line.TheVariants.{Skipped, Record, Malformed}
 

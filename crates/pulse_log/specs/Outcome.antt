@@ -1,7 +1,7 @@
 -- What becomes of a text.
 use Rattle.std.specs.Prelude.{ℕ, List, ◌⊎◌}
-use Rattle.definitions.specs.Logs.{Records}
-use Rattle.definitions.specs.Lines.{IsLog, IsRefused, LineFault}
+use Rattle.definitions.specs.heard.Logs.{Records}
+use Rattle.formats.specs.LogLines.{IsLog, IsRefused, LineFault}
 
 -- it is a log, or it is refused for its first bad line
 abbrev pub HasOutcome : List ℕ → Type 0

@@ -2,7 +2,7 @@
 use Rattle.std.specs.Prelude.{ℕ, ◌<◌, ◌≤◌, nat_lt, if◌then◌else◌, length, take, slice_index_or}
 use Rattle.definitions.specs.declared.level.Level.{Level}
 use Rattle.definitions.specs.declared.level.Level.TheVariants.{Unknown}
-use Rattle.definitions.specs.Logs.{Records, last_level}
+use Rattle.definitions.specs.heard.Logs.{Records, last_level}
 
 -- the first n records are not after this millisecond, and all others are
 pub record StandsAfter (log : Records) (ms n : ℕ) : Type 0 where

@@ -1,8 +1,8 @@
 -- What reading a log owes: which fault stands for a bad line, and when it may come.
 use Rattle.std.specs.Prelude.{◌≡◌, ℕ, List, ◌⊎◌, Result, Err}
-use Rattle.definitions.specs.Logs.{Records}
-use Rattle.definitions.specs.Lines.{LineFault, IsRefused}
-use Rattle.definitions.specs.Lines as lines
+use Rattle.definitions.specs.heard.Logs.{Records}
+use Rattle.formats.specs.LogLines.{LineFault, IsRefused}
+use Rattle.formats.specs.LogLines as lines
 use Rattle.pulse_log.specs.declared.fault.LogFault.{LogFault}
 use Rattle.pulse_log.specs.declared.fault.LogFault.TheVariants as faults
 

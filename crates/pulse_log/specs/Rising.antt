@@ -1,8 +1,8 @@
 -- What each log keeps: its times rise and are small, and there aren't too many.
 use Rattle.std.specs.Prelude.{ℕ, ◌<◌, ◌≤◌, length, All, slice_index_or}
 use Rattle.definitions.specs.declared.level.Level.{Level}
-use Rattle.definitions.specs.Logs.{Records}
-use Rattle.definitions.specs.Lines.{most_records}
+use Rattle.definitions.specs.heard.Logs.{Records}
+use Rattle.formats.specs.LogLines.{most_records}
 
 -- a record's time is below that of each record after it
 abbrev pub IsRising : Records → Type 0

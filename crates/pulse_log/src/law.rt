@@ -1,8 +1,8 @@
 //! A law of the grammar: what reading a text gives is settled by the text.
 
 ghost use Rattle.std.specs.Prelude.{◌≡◌, ℕ, List};
-ghost use Rattle.definitions.specs.Logs.{Records};
-ghost use Rattle.definitions.specs.Lines.{IsLog, IsRefused, LineFault};
+ghost use Rattle.definitions.specs.heard.Logs.{Records};
+ghost use Rattle.formats.specs.LogLines.{IsLog, IsRefused, LineFault};
 ghost use Rattle.pulse_log.specs.Outcome.{HasOutcome};
 ghost use Rattle.pulse_log.specs.Rising.{IsOrderly};
 

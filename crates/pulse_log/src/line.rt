@@ -2,7 +2,7 @@
 
 ghost use Rattle.std.specs.Prelude.{◌≡◌, ◌≢◌, ◌==◌, ℕ, ◌<◌, ◌∷◌, length, IfSome, IfNone};
 ghost use Rattle.std.specs.List.{position};
-ghost use Rattle.definitions.specs.Lines.{lines_of, without_cr, letter};
+ghost use Rattle.formats.specs.LogLines.{lines_of, without_cr, letter};
 ghost use Rattle.pulse_log.specs.Line.{SpellsTime, SpellsRecord, Says};
 
 use definitions::Level;

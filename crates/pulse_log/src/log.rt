@@ -1,7 +1,7 @@
 //! A log that was read, and what it is asked.
 
 ghost use Rattle.std.specs.Prelude.{◌≡◌, ◌+◌, ◌-◌, ◌<◌, ◌≤◌, [], length, slice_get, IsTrue, ◌↔◌};
-ghost use Rattle.definitions.specs.Logs.{level_at, low_count};
+ghost use Rattle.definitions.specs.heard.Logs.{level_at, low_count};
 
 use crate::look;
 use definitions::Level;
@@ -15,7 +15,7 @@ pub struct Log {
 }
 
 impl Model for Log {
-    ghost use Rattle.definitions.specs.Logs.{Records};
+    ghost use Rattle.definitions.specs.heard.Logs.{Records};
     ghost use Rattle.pulse_log.specs.Rising.{IsOrderly};
 
     ghost Value = { Records };

@@ -1,7 +1,7 @@
 //! The look-ups, over the records as a slice.
 
 ghost use Rattle.std.specs.Prelude.{◌≡◌, ◌+◌, ◌-◌, ◌<◌, ◌≤◌, length};
-ghost use Rattle.definitions.specs.Logs.{level_at, low_count};
+ghost use Rattle.definitions.specs.heard.Logs.{level_at, low_count};
 ghost use Rattle.pulse_log.specs.Rising.{IsRising};
 ghost use Rattle.pulse_log.specs.Place.{StandsAfter, level_after};
 

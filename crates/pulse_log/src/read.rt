@@ -1,8 +1,8 @@
 //! Reading a log's text.
 
 ghost use Rattle.std.specs.Prelude.{◌≡◌, ℕ, ◌≤◌, ◌<◌, ◌↔◌, length, IsTrue, IfOk, IfErr};
-ghost use Rattle.definitions.specs.Logs.{Records};
-ghost use Rattle.definitions.specs.Lines.{IsLater, IsLog, IsRefused, LineFault};
+ghost use Rattle.definitions.specs.heard.Logs.{Records};
+ghost use Rattle.formats.specs.LogLines.{IsLater, IsLog, IsRefused, LineFault};
 ghost use Rattle.pulse_log.specs.Reading.{IsFaultOf, IsUnlessNoMemory, fault_at};
 ghost use Rattle.pulse_log.specs.Rising.{IsOrderly};
 

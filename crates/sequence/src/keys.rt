@@ -2,8 +2,10 @@
 
 ghost use Rattle.std.specs.Prelude.{◌≡◌, ◌%◌, ◌^◌, ◌<◌, ◌≤◌};
 ghost use Rattle.std.specs.Option.{ForSome};
-ghost use Rattle.definitions.specs.Walks.{IsSequence, index_of, key_of};
-ghost use Rattle.definitions.specs.Ends.{answer_from, cost_of, sequence_of};
+ghost use Rattle.definitions.specs.sequences.Walks.{IsSequence};
+ghost use Rattle.definitions.specs.sequences.Keys.{index_of, key_of};
+ghost use Rattle.definitions.specs.answers.FirstTwo.{answer_from};
+ghost use Rattle.definitions.specs.sequences.Keys.{cost_of, sequence_of};
 
 use definitions::{Answer, Sequence};
 

@@ -2,8 +2,8 @@
 
 ghost use Rattle.std.specs.Prelude.{◌≡◌, ◌<◌, IfSome, is_some, nat_lt};
 ghost use Rattle.signal_base.specs.declared.station.Station.TheVariants.{Jjy};
-ghost use Rattle.definitions.specs.Calendar.{century_minutes, minute_length};
-ghost use Rattle.definitions.specs.Allowed.{encoded_year, jjy_facts, telegram_of};
+ghost use Rattle.definitions.specs.time.Calendar.{century_minutes, minute_length};
+ghost use Rattle.definitions.specs.codes.Allowed.{encoded_year, jjy_facts, telegram_of};
 ghost use Rattle.jjy_code.specs.Facts.{AreInRange};
 
 use civil::{Civil, Zone};

@@ -1,8 +1,8 @@
 //! The seconds that a sequence walks through.
 
 ghost use Rattle.std.specs.Prelude.{◌≡◌, ◌<◌, ◌≤◌};
-ghost use Rattle.definitions.specs.Calendar.{century_minutes};
-ghost use Rattle.definitions.specs.Walks.{next_place};
+ghost use Rattle.definitions.specs.time.Calendar.{century_minutes};
+ghost use Rattle.definitions.specs.sequences.Walks.{next_place};
 
 use crate::minute_length;
 use civil::Civil;

@@ -7,9 +7,9 @@ use Rattle.std.specs.Option.{ForSome}
 use Rattle.std.proofs.lemmas.List.Sums.{sum_by-append}
 use Rattle.signal_base.specs.declared.tuning.Tuning.{Tuning}
 use Rattle.signal_base.specs.declared.tuning.CostTable.{CostTable}
-use Rattle.definitions.specs.Logs.{Records}
-use Rattle.definitions.specs.Receivers.{Reception, receptions}
-use Rattle.definitions.specs.Costs.{second_cost, slot_cost}
+use Rattle.definitions.specs.heard.Logs.{Records}
+use Rattle.definitions.specs.heard.Receivers.{Reception, receptions}
+use Rattle.definitions.specs.heard.Costs.{second_cost, slot_cost}
 use Rattle.symbol_cost.specs.Rows.{heard}
 use Rattle.signal_base.specs.Waveform.{symbol_count, waveform}
 use Rattle.definitions.proofs.CostLaws.{IsAtMost, receptions_more}

@@ -2,8 +2,8 @@
 use Rattle.std.specs.Prelude.{ℕ, ◌≡◌, ◌+◌, ◌<◌, List, slice_index}
 use Rattle.signal_base.specs.declared.station.Station.{Station}
 use Rattle.signal_base.specs.declared.tuning.Tuning.{Tuning}
-use Rattle.definitions.specs.Logs.{Records}
-use Rattle.definitions.specs.Receivers.{Reception}
+use Rattle.definitions.specs.heard.Logs.{Records}
+use Rattle.definitions.specs.heard.Receivers.{Reception}
 use Rattle.signal_base.specs.Waveform.{symbol_count}
 
 -- each symbol of the station costs so much more

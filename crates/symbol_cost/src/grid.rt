@@ -4,8 +4,8 @@ ghost use Rattle.std.specs.Prelude.{◌≡◌, ◌+◌, ◌<◌, ◌≤◌, ℕ,
 ghost use Rattle.std.specs.List.{All};
 ghost use Rattle.signal_base.specs.declared.station.Station.{Station};
 ghost use Rattle.signal_base.specs.Mask.{has_bit};
-ghost use Rattle.definitions.specs.Receivers.{receptions};
-ghost use Rattle.definitions.specs.Costs.{least, lesser_with, set_cost, slot_cost, symbols_of};
+ghost use Rattle.definitions.specs.heard.Receivers.{receptions};
+ghost use Rattle.definitions.specs.heard.Costs.{least, lesser_with, set_cost, slot_cost, symbols_of};
 ghost use Rattle.symbol_cost.specs.Grid.{HasCosts, IsPriced, AreRows, IsTuned, cost_at};
 
 use crate::receivers::{Row, row_of};

@@ -4,9 +4,9 @@ ghost use Rattle.std.specs.Prelude.{◌≡◌, ◌+◌, ◌*◌, ◌<◌, ◌≤
 ghost use Rattle.std.specs.Option.{ForSome};
 ghost use Rattle.std.specs.List.{All};
 ghost use Rattle.signal_base.specs.Waveform.{symbol_count, waveform};
-ghost use Rattle.definitions.specs.Receivers.{receptions};
-ghost use Rattle.definitions.specs.Costs.{second_cost, slot_cost, tenth_cost, total_below};
-ghost use Rattle.definitions.specs.Logs.{low_count};
+ghost use Rattle.definitions.specs.heard.Receivers.{receptions};
+ghost use Rattle.definitions.specs.heard.Costs.{second_cost, slot_cost, tenth_cost, total_below};
+ghost use Rattle.definitions.specs.heard.Logs.{low_count};
 ghost use Rattle.symbol_cost.specs.Grid.{IsPriced, IsTuned};
 ghost use Rattle.symbol_cost.specs.Rows.{Adds, heard};
 

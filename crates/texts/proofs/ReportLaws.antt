@@ -7,9 +7,9 @@ use Rattle.signal_base.specs.declared.dut.StationDut.{StationDut}
 use Rattle.definitions.specs.declared.sequence.Sequence.{Sequence}
 use Rattle.definitions.specs.declared.answer.Answer.{Answer}
 use Rattle.definitions.specs.declared.answer.Answer.TheVariants.{Decided}
-use Rattle.definitions.specs.Calendar.{minute_length, is_leap_end}
-use Rattle.definitions.specs.Walks.{place_at, next_place}
-use Rattle.definitions.specs.Texts.{at_minute, at_minutes, minute_line, report, report_head, report_minutes}
+use Rattle.definitions.specs.time.Calendar.{minute_length, is_leap_end}
+use Rattle.definitions.specs.sequences.Walks.{place_at, next_place}
+use Rattle.formats.specs.Reports.{at_minute, at_minutes, minute_line, report, report_head, report_minutes}
 use Rattle.bank_files.specs.Told.{Told}
 use Rattle.texts.specs.Writing.{Writes}
 use Rattle.texts.proofs.WritingLaws.{Writes-then, Writes-failed}

@@ -1,8 +1,8 @@
 -- The line of each refusal.
 use Rattle.std.specs.Prelude.{ℕ, ◌≤◌, List, ◌++◌, length, codes}
 use Rattle.std.specs.Fmt.{decimal}
-use Rattle.definitions.specs.Texts.{line}
-use Rattle.definitions.specs.Refusals.{usage_line, log_text, log_too_large_line}
+use Rattle.formats.specs.Bytes.{line}
+use Rattle.formats.specs.Refusals.{usage_line, log_text, log_too_large_line}
 use Rattle.texts.specs.declared.refusal.Refusal.{Refusal}
 use Rattle.texts.specs.declared.refusal.Refusal.TheVariants.{WordsUsage, LogTooLarge, LogLine}
 

@@ -3,7 +3,7 @@ use Rattle.std.specs.Prelude.{ℕ, ◌<◌, List, Result, OnOk, OnErr}
 use Rattle.signal_base.specs.declared.window.Window.{Window}
 use Rattle.definitions.specs.declared.answer.Answer.{Answer}
 use Rattle.definitions.specs.declared.answer.Answer.TheVariants.{Nothing, Decided, Undecided}
-use Rattle.definitions.specs.Walks.{IsSequence, IsWalkable}
+use Rattle.definitions.specs.sequences.Walks.{IsSequence, IsWalkable}
 use Rattle.bank_files.specs.Told.{Told, Tells, AppendsFront, appended, output_name}
 use Rattle.bank_files.specs.Fault.{HasFault}
 use Rattle.bank_files.specs.Files.{KeepsCounts, KeepsOthers}

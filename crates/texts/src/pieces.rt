@@ -3,10 +3,11 @@
 ghost use Rattle.std.specs.Prelude.{◌≡◌, ◌+◌, ◌<◌, ◌≤◌, ◌++◌, ◌∷◌, [], length};
 ghost use Rattle.std.specs.Fmt.{decimal};
 ghost use Rattle.arrayvec.specs.ArrayString.{array_string_len};
-ghost use Rattle.definitions.specs.Calendar.{century_minutes};
-ghost use Rattle.definitions.specs.Walks.{IsSequence};
+ghost use Rattle.definitions.specs.time.Calendar.{century_minutes};
+ghost use Rattle.definitions.specs.sequences.Walks.{IsSequence};
 ghost use Rattle.texts.specs.Writing.{Writes};
-ghost use Rattle.definitions.specs.Texts.{date_text, minute_text, sequence_text, two_digits};
+ghost use Rattle.definitions.specs.time.Spelling.{date_text, minute_text, two_digits};
+ghost use Rattle.formats.specs.Bytes.{sequence_text};
 
 use arrayvec::ArrayString;
 use bank_files::{Failed, Files, OUTPUT, write_all};

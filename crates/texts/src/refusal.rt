@@ -2,7 +2,7 @@
 
 ghost use Rattle.std.specs.Prelude.{◌≡◌, ◌+◌, ◌≤◌, ◌++◌, length};
 ghost use Rattle.arrayvec.specs.ArrayString.{array_string_len};
-ghost use Rattle.definitions.specs.Refusals.{log_text};
+ghost use Rattle.formats.specs.Refusals.{log_text};
 ghost use Rattle.texts.specs.Writing.{Writes};
 ghost use Rattle.texts.specs.Refusals.{IsShort, refusal_line};
 

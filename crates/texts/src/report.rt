@@ -3,9 +3,10 @@
 ghost use Rattle.std.specs.Prelude.{◌≡◌, ◌+◌, ◌<◌, ◌≤◌, ◌++◌, codes, length};
 ghost use Rattle.std.specs.Fmt.{decimal};
 ghost use Rattle.arrayvec.specs.ArrayString.{array_string_len};
-ghost use Rattle.definitions.specs.Texts.{at_minute, at_minutes, dut_line, dut_lines, minute_line, next_line, phase_line, report, report_head, sequence_line, station_name};
-ghost use Rattle.definitions.specs.Walks.{IsSequence, IsWalkable};
-ghost use Rattle.definitions.specs.Calendar.{century_minutes};
+ghost use Rattle.formats.specs.Reports.{at_minute, at_minutes, dut_line, dut_lines, minute_line, next_line, phase_line, report, report_head, sequence_line};
+ghost use Rattle.formats.specs.Bytes.{station_name};
+ghost use Rattle.definitions.specs.sequences.Walks.{IsSequence, IsWalkable};
+ghost use Rattle.definitions.specs.time.Calendar.{century_minutes};
 ghost use Rattle.texts.specs.Writing.{IsReportable, Writes};
 
 use crate::pieces::{ROOM, Text, push_minute, push_number, push_sequence, write_text};

@@ -1,5 +1,5 @@
 use Rattle.std.proofs.Common.{◌≡◌, ◌%◌, ◌<◌, take}
-use Rattle.definitions.specs.Vocabulary.{ones}
+use Rattle.definitions.specs.codes.Vocabulary.{ones}
 use Rattle.jjy_code.proofs.parity.Given as goal
 
 abbrev pub invariant-loop-weight : goal.invariant-loop-weight

@@ -1,6 +1,6 @@
 use Rattle.std.proofs.Common.{arith}
 use Rattle.signal_base.proofs.Made.{made_by, filled_more}
-use Rattle.definitions.specs.Jjy.{jjy_second}
+use Rattle.definitions.specs.codes.Jjy.{jjy_second}
 use Rattle.jjy_code.proofs.telegram.Goals as goal
 
 pub loop-second-preserved : goal.loop-second-preserved

@@ -1,5 +1,5 @@
 use Rattle.std.proofs.Common.{◌≡◌, ◌<◌, ℕ, length, get_or}
-use Rattle.definitions.specs.Jjy.{jjy_second}
+use Rattle.definitions.specs.codes.Jjy.{jjy_second}
 use Rattle.jjy_code.proofs.telegram.Given as goal
 
 abbrev pub invariant-loop-second : goal.invariant-loop-second

@@ -1,6 +1,6 @@
 use Rattle.std.proofs.Common.{◌≡◌, IsTrue, drop, nat_lt}
 use Rattle.std.specs.List.{list_all}
-use Rattle.definitions.specs.Vocabulary.{weight_of}
+use Rattle.definitions.specs.codes.Vocabulary.{weight_of}
 use Rattle.jjy_code.proofs.weight_in.Given as goal
 
 abbrev pub invariant-loop-weight : goal.invariant-loop-weight

@@ -1,5 +1,5 @@
-use Rattle.definitions.specs.Owed.{OwesForLog, Answered, day_window, no_duts, status_of}
-use Rattle.definitions.specs.Texts.{report}
+use Rattle.due.specs.Owed.{OwesForLog, Answered, day_window, no_duts, status_of}
+use Rattle.formats.specs.Reports.{report}
 use Rattle.bank.specs.RunEnds.{IsOneOf, IsOwedFor}
 use Rattle.bank.proofs.EndingLaws.{EndsWith-weaker, fault_owed}
 use Rattle.bank.proofs.program.decode_bytes.Goals as goal

@@ -1,7 +1,7 @@
 use Rattle.std.proofs.Common.{◌≡◌, ◌<◌, ◌≤◌, ◌∙◌, ap, subst, List, ℕ, length, Err}
 use Rattle.bank_files.proofs.Telling.{Finds-holds}
-use Rattle.definitions.specs.Owed.{OwesForLog, Too_large, log_limit, receiver_name}
-use Rattle.definitions.specs.Refusals.{log_too_large_line}
+use Rattle.due.specs.Owed.{OwesForLog, Too_large, log_limit, receiver_name}
+use Rattle.formats.specs.Refusals.{log_too_large_line}
 use Rattle.bank.specs.RunEnds.{IsOneOf}
 use Rattle.bank.proofs.EndingLaws.{log_ends}
 use Rattle.bank.proofs.program.decode_log.Goals as goal

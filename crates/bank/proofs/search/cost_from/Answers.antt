@@ -1,9 +1,9 @@
 use Rattle.std.proofs.Common.{ℕ, ◌∙◌, sym, ap, below_more, arith}
 use Rattle.signal_base.specs.declared.station.Station.{Station}
 use Rattle.signal_base.specs.declared.station.Station.TheVariants.{Jjy}
-use Rattle.definitions.specs.Allowed.{IsSent}
-use Rattle.definitions.specs.Walks.{place_at, set_at}
-use Rattle.definitions.specs.Costs.{set_cost}
+use Rattle.definitions.specs.codes.Allowed.{IsSent}
+use Rattle.definitions.specs.sequences.Walks.{place_at, set_at}
+use Rattle.definitions.specs.heard.Costs.{set_cost}
 use Rattle.definitions.proofs.CostLaws.{total_below_none, total_below_more}
 use Rattle.symbol_cost.specs.Grid.{cost_at}
 use Rattle.bank.specs.Plain.{plain}

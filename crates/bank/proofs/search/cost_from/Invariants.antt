@@ -1,8 +1,8 @@
 use Rattle.std.proofs.Common.{◌≡◌, ℕ, ◌*◌, ◌<◌, ◌≤◌}
 use Rattle.signal_base.specs.declared.station.Station.TheVariants.{Jjy}
-use Rattle.definitions.specs.Allowed.{IsSent}
-use Rattle.definitions.specs.Walks.{place_at, set_at}
-use Rattle.definitions.specs.Costs.{set_cost, total_below}
+use Rattle.definitions.specs.codes.Allowed.{IsSent}
+use Rattle.definitions.specs.sequences.Walks.{place_at, set_at}
+use Rattle.definitions.specs.heard.Costs.{set_cost, total_below}
 use Rattle.symbol_cost.specs.Grid.{cost_at}
 use Rattle.bank.specs.Plain.{plain}
 use Rattle.bank.proofs.search.cost_from.Given as goal

@@ -1,5 +1,5 @@
 use Rattle.std.proofs.Common.{◌≡◌, subst, arith}
-use Rattle.definitions.specs.Ends.{AreLeastTwo, IsKey}
+use Rattle.definitions.specs.answers.FirstTwo.{AreLeastTwo, IsKey}
 use Rattle.bank.specs.Plain.{IsPlain, IsSeen, row_cost}
 use Rattle.bank.proofs.KeyLaws.{keep_least, all_seen, each_seen}
 use Rattle.bank.proofs.search.search.Goals as goal

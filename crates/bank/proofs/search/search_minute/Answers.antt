@@ -1,6 +1,6 @@
 use Rattle.std.proofs.Common.{◌≡◌, ℕ, ◌+◌, ◌⊎◌, inl, inr, ⊎_elim, sym, ap, subst, ◌∙◌, arith}
-use Rattle.definitions.specs.Walks.{key_of}
-use Rattle.definitions.specs.Ends.{AreLeastTwo}
+use Rattle.definitions.specs.sequences.Keys.{key_of}
+use Rattle.definitions.specs.answers.FirstTwo.{AreLeastTwo}
 use Rattle.bank.specs.declared.found.Found.{Found}
 use Rattle.bank.specs.Plain.{plain, IsSeen}
 use Rattle.bank.proofs.KeyLaws.{keep_least, with_key, seen_more, seen_less, seen_here, next_minute, same_minute}

@@ -1,4 +1,4 @@
-use Rattle.definitions.specs.Ends.{AreLeastTwo}
+use Rattle.definitions.specs.answers.FirstTwo.{AreLeastTwo}
 use Rattle.bank.specs.Plain.{IsSeen}
 use Rattle.bank.proofs.search.search_minute.Given as goal
 

@@ -1,5 +1,5 @@
 use Rattle.std.proofs.Common.{sym, ap, ◌∙◌, arith}
-use Rattle.definitions.specs.Calendar.{day_at}
+use Rattle.definitions.specs.time.Calendar.{day_at}
 use Rattle.civil.proofs.Dates.{plausible}
 use Rattle.bank.specs.Words.{read_year, read_month, read_day}
 use Rattle.bank.proofs.WordLaws.{read_year-date_text, read_month-date_text, read_day-date_text}

@@ -1,6 +1,6 @@
 use Rattle.std.proofs.Common.{◌≡◌, length, string_bytes, codes, refl, sym, ap, ◌∙◌, arith}
-use Rattle.definitions.specs.Calendar.{day_at}
-use Rattle.definitions.specs.Owed.{day_text}
+use Rattle.definitions.specs.time.Calendar.{day_at}
+use Rattle.definitions.specs.time.Spelling.{day_text}
 use Rattle.bank.specs.Words.{texts_of}
 use Rattle.bank.proofs.WordLaws.{three_items, three_same}
 use Rattle.bank.proofs.words.read_words.Goals as goal

@@ -1,5 +1,5 @@
 use Rattle.std.proofs.Common.{◌≡◌, ◌<◌, ℕ}
-use Rattle.definitions.specs.Calendar.{day_at}
+use Rattle.definitions.specs.time.Calendar.{day_at}
 use Rattle.civil.proofs.Civil.day_number.Given as goal
 
 abbrev pub invariant-loop-n : goal.invariant-loop-n

@@ -1,6 +1,6 @@
 use Rattle.std.proofs.Common.{sym, arith}
-use Rattle.definitions.specs.Calendar.{day_at}
-use Rattle.definitions.specs.Summer.{is_last_sunday, us_begins, us_ends}
+use Rattle.definitions.specs.time.Calendar.{day_at}
+use Rattle.definitions.specs.time.Summer.{is_last_sunday, us_begins, us_ends}
 use Rattle.civil.proofs.Dates.{first_is, early_year, entries_more, by_parts, one_day, next_is}
 use Rattle.civil.proofs.Seasons.{season_first, season_more}
 use Rattle.civil.proofs.days.table.Goals as goal

@@ -1,6 +1,6 @@
 use Rattle.std.proofs.Common.{◌≡◌, vec_len}
-use Rattle.definitions.specs.Calendar.{day_at}
-use Rattle.definitions.specs.Summer.{eu_season}
+use Rattle.definitions.specs.time.Calendar.{day_at}
+use Rattle.definitions.specs.time.Summer.{eu_season}
 use Rattle.civil.specs.Days.{AreEntries}
 use Rattle.civil.specs.Dated.{IsOn}
 use Rattle.civil.specs.Seasons.{us_season}

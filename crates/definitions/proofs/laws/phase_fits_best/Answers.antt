@@ -1,6 +1,6 @@
 -- The phase fits best.
 use Rattle.std.proofs.Common.{arith}
-use Rattle.definitions.specs.Phase.{fit}
+use Rattle.definitions.specs.heard.Phase.{fit}
 use Rattle.definitions.proofs.PhaseLaws.{first_peak_is}
 use Rattle.definitions.proofs.laws.phase_fits_best.Goals as goal
 

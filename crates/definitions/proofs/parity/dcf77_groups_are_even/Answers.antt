@@ -1,7 +1,7 @@
 -- Even parity of DCF77's groups.
 use Rattle.std.proofs.Common.{◌≡◌, ◌+◌, ◌%◌, subst}
-use Rattle.definitions.specs.Dcf77.{dcf_bit, date_ones, minute_weights, hour_weights}
-use Rattle.definitions.specs.Vocabulary.{ones}
+use Rattle.definitions.specs.codes.Dcf77.{dcf_bit, date_ones, minute_weights, hour_weights}
+use Rattle.definitions.specs.codes.Vocabulary.{ones}
 use Rattle.definitions.proofs.ParityLaws.{even, date_sum}
 use Rattle.definitions.proofs.parity.dcf77_groups_are_even.Goals as goal
 

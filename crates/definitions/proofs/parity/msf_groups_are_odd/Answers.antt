@@ -1,7 +1,7 @@
 -- Odd parity of MSF's groups.
 use Rattle.std.proofs.Common.{◌≡◌, ◌+◌, ◌%◌, subst}
-use Rattle.definitions.specs.Msf.{bit_a, odd_parity, year_weights, month_weights, day_weights, weekday_weights, hour_weights, minute_weights}
-use Rattle.definitions.specs.Vocabulary.{ones}
+use Rattle.definitions.specs.codes.Msf.{bit_a, odd_parity, year_weights, month_weights, day_weights, weekday_weights, hour_weights, minute_weights}
+use Rattle.definitions.specs.codes.Vocabulary.{ones}
 use Rattle.definitions.proofs.ParityLaws.{odd, month_and_day, hour_and_minute}
 use Rattle.definitions.proofs.parity.msf_groups_are_odd.Goals as goal
 

@@ -1,7 +1,7 @@
 -- The text is the first line and the text after it, with an LF or at its end.
 use Rattle.std.proofs.Common.{ap, ◌∙◌, ◌∷◌, sym, List, ℕ}
 use Rattle.std.proofs.lemmas.List.{take_rest}
-use Rattle.definitions.specs.Lines.{lines_of}
+use Rattle.formats.specs.LogLines.{lines_of}
 use Rattle.pulse_log.proofs.LineLemmas.{lines_of-some, lines_of-none, nothing_left}
 use Rattle.pulse_log.proofs.line.first_line.Goals as goal
 

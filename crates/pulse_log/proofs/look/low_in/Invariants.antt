@@ -1,6 +1,6 @@
 -- The low milliseconds before the present one are counted, and its place is known.
 use Rattle.std.proofs.Common.{◌-◌, ◌≡◌, ◌<◌, ◌≤◌, Some}
-use Rattle.definitions.specs.Logs.{low_count}
+use Rattle.definitions.specs.heard.Logs.{low_count}
 use Rattle.pulse_log.specs.Place.{StandsAfter}
 use Rattle.pulse_log.proofs.look.low_in.Given as goal
 

@@ -1,8 +1,8 @@
 -- The last record alone is compared.
 use Rattle.std.proofs.Common.{sym, subst}
 use Rattle.std.proofs.lemmas.Bool.{lt-ltb, ltb-true}
-use Rattle.definitions.specs.Logs.{Records}
-use Rattle.definitions.specs.Lines.{IsLater}
+use Rattle.definitions.specs.heard.Logs.{Records}
+use Rattle.formats.specs.LogLines.{IsLater}
 use Rattle.pulse_log.proofs.OrderLemmas.{IsLater-push, IsLater-pop}
 use Rattle.pulse_log.proofs.read.is_later.Goals as goal
 

@@ -1,8 +1,8 @@
 -- Each line is skipped, is one more record, or is the first bad one.
 use Rattle.std.proofs.Common.{arith, sym, subst}
 use Rattle.std.proofs.lemmas.Bool.{iff_false}
-use Rattle.definitions.specs.Logs.{Records}
-use Rattle.definitions.specs.Lines.{IsLater, NotRising, TooManyRecords}
+use Rattle.definitions.specs.heard.Logs.{Records}
+use Rattle.formats.specs.LogLines.{IsLater, NotRising, TooManyRecords}
 use Rattle.pulse_log.proofs.ReadLemmas.{HasRead-skipped, HasRead-record, IsRefused-read}
 use Rattle.pulse_log.proofs.read.read_records.Goals as goal
 

@@ -1,5 +1,5 @@
-use Rattle.definitions.specs.Receivers.{receptions}
-use Rattle.definitions.specs.Costs.{slot_cost}
+use Rattle.definitions.specs.heard.Receivers.{receptions}
+use Rattle.definitions.specs.heard.Costs.{slot_cost}
 use Rattle.symbol_cost.specs.Grid.{AreRows}
 use Rattle.symbol_cost.proofs.grid.rows_of.Given as goal
 

@@ -1,7 +1,7 @@
 use Rattle.std.proofs.Common.{ℕ, ◌+◌, ◌*◌, false, get_or, Option, ap, arith}
 use Rattle.signal_base.specs.Waveform.{waveform}
-use Rattle.definitions.specs.Logs.{low_count}
-use Rattle.definitions.specs.Costs.{tenth_cost}
+use Rattle.definitions.specs.heard.Logs.{low_count}
+use Rattle.definitions.specs.heard.Costs.{tenth_cost}
 use Rattle.definitions.proofs.CostLaws.{total_below_none, total_below_more}
 use Rattle.symbol_cost.proofs.receivers.add_second.Goals as goal
 

@@ -1,7 +1,7 @@
 use Rattle.std.proofs.Common.{◌≡◌, ℕ, ◌+◌, ◌*◌, ◌<◌, ◌≤◌, false, get_or}
 use Rattle.signal_base.specs.Waveform.{waveform, symbol_count}
-use Rattle.definitions.specs.Logs.{low_count}
-use Rattle.definitions.specs.Costs.{tenth_cost, total_below}
+use Rattle.definitions.specs.heard.Logs.{low_count}
+use Rattle.definitions.specs.heard.Costs.{tenth_cost, total_below}
 use Rattle.symbol_cost.proofs.receivers.add_second.Given as goal
 
 abbrev pub invariant-loop-j : goal.invariant-loop-j

@@ -1,7 +1,7 @@
 use Rattle.std.proofs.Common.{◌≡◌, ◌<◌, Bool, false, length, get_or, List, ◌∙◌, ap, arith}
 use Rattle.std.proofs.Math.ListN.{length-set}
 use Rattle.signal_base.specs.Waveform.{waveform}
-use Rattle.definitions.specs.Costs.{tenth_cost}
+use Rattle.definitions.specs.heard.Costs.{tenth_cost}
 use Rattle.symbol_cost.proofs.RowLaws.{grown_more, few_symbols}
 use Rattle.symbol_cost.proofs.receivers.add_tenth.Goals as goal
 

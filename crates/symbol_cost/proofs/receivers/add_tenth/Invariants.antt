@@ -1,6 +1,6 @@
 use Rattle.std.proofs.Common.{◌≡◌, false, length, get_or}
 use Rattle.signal_base.specs.Waveform.{waveform}
-use Rattle.definitions.specs.Costs.{tenth_cost}
+use Rattle.definitions.specs.heard.Costs.{tenth_cost}
 use Rattle.symbol_cost.proofs.RowLaws.{GrownTo}
 use Rattle.symbol_cost.proofs.receivers.add_tenth.Given as goal
 

@@ -2,10 +2,10 @@ use Rattle.std.proofs.Common.{◌≡◌, ℕ, ◌+◌, ◌*◌, ◌<◌, ◌++�
 use Rattle.std.proofs.lemmas.List.{take_more}
 use Rattle.std.proofs.lemmas.List.{length-take-le}
 use Rattle.signal_base.specs.Waveform.{waveform}
-use Rattle.definitions.specs.Logs.{Records}
+use Rattle.definitions.specs.heard.Logs.{Records}
 use Rattle.symbol_cost.specs.Rows.{heard}
-use Rattle.definitions.specs.Receivers.{receptions}
-use Rattle.definitions.specs.Costs.{second_cost, slot_cost}
+use Rattle.definitions.specs.heard.Receivers.{receptions}
+use Rattle.definitions.specs.heard.Costs.{second_cost, slot_cost}
 use Rattle.signal_base.specs.declared.tuning.Tuning.{Tuning}
 use Rattle.symbol_cost.proofs.RowLaws.{slot_cost_more}
 use Rattle.symbol_cost.proofs.receivers.row_of.Goals as goal

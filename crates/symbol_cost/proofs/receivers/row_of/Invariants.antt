@@ -1,7 +1,7 @@
 use Rattle.std.proofs.Common.{◌≡◌, ℕ, ◌*◌, ◌<◌, ◌≤◌, take, get_or}
 use Rattle.signal_base.specs.Waveform.{symbol_count}
-use Rattle.definitions.specs.Receivers.{receptions}
-use Rattle.definitions.specs.Costs.{slot_cost}
+use Rattle.definitions.specs.heard.Receivers.{receptions}
+use Rattle.definitions.specs.heard.Costs.{slot_cost}
 use Rattle.symbol_cost.proofs.receivers.row_of.Given as goal
 
 abbrev pub invariant-loop-i : goal.invariant-loop-i

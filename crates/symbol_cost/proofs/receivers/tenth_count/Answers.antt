@@ -1,5 +1,5 @@
 use Rattle.std.proofs.Common.{◌≡◌, ◌+◌, ◌-◌, ◌∙◌, ap, subst, sym, arith, Option, ℕ}
-use Rattle.definitions.specs.Logs.{low_count}
+use Rattle.definitions.specs.heard.Logs.{low_count}
 use Rattle.definitions.proofs.CostLaws.{IsAtMost, low_count_bound}
 use Rattle.symbol_cost.proofs.RowLaws.{at_most_some}
 use Rattle.symbol_cost.proofs.receivers.tenth_count.Goals as goal

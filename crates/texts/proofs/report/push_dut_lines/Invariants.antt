@@ -1,7 +1,7 @@
 use Rattle.std.proofs.Common.{◌≡◌, ◌+◌, ◌*◌, ◌≤◌, ◌++◌, take}
 use Rattle.std.specs.List.{flat_map}
 use Rattle.arrayvec.specs.ArrayString.{array_string_len}
-use Rattle.definitions.specs.Texts.{dut_line}
+use Rattle.formats.specs.Reports.{dut_line}
 use Rattle.texts.proofs.report.push_dut_lines.Given as goal
 
 abbrev pub invariant-loop-dut : goal.invariant-loop-dut

@@ -1,7 +1,7 @@
 use Rattle.std.proofs.Common.{refl, ap, add-one, ◌∙◌, Ok}
 use Rattle.std.proofs.lemmas.Result.{err_from_is_err_and}
-use Rattle.definitions.specs.Walks.{place_at, next_place}
-use Rattle.definitions.specs.Texts.{at_minutes, minute_line}
+use Rattle.definitions.specs.sequences.Walks.{place_at, next_place}
+use Rattle.formats.specs.Reports.{at_minutes, minute_line}
 use Rattle.texts.proofs.WritingLaws.{Writes-start}
 use Rattle.texts.proofs.ReportLaws.{next_second, minutes_more, minutes_failed}
 use Rattle.texts.proofs.report.write_minutes.Goals as goal

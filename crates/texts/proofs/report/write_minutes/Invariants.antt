@@ -1,6 +1,6 @@
 use Rattle.std.proofs.Common.{◌≡◌, ◌≤◌, Ok}
-use Rattle.definitions.specs.Walks.{place_at}
-use Rattle.definitions.specs.Texts.{at_minutes, minute_line}
+use Rattle.definitions.specs.sequences.Walks.{place_at}
+use Rattle.formats.specs.Reports.{at_minutes, minute_line}
 use Rattle.bank_files.specs.declared.files.Failed.{Failed}
 use Rattle.texts.specs.Writing.{Writes}
 use Rattle.texts.proofs.report.write_minutes.Given as goal

@@ -1,0 +1,14 @@
+-- DCF77 at 2024-03-31T00:59Z, the minute before summer time.
+use Rattle.std.proofs.Common.{◌+◌, ◌*◌, false, refl, ◌∙◌}
+use Rattle.definitions.specs.time.Calendar.{day_at}
+use Rattle.definitions.specs.time.Summer.{season_at, eu_change_within}
+use Rattle.definitions.proofs.ListingLaws.{dcf_characters}
+use Rattle.definitions.proofs.examples.telegrams.dcf77_in_spring.Goals as goal
+
+pub returns-clause-facts : goal.returns-clause-facts
+unfolding day_at season_at eu_change_within
+returns-clause-facts c = refl
+
+pub returns-clause-characters : goal.returns-clause-characters
+unfolding day_at season_at eu_change_within
+returns-clause-characters c = dcf_characters false (8856 * 1440 + 59) ∙ refl

@@ -1,0 +1,14 @@
+-- MSF at 2024-07-15T12:00Z, in summer time.
+use Rattle.std.proofs.Common.{◌+◌, ◌*◌, false, refl, ◌∙◌}
+use Rattle.definitions.specs.time.Calendar.{day_at}
+use Rattle.definitions.specs.time.Summer.{season_at, eu_change_within}
+use Rattle.definitions.proofs.ListingLaws.{msf_characters}
+use Rattle.definitions.proofs.examples.telegrams.msf_in_summer.Goals as goal
+
+pub returns-clause-facts : goal.returns-clause-facts
+unfolding day_at season_at eu_change_within
+returns-clause-facts c = refl
+
+pub returns-clause-characters : goal.returns-clause-characters
+unfolding day_at season_at eu_change_within
+returns-clause-characters c = msf_characters false (8962 * 1440 + 720) ∙ refl

@@ -1,0 +1,14 @@
+-- WWVB at 2024-02-29T12:34Z.
+use Rattle.std.proofs.Common.{◌+◌, ◌*◌, false, refl, ◌∙◌}
+use Rattle.definitions.specs.time.Calendar.{day_at}
+use Rattle.definitions.specs.time.Summer.{season_at}
+use Rattle.definitions.proofs.ListingLaws.{wwvb_characters}
+use Rattle.definitions.proofs.examples.telegrams.wwvb_on_a_leap_day.Goals as goal
+
+pub returns-clause-facts : goal.returns-clause-facts
+unfolding day_at season_at
+returns-clause-facts c = refl
+
+pub returns-clause-characters : goal.returns-clause-characters
+unfolding day_at season_at
+returns-clause-characters c = wwvb_characters false (8825 * 1440 + 754) ∙ refl

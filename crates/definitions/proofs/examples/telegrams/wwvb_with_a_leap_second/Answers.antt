@@ -1,0 +1,14 @@
+-- WWVB at 2016-12-31T23:59Z.
+use Rattle.std.proofs.Common.{◌+◌, ◌*◌, true, refl, ◌∙◌}
+use Rattle.definitions.specs.time.Calendar.{day_at}
+use Rattle.definitions.specs.time.Summer.{season_at}
+use Rattle.definitions.proofs.ListingLaws.{wwvb_characters}
+use Rattle.definitions.proofs.examples.telegrams.wwvb_with_a_leap_second.Goals as goal
+
+pub returns-clause-facts : goal.returns-clause-facts
+unfolding day_at season_at
+returns-clause-facts c = refl
+
+pub returns-clause-characters : goal.returns-clause-characters
+unfolding day_at season_at
+returns-clause-characters c = wwvb_characters true (6209 * 1440 + 1439) ∙ refl

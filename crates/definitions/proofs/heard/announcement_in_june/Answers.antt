@@ -1,9 +1,0 @@
--- An announcement that WWVB tells and DCF77 doesn't.
-use Rattle.definitions.proofs.JuneLaws.{told, not_told}
-use Rattle.definitions.proofs.heard.announcement_in_june.Goals as goal
-
-pub returns-clause-told : goal.returns-clause-told
-returns-clause-told c = told
-
-pub returns-clause-not_told : goal.returns-clause-not_told
-returns-clause-not_told c = not_told

@@ -1,0 +1,62 @@
+-- JJY: what each second of a minute may carry (NICT's description of the standard time code).
+use Rattle.std.specs.Prelude.{ℕ, ◌%◌, Bool, ◌==◌, ◌&&◌, ◌||◌, nat_lt, if◌then◌else◌, List, [], ◌∷◌, ◌++◌}
+use Rattle.definitions.specs.declared.jjy.JjyFacts.{JjyFacts}
+use Rattle.definitions.specs.codes.Vocabulary.{only, free, unscored, no_second, Field, weights_from, carried_bit, ones, is_one_of, is_within}
+
+-- the symbol that marks seconds
+abbrev pub marker : ℕ
+marker = 2
+
+abbrev pub minute_weights : List (ℕ × ℕ)
+minute_weights = weights_from 1 (40 ∷ 20 ∷ 10 ∷ []) ++ weights_from 5 (8 ∷ 4 ∷ 2 ∷ 1 ∷ [])
+
+abbrev pub hour_weights : List (ℕ × ℕ)
+hour_weights = weights_from 12 (20 ∷ 10 ∷ []) ++ weights_from 15 (8 ∷ 4 ∷ 2 ∷ 1 ∷ [])
+
+-- the day of the year, from 1
+abbrev pub day_weights : List (ℕ × ℕ)
+day_weights =
+    weights_from 22 (200 ∷ 100 ∷ []) ++ weights_from 25 (80 ∷ 40 ∷ 20 ∷ 10 ∷ [])
+    ++ weights_from 30 (8 ∷ 4 ∷ 2 ∷ 1 ∷ [])
+
+-- the last two digits of the year
+abbrev pub year_weights : List (ℕ × ℕ)
+year_weights = weights_from 41 (80 ∷ 40 ∷ 20 ∷ 10 ∷ 8 ∷ 4 ∷ 2 ∷ 1 ∷ [])
+
+-- Sunday is 0
+abbrev pub weekday_weights : List (ℕ × ℕ)
+weekday_weights = weights_from 50 (4 ∷ 2 ∷ 1 ∷ [])
+
+-- the seconds with a marker
+abbrev pub is_marked : JjyFacts → ℕ → Bool
+is_marked f s = is_one_of (0 ∷ 9 ∷ 19 ∷ 29 ∷ 39 ∷ 49 ∷ (if f.long then 60 else 59) ∷ []) s
+
+-- in the minutes 15 and 45 the call sign is sent
+abbrev pub is_call_minute : JjyFacts → Bool
+is_call_minute f = (f.minute == 15) || (f.minute == 45)
+
+-- the fields of a minute
+abbrev pub jjy_fields : JjyFacts → List Field
+jjy_fields f =
+    (minute_weights, f.minute) ∷ (hour_weights, f.hour) ∷ (day_weights, f.day_of_year) ∷ (year_weights, f.year)
+    ∷ (weekday_weights, f.weekday) ∷ []
+
+-- the bit of a second: even parity of the hour and of the minute, the warning, or a field's bit
+abbrev pub jjy_bit : JjyFacts → ℕ → ℕ
+jjy_bit f s =
+    if s == 36 then ones hour_weights f.hour % 2
+    else if s == 37 then ones minute_weights f.minute % 2
+    else if is_within 53 54 s then (if f.leap then 1 else 0)
+    else carried_bit (jjy_fields f) s
+
+-- the set of symbols that a second may carry
+abbrev pub jjy_second : JjyFacts → ℕ → ℕ
+jjy_second f s =
+    if nat_lt s (if f.long then 61 else 60)
+    then (
+    if is_marked f s then only marker
+    else if is_call_minute f && is_within 40 48 s then unscored
+    else if is_call_minute f && is_within 50 55 s then free
+    else only (jjy_bit f s)
+    )
+    else no_second

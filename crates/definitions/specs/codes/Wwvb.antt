@@ -1,0 +1,53 @@
+-- WWVB, amplitude code: what each second of a minute may carry (NIST Special Publication 432).
+use Rattle.std.specs.Prelude.{ℕ, ◌/◌, ◌%◌, Bool, ◌==◌, ◌||◌, nat_lt, if◌then◌else◌, List, [], ◌∷◌, ◌++◌}
+use Rattle.definitions.specs.declared.wwvb.WwvbFacts.{WwvbFacts}
+use Rattle.definitions.specs.codes.Vocabulary.{only, free, no_second, Field, weights_from, carried_bit, is_one_of, is_within}
+
+-- the symbol that marks seconds
+abbrev pub marker : ℕ
+marker = 2
+
+abbrev pub minute_weights : List (ℕ × ℕ)
+minute_weights = weights_from 1 (40 ∷ 20 ∷ 10 ∷ []) ++ weights_from 5 (8 ∷ 4 ∷ 2 ∷ 1 ∷ [])
+
+abbrev pub hour_weights : List (ℕ × ℕ)
+hour_weights = weights_from 12 (20 ∷ 10 ∷ []) ++ weights_from 15 (8 ∷ 4 ∷ 2 ∷ 1 ∷ [])
+
+-- the day of the year, from 1
+abbrev pub day_weights : List (ℕ × ℕ)
+day_weights =
+    weights_from 22 (200 ∷ 100 ∷ []) ++ weights_from 25 (80 ∷ 40 ∷ 20 ∷ 10 ∷ [])
+    ++ weights_from 30 (8 ∷ 4 ∷ 2 ∷ 1 ∷ [])
+
+-- the last two digits of the year
+abbrev pub year_weights : List (ℕ × ℕ)
+year_weights = weights_from 45 (80 ∷ 40 ∷ 20 ∷ 10 ∷ []) ++ weights_from 50 (8 ∷ 4 ∷ 2 ∷ 1 ∷ [])
+
+-- the fields of a minute
+abbrev pub wwvb_fields : WwvbFacts → List Field
+wwvb_fields f =
+    (minute_weights, f.minute) ∷ (hour_weights, f.hour) ∷ (day_weights, f.day_of_year) ∷ (year_weights, f.year) ∷ []
+
+-- the seconds with a marker
+abbrev pub is_marked : ℕ → Bool
+is_marked s = is_one_of (0 ∷ 9 ∷ 19 ∷ 29 ∷ 39 ∷ 49 ∷ 59 ∷ 60 ∷ []) s
+
+-- the bit of a second: a leap year, the announced leap second, summer time in the United States, or a field's bit
+abbrev pub wwvb_bit : WwvbFacts → ℕ → ℕ
+wwvb_bit f s =
+    if s == 55 then (if f.year % 4 == 0 then 1 else 0)
+    else if s == 56 then (if f.leap then 1 else 0)
+    else if s == 57 then f.us_code / 2
+    else if s == 58 then f.us_code % 2
+    else carried_bit (wwvb_fields f) s
+
+-- The set of symbols that a second may carry. Seconds 36 to 38 and 40 to 43 tell the sign and the tenths of DUT1.
+abbrev pub wwvb_second : WwvbFacts → ℕ → ℕ
+wwvb_second f s =
+    if nat_lt s (if f.long then 61 else 60)
+    then (
+    if is_marked s then only marker
+    else if is_within 36 38 s || is_within 40 43 s then free
+    else only (wwvb_bit f s)
+    )
+    else no_second

@@ -1,0 +1,34 @@
+-- Dates that the public knows: days of ten dates, and what is around a change of summer time.
+use Rattle.std.specs.Prelude.{ℕ, ◌+◌, ◌-◌, ◌*◌, Bool, false, List, [], ◌∷◌, map}
+use Rattle.signal_base.specs.declared.station.Station.TheVariants.{Wwvb}
+use Rattle.definitions.specs.time.Calendar.{minutes_per_day}
+use Rattle.definitions.specs.codes.Allowed.{allowed, dcf_facts, msf_facts}
+use Rattle.definitions.specs.time.Summer.{is_eu_summer, is_eu_change, us_code}
+
+-- of a day: whether 00:59 UTC is in European summer time, whether a change stands at 01:00, whether that is in it
+abbrev pub eu_around : ℕ → List Bool
+eu_around n =
+    is_eu_summer (n * minutes_per_day + 59) ∷ is_eu_change (n * minutes_per_day + 60)
+    ∷ is_eu_summer (n * minutes_per_day + 60) ∷ []
+
+-- WWVB's two bits on the day before, on this day and on the day after
+abbrev pub us_around : ℕ → List ℕ
+us_around n = map (λ k. us_code (k * minutes_per_day)) ((n - 1) ∷ n ∷ (n + 1) ∷ [])
+
+-- what WWVB's seconds 57 and 58 may carry on the day before, on this day and on the day after
+abbrev pub us_seconds : ℕ → List (ℕ × ℕ)
+us_seconds n =
+    map (λ k. (allowed Wwvb false (k * minutes_per_day, 57), allowed Wwvb false (k * minutes_per_day, 58)))
+    ((n - 1) ∷ n ∷ (n + 1) ∷ [])
+
+-- the minutes 00:58, 00:59 and 01:00 UTC of a day
+abbrev pub around_one : ℕ → List ℕ
+around_one n = (n * minutes_per_day + 58) ∷ (n * minutes_per_day + 59) ∷ (n * minutes_per_day + 60) ∷ []
+
+-- what DCF77 and MSF send in them: the hour and the minute, whether it is in summer time, and whether a change is
+-- announced
+abbrev pub dcf77_around : ℕ → List (ℕ × ℕ × Bool × Bool)
+dcf77_around n = map (λ t. let f = dcf_facts false t in (f.hour, f.minute, f.summer, f.change)) (around_one n)
+
+abbrev pub msf_around : ℕ → List (ℕ × ℕ × Bool × Bool)
+msf_around n = map (λ t. let f = msf_facts false t in (f.hour, f.minute, f.summer, f.change)) (around_one n)

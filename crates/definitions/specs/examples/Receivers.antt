@@ -1,0 +1,44 @@
+-- Small logs, for examples of what they cost, their phase, and the DUT1 that they tell.
+use Rattle.std.specs.Prelude.{ℕ, ◌-◌, ◌==◌, ◌&&◌, not, if◌then◌else◌, List, [], ◌∷◌, ◌++◌, map}
+use Rattle.std.specs.List.{flat_map}
+use Rattle.signal_base.specs.declared.station.Station.{Station}
+use Rattle.signal_base.specs.declared.station.Station.TheVariants.{Dcf77, Msf, Jjy}
+use Rattle.signal_base.specs.declared.dut.Dut.{Dut}
+use Rattle.signal_base.specs.Table.{difference_table}
+use Rattle.definitions.specs.declared.level.Level.TheVariants.{High, Low}
+use Rattle.definitions.specs.declared.sequence.Sequence.{Sequence}
+use Rattle.definitions.specs.codes.Vocabulary.{is_one_of, is_within}
+use Rattle.definitions.specs.heard.Logs.{Records}
+use Rattle.definitions.specs.heard.Receivers.{Receiver}
+use Rattle.definitions.specs.heard.Costs.{bank_costs, dut_of}
+
+-- a receiver of this weight that hears a station this late
+abbrev pub heard : Station → ℕ → ℕ → Records → Receiver
+heard station delay weight log = record { station = station; heard = record { tuning = record { delay = delay; weight = weight }; log = log } }
+
+-- DCF77, heard 30 ms late: a 0 of 95 ms and a 1 of 205 ms
+abbrev pub two_pulses : List Receiver
+two_pulses = heard Dcf77 30 1 ((0, High) ∷ (30, Low) ∷ (125, High) ∷ (1030, Low) ∷ (1235, High) ∷ (3000, High) ∷ []) ∷ []
+
+-- MSF by two receivers, of which the one heard a 0 and the lighter one a 1 in bit B
+abbrev pub at_odds : List Receiver
+at_odds =
+    heard Msf 0 3 ((0, Low) ∷ (100, High) ∷ (1000, High) ∷ [])
+    ∷ heard Msf 0 1 ((0, Low) ∷ (100, High) ∷ (200, Low) ∷ (300, High) ∷ (1000, High) ∷ []) ∷ []
+
+-- what some symbols cost in a slot
+abbrev pub costs_in : List Receiver → Station → ℕ → List ℕ → List ℕ
+costs_in bank station k symbols = map (bank_costs difference_table bank 0 station k) symbols
+
+-- JJY, whose seconds begin as the carrier rises, heard to rise at these times by a receiver that is this late
+abbrev pub rises_at : ℕ → List ℕ → List Receiver
+rises_at delay times = heard Jjy delay 1 (flat_map (λ t. (t - 1, Low) ∷ (t, High) ∷ []) times ++ (9000, High) ∷ []) ∷ []
+
+-- costs by which of the slots from first to last these heard a 1 and the others a 0, at 100 for a symbol that differs
+abbrev pub ones_heard : ℕ → ℕ → List ℕ → ℕ → ℕ → ℕ
+ones_heard first last ones k x =
+    if is_within first last k && not (x == (if is_one_of ones k then 1 else 0)) then 100 else 0
+
+-- what a minute of a station tells of DUT1, by such costs
+abbrev pub dut_heard : Station → List ℕ → Sequence → Dut
+dut_heard station ones q = dut_of station (ones_heard 0 59 ones) 60 q

@@ -1,0 +1,48 @@
+-- The phase of a window: how far after a whole second of the receivers' clock the station's seconds begin.
+use Rattle.std.specs.Prelude.{ℕ, zero, suc, ◌+◌, ◌-◌, ◌*◌, ◌%◌, Bool, true, false, ◌&&◌, nat_lt, nat_le, if◌then◌else◌, List, [], ◌∷◌, map, filter, sum_by, min}
+use Rattle.signal_base.specs.declared.station.Station.{Station}
+use Rattle.signal_base.specs.declared.station.Station.TheVariants.{Jjy}
+use Rattle.definitions.specs.declared.level.Level.{Level}
+use Rattle.definitions.specs.declared.level.Level.TheVariants.{High, Low}
+use Rattle.definitions.specs.heard.Logs.{Records}
+use Rattle.definitions.specs.heard.Receivers.{Receiver}
+
+-- The carrier falls as a second begins; at JJY it rises.
+abbrev pub begins_second : Station → Level → Level → Bool
+begins_second Jjy Low High = true
+begins_second Jjy before after = false
+begins_second station High Low = true
+begins_second station before after = false
+
+-- the times of the records of a log that may begin a second, by each record and the one before it
+abbrev pub start_edges : Station → Records → List ℕ
+start_edges station [] = []
+start_edges station (r ∷ []) = []
+start_edges station (r ∷ s ∷ rs) =
+    if begins_second station r.1 s.1
+    then s.0 ∷ start_edges station (s ∷ rs)
+    else start_edges station (s ∷ rs)
+
+-- the offsets of a receiver's start edges in a window of n seconds, in milliseconds from a whole second of the window
+abbrev pub offsets : ℕ → ℕ → Receiver → List ℕ
+offsets start n r =
+    let begin = start + r.heard.tuning.delay in
+    map (λ e. (e - begin) % 1000)
+    (filter (λ e. nat_le begin e && nat_lt e (begin + 1000 * n)) (start_edges r.station r.heard.log))
+
+-- how far two offsets are apart, on a circle of a second
+abbrev pub circular_distance : ℕ → ℕ → ℕ
+circular_distance x y = min ((x - y) + (y - x)) (1000 - ((x - y) + (y - x)))
+
+-- how well a phase fits the start edges: each within 50 ms of it counts the milliseconds that are left
+abbrev pub fit : ℕ → ℕ → List Receiver → ℕ → ℕ
+fit start n bank f = sum_by (λ r. sum_by (λ o. 50 - circular_distance o f) (offsets start n r)) bank
+
+-- the least of the numbers up to n at which a function is greatest
+unfoldable pub first_peak : (ℕ → ℕ) → ℕ → ℕ
+first_peak f zero = 0
+first_peak f (suc n) = let p = first_peak f n in if nat_lt (f p) (f (suc n)) then suc n else p
+
+-- the phase: the least from 0 to 999 that fits best
+abbrev pub phase_of : ℕ → ℕ → List Receiver → ℕ
+phase_of start n bank = first_peak (fit start n bank) 999

@@ -1,0 +1,6 @@
+-- Time: the calendar, summer time, zones, and how a minute is written.
+pub mod Calendar
+pub mod Summer
+pub mod Seasons
+pub mod Zones
+pub mod Spelling

@@ -1,0 +1,82 @@
+-- The grammar of a log, as a relation on the list of its lines.
+use Rattle.std.specs.Prelude.{ℕ, ◌≡◌, ◌+◌, ◌<◌, ◌≤◌, ◌==◌, ◌⊎◌, if◌then◌else◌, List, [], ◌∷◌, ◌++◌, length}
+use Rattle.std.specs.Fmt.{decimal}
+use Rattle.definitions.specs.declared.level.Level.{Level}
+use Rattle.definitions.specs.declared.level.Level.TheVariants.{High, Low, Unknown}
+use Rattle.definitions.specs.heard.Logs.{Records}
+use Rattle.formats.specs.Bytes.{line_feed, carriage_return, number_sign, space}
+
+-- the byte onto the first of the lines
+abbrev pub onto_first : ℕ → List (List ℕ) → List (List ℕ)
+onto_first b [] = (b ∷ []) ∷ []
+onto_first b (l ∷ ls) = (b ∷ l) ∷ ls
+
+-- the lines of a text: each ends with LF, the last may lack it
+abbrev pub lines_of : List ℕ → List (List ℕ)
+lines_of [] = []
+lines_of (b ∷ bs) = if b == line_feed then [] ∷ lines_of bs else onto_first b (lines_of bs)
+
+-- a line without the CR at its end
+abbrev pub without_cr : List ℕ → List ℕ
+without_cr [] = []
+without_cr (b ∷ []) = if b == carriage_return then [] else b ∷ []
+without_cr (b ∷ c ∷ bs) = b ∷ without_cr (c ∷ bs)
+
+-- an empty line or a comment, which begins with a #
+abbrev pub IsSkipped : List ℕ → Type 0
+IsSkipped line = (without_cr line ≡ []) ⊎ ((bs : List ℕ) × (without_cr line ≡ number_sign ∷ bs))
+
+-- the letter of a level
+abbrev pub letter : Level → ℕ
+letter High = 72
+letter Low = 76
+letter Unknown = 88
+
+-- a record's line: the time, below 10^12 ms, a space and the letter
+abbrev pub IsRecord : List ℕ → ℕ × Level → Type 0
+IsRecord line r = (r.0 < 1_000_000_000_000) × (without_cr line ≡ decimal r.0 ++ space ∷ letter r.1 ∷ [])
+
+-- the time is above that of the last of the records
+abbrev pub IsLater : Records → ℕ → Type 0
+IsLater [] time = Unit {0}
+IsLater (r ∷ []) time = r.0 < time
+IsLater (r ∷ s ∷ rs) time = IsLater (s ∷ rs) time
+
+abbrev pub most_records : ℕ
+most_records = 200000
+
+-- Reading the lines after the records so far gives all these records.
+abbrev pub ReadsOn : Records → List (List ℕ) → Records → Type 0
+ReadsOn before [] records = records ≡ before
+ReadsOn before (line ∷ lines) records =
+    (IsSkipped line × ReadsOn before lines records)
+    ⊎ ((r : ℕ × Level) × IsRecord line r × IsLater before r.0 × (length before < most_records)
+    × ReadsOn (before ++ r ∷ []) lines records)
+
+-- the text is a log of these records
+abbrev pub IsLog : List ℕ → Records → Type 0
+IsLog text records = ReadsOn [] (lines_of text) records
+
+-- why a line is refused, in the order in which one line is judged
+pub data LineFault : Type 0 where
+  Shape : LineFault
+  NotRising : LineFault
+  TooManyRecords : LineFault
+
+-- the line is bad in this way after these records
+abbrev pub IsBad : Records → List ℕ → LineFault → Type 0
+IsBad before line Shape = ¬ (IsSkipped line) × ((r : ℕ × Level) → ¬ (IsRecord line r))
+IsBad before line NotRising = (r : ℕ × Level) × IsRecord line r × ¬ (IsLater before r.0)
+IsBad before line TooManyRecords =
+    (r : ℕ × Level) × IsRecord line r × IsLater before r.0 × (most_records ≤ length before)
+
+-- the first bad line of the text has this number, counted from 1, and is bad in this way
+pub record IsRefused (text : List ℕ) (line_number : ℕ) (fault : LineFault) : Type 0 where
+  pub front : List (List ℕ)
+  pub line : List ℕ
+  pub back : List (List ℕ)
+  pub records : Records
+  pub lines : lines_of text ≡ front ++ line ∷ back
+  pub number : line_number ≡ length front + 1
+  pub good : ReadsOn [] front records
+  pub bad : IsBad records line fault

@@ -1,0 +1,88 @@
+-- The line of each refusal.
+use Rattle.std.specs.Prelude.{ℕ, List, [], ◌∷◌, ◌++◌, Option, Some, None, codes}
+use Rattle.std.specs.Fmt.{decimal}
+use Rattle.formats.specs.LogLines.{LineFault}
+use Rattle.formats.specs.LogLines.LineFault.{Shape, NotRising, TooManyRecords}
+use Rattle.definitions.specs.time.Spelling.{dash}
+use Rattle.formats.specs.Bytes.{space, line}
+
+-- words that aren't of the grammar, a bad value, named by its option or its place, and a range that is empty
+abbrev pub usage_line : List ℕ
+usage_line = line (codes "words: usage")
+
+abbrev pub bad_word_line : List ℕ → List ℕ
+bad_word_line word = line (codes "words: bad " ++ word)
+
+abbrev pub empty_range_line : List ℕ
+empty_range_line = line (codes "words: --to is before --from")
+
+-- a key of a configuration, of a receiver by its number from 1 or of none
+abbrev pub key_text : Option ℕ → List ℕ → List ℕ
+key_text None key = key
+key_text (Some receiver) key = codes "receiver " ++ decimal receiver ++ space ∷ key
+
+-- the refusals of a configuration: the whole of it, or a key
+pub data ConfigurationFault : Type 0 where
+  TooLarge : ConfigurationFault
+  NotToml : ConfigurationFault
+  MissingKey : Option ℕ → List ℕ → ConfigurationFault
+  WrongKind : Option ℕ → List ℕ → ConfigurationFault
+  OutOfRange : Option ℕ → List ℕ → ConfigurationFault
+  UnknownKey : ConfigurationFault
+
+abbrev pub configuration_fault_text : ConfigurationFault → List ℕ
+configuration_fault_text TooLarge = codes "too large"
+configuration_fault_text NotToml = codes "not toml"
+configuration_fault_text (MissingKey receiver key) = codes "missing " ++ key_text receiver key
+configuration_fault_text (WrongKind receiver key) = codes "wrong kind " ++ key_text receiver key
+configuration_fault_text (OutOfRange receiver key) = codes "out of range " ++ key_text receiver key
+configuration_fault_text UnknownKey = codes "unknown key"
+
+abbrev pub configuration_fault_line : ConfigurationFault → List ℕ
+configuration_fault_line fault = line (codes "configuration: " ++ configuration_fault_text fault)
+
+-- a bad line of a log
+abbrev pub fault_text : LineFault → List ℕ
+fault_text Shape = codes "shape"
+fault_text NotRising = codes "not rising"
+fault_text TooManyRecords = codes "too many records"
+
+-- the beginning of a refusal of the log of a receiver, by its number from 1 and its name
+abbrev pub log_text : ℕ → List ℕ → List ℕ
+log_text number name = codes "log " ++ decimal number ++ space ∷ name ++ codes ": "
+
+abbrev pub log_too_large_line : ℕ → List ℕ → List ℕ
+log_too_large_line number name = line (log_text number name ++ codes "too large")
+
+abbrev pub log_fault_line : ℕ → List ℕ → ℕ → LineFault → List ℕ
+log_fault_line number name at fault =
+    line (log_text number name ++ codes "line " ++ decimal at ++ codes ": " ++ fault_text fault)
+
+-- the refusals of a certificate: its text, by size or line, or what it says, by step or named keys
+pub data CertificateFault : Type 0 where
+  TooLarge : CertificateFault
+  BadLine : ℕ → CertificateFault
+  TooManySteps : ℕ → CertificateFault
+  OtherWindow : CertificateFault
+  Uncovered : ℕ → CertificateFault
+  WrongBound : ℕ → CertificateFault
+  NotAbove : ℕ → CertificateFault
+  WrongEnds : Option ℕ → CertificateFault
+
+-- a key, or - where there is none
+abbrev pub named_key : Option ℕ → List ℕ
+named_key None = dash ∷ []
+named_key (Some key) = decimal key
+
+abbrev pub certificate_fault_text : CertificateFault → List ℕ
+certificate_fault_text TooLarge = codes "too large"
+certificate_fault_text (BadLine at) = codes "line " ++ decimal at ++ codes ": shape"
+certificate_fault_text (TooManySteps at) = codes "line " ++ decimal at ++ codes ": too many steps"
+certificate_fault_text OtherWindow = codes "other window"
+certificate_fault_text (Uncovered step) = codes "uncovered at step " ++ decimal step
+certificate_fault_text (WrongBound step) = codes "wrong bound at step " ++ decimal step
+certificate_fault_text (NotAbove step) = codes "not above at step " ++ decimal step
+certificate_fault_text (WrongEnds key) = codes "wrong ends " ++ named_key key
+
+abbrev pub certificate_fault_line : CertificateFault → List ℕ
+certificate_fault_line fault = line (codes "certificate: " ++ certificate_fault_text fault)

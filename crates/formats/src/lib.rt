@@ -1,0 +1,10 @@
+//! The bytes of every text that the program reads or writes: log lines, reports, listings, the feed, trials and refusals.
+//! The definitions stand in `specs/`; here are worked examples, which the checker computes from the definitions alone.
+#![tactic(auto)]
+
+mod spelled;
+
+pub use spelled::{
+    feed_in_spring, refused_certificates, refused_configurations, refused_logs, refused_words,
+    reports, trial_of_msf,
+};
