@@ -18,7 +18,7 @@ use Rattle.definitions.specs.answers.Answers.{IsAnswer}
 use Rattle.definitions.specs.answers.FirstTwo.{AreLeastTwo, IsKey, answer_from}
 use Rattle.due.specs.Owed.{IsOfDay, bank_of, day_cost, day_window}
 use Rattle.due.proofs.DayLaws.{of_day}
-use Rattle.definitions.proofs.CostLaws.{set_cost_same, total_below_same}
+use Rattle.definitions.proofs.CostLaws.{set_cost_same, sum_below_same}
 use Rattle.definitions.proofs.EndLaws.{answer_is}
 use Rattle.symbol_cost.specs.Grid.{Grid, HasCosts, IsPriced, cost_at}
 use Rattle.texts.specs.Writing.{IsReportable}
@@ -54,7 +54,7 @@ pub same_cost : (day : ℕ) (log : Records) (grid : Grid) → HasCosts grid Jjy 
     → (q : Sequence) → row_cost grid.rows (day_window day) q ≡ day_cost day log q
 same_cost day log grid has q =
     let costs = bank_costs difference_table (bank_of log) 0 in
-    total_below_same 120 (λ k. set_cost Jjy (cost_at grid.rows k) (set_at Jjy q k)) (λ k. set_cost Jjy (costs Jjy k) (set_at Jjy q k))
+    sum_below_same 120 (λ k. set_cost Jjy (cost_at grid.rows k) (set_at Jjy q k)) (λ k. set_cost Jjy (costs Jjy k) (set_at Jjy q k))
     (λ k h. set_cost_same Jjy (cost_at grid.rows k) (costs Jjy k) (set_at Jjy q k) (λ x s. has.each k x h s))
     ∙ sym (cost_of_jjy costs (day_window day) q refl)
 

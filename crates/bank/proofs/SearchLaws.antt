@@ -3,8 +3,8 @@ use Rattle.std.proofs.Common.{◌≡◌, ℕ, ◌+◌, ◌/◌, ◌%◌, ◌<◌
 use Rattle.std.proofs.lemmas.Bool.{ltb-true, ltb-false, cases_order}
 use Rattle.std.proofs.Math.ListN.{get_or-append, length-append}
 use Rattle.std.proofs.lemmas.List.{get_or_push}
-use Rattle.definitions.specs.heard.Costs.{total_below}
-use Rattle.definitions.proofs.CostLaws.{total_below_none}
+use Rattle.definitions.specs.heard.Costs.{sum_below}
+use Rattle.definitions.proofs.CostLaws.{sum_below_none}
 use Rattle.std.proofs.lemmas.List.FromFn.{get_or-map-range_with_len}
 use Rattle.signal_base.specs.declared.station.Station.TheVariants.{Jjy}
 use Rattle.definitions.specs.time.Calendar.{century_minutes}
@@ -51,5 +51,5 @@ sets_more minutes from i sets long each is k within =
     by_order (inr (inr gt)) = absurd (omega (arith, within, length-append minutes (sets ∷ [])))
 
 -- nothing is summed yet
-pub cost_none : (f : ℕ → ℕ) → 0 ≡ total_below 0 f
-cost_none f = sym (total_below_none f)
+pub cost_none : (f : ℕ → ℕ) → 0 ≡ sum_below 0 f
+cost_none f = sym (sum_below_none f)

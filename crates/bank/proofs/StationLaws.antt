@@ -6,23 +6,23 @@ use Rattle.signal_base.specs.declared.station.Stations.{Stations}
 use Rattle.signal_base.specs.declared.window.Window.{Window}
 use Rattle.definitions.specs.declared.sequence.Sequence.{Sequence}
 use Rattle.definitions.specs.time.Calendar.{century_minutes}
-use Rattle.definitions.specs.codes.Allowed.{encoded_year, is_heard, stations_of, IsSent}
+use Rattle.definitions.specs.codes.Allowed.{encoded_year, has_station, stations_of, CanBeEncoded}
 use Rattle.definitions.specs.heard.Costs.{Costs, station_cost, sequence_cost}
 use Rattle.due.specs.Owed.{jjy_alone}
 
 -- no other station is heard
-each_encodes : (t : ℕ) → encoded_year Jjy t ≤ 2099 → (station : Station) → is_heard jjy_alone station ≡ true → encoded_year station t ≤ 2099
+each_encodes : (t : ℕ) → encoded_year Jjy t ≤ 2099 → (station : Station) → has_station jjy_alone station ≡ true → encoded_year station t ≤ 2099
 each_encodes t year Dcf77 heard = cc
 each_encodes t year Msf heard = cc
 each_encodes t year Wwvb heard = cc
 each_encodes t year Jjy heard = year
 
 -- a minute of the century is sent where JJY encodes its year
-pub sent_by_jjy : (t : ℕ) → t < century_minutes → encoded_year Jjy t ≤ 2099 → IsSent jjy_alone t
+pub sent_by_jjy : (t : ℕ) → t < century_minutes → encoded_year Jjy t ≤ 2099 → CanBeEncoded jjy_alone t
 sent_by_jjy t early year = (early, each_encodes t year)
 
 -- and nowhere else
-pub encoded_by_jjy : (t : ℕ) → IsSent jjy_alone t → encoded_year Jjy t ≤ 2099
+pub encoded_by_jjy : (t : ℕ) → CanBeEncoded jjy_alone t → encoded_year Jjy t ≤ 2099
 encoded_by_jjy t sent = sent.1 Jjy refl
 
 -- what a sequence costs is what it costs JJY

@@ -5,7 +5,7 @@ use Rattle.signal_base.specs.declared.station.Stations.{Stations}
 use Rattle.signal_base.specs.declared.window.Window.{Window}
 use Rattle.definitions.specs.declared.sequence.Sequence.{Sequence}
 use Rattle.definitions.specs.time.Calendar.{century_minutes}
-use Rattle.definitions.specs.codes.Allowed.{allowed, telegram_of, IsSent}
+use Rattle.definitions.specs.codes.Allowed.{allowed, telegram_of, CanBeEncoded}
 use Rattle.definitions.specs.sequences.Walks.{IsWalkable}
 use Rattle.definitions.specs.sequences.Keys.{key_of}
 use Rattle.definitions.specs.heard.Costs.{station_cost}
@@ -37,7 +37,7 @@ sent_sets t = if nat_lt t century_minutes then telegram_of Jjy false t else None
 
 -- the set that JJY may carry in a second, or none where these stations don't send its minute
 abbrev pub IsSentSet : Stations → ℕ × ℕ → Option ℕ → Type 0
-IsSentSet stations place found = MatchOption found (¬ (IsSent stations place.0)) (λ set. IsSent stations place.0 × (set ≡ allowed Jjy false place))
+IsSentSet stations place found = MatchOption found (¬ (CanBeEncoded stations place.0)) (λ set. CanBeEncoded stations place.0 × (set ≡ allowed Jjy false place))
 
 -- these are the sets of the minutes from t on
 abbrev pub AreSets : List (Option (List ℕ)) → ℕ → Type 0

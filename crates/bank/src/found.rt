@@ -1,7 +1,7 @@
 //! The keys of the first two sequences.
 
-ghost use Rattle.std.specs.Prelude.{◌≡◌};
-ghost use Rattle.definitions.specs.heard.Costs.{lesser_with};
+ghost use Rattle.std.specs.Prelude.{◌≡◌, Some, min};
+ghost use Rattle.std.specs.Option.{option_map_or};
 ghost use Rattle.bank.specs.Found.{first_with, second_with};
 
 /// The least key that came, and the least of the others.
@@ -34,7 +34,7 @@ impl Found {
 }
 
 fn lesser(other: Option<u64>, key: u64) -> Option<u64>
-    ensures { result ≡ lesser_with other key }
+    ensures { result ≡ Some (option_map_or (λ other. min other key) other key) }
 {
     match other {
         None => Some(key),

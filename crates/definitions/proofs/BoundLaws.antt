@@ -7,11 +7,11 @@ use Rattle.definitions.specs.declared.sequence.Sequence.{Sequence}
 use Rattle.definitions.specs.declared.block.Block.{Block}
 use Rattle.definitions.specs.declared.block.Span.{Span}
 use Rattle.definitions.specs.declared.block.Span.TheVariants.{Year, Day, Hour, Minute}
-use Rattle.definitions.specs.codes.Allowed.{is_heard, stations_of}
+use Rattle.definitions.specs.codes.Allowed.{has_station, stations_of}
 use Rattle.definitions.specs.sequences.Keys.{index_of, key_of}
 use Rattle.definitions.specs.sequences.Walks.{place_at, set_at, IsLegal, IsWalkable}
 use Rattle.definitions.specs.heard.Dut1.{has_dut1, is_dut1_second, dut1_values, dut1_symbol}
-use Rattle.definitions.specs.heard.Costs.{Costs, total_below, least, set_cost, lies_in_one_day, untied_cost, dut1_cost, least_dut1_cost, station_cost, sequence_cost}
+use Rattle.definitions.specs.heard.Costs.{Costs, sum_below, least, set_cost, lies_in_one_day, cost_outside_dut1, dut1_cost, least_dut1_cost, station_cost, sequence_cost}
 use Rattle.definitions.specs.answers.Blocks.{IsBlock, IsIn, IsUnion, first_of, union_cost, IsUnionBound, IsMinuteBound, IsBound, IsBoundBy, block_key, span_end}
 use Rattle.definitions.proofs.KeyLaws.{same_sequence}
 use Rattle.definitions.proofs.PlaceLaws.{within_minute}
@@ -20,14 +20,14 @@ use Rattle.definitions.proofs.Dut1Laws.{dut1_sets, dut1_bit}
 use Rattle.definitions.proofs.UnionLaws.{within_le, wider_costs_no_more, free_costs_no_more}
 
 -- sums of terms that are no greater
-total_le : (n : ℕ) (f g : ℕ → ℕ) → ((k : ℕ) → k < n → f k ≤ g k) → total_below n f ≤ total_below n g
-unfolding total_below
+total_le : (n : ℕ) (f g : ℕ → ℕ) → ((k : ℕ) → k < n → f k ≤ g k) → sum_below n f ≤ sum_below n g
+unfolding sum_below
 total_le zero f g le = omega arith
 total_le (suc n) f g le = omega (arith, total_le n f g (λ k lt. le k (omega arith)), le n (omega arith))
 
 -- a sum of sums
-total_plus : (n : ℕ) (f g : ℕ → ℕ) → total_below n (λ k. f k + g k) ≡ total_below n f + total_below n g
-unfolding total_below
+total_plus : (n : ℕ) (f g : ℕ → ℕ) → sum_below n (λ k. f k + g k) ≡ sum_below n f + sum_below n g
+unfolding sum_below
 total_plus zero f g = refl
 total_plus (suc n) f g = omega (arith, total_plus n f g)
 
@@ -43,9 +43,9 @@ sum_from_le p f g le [] a b ab = ab
 sum_from_le p f g le (x ∷ xs) a b ab = sum_step p f g le x xs (sum_from_le p f g le xs) (p x) refl a b ab
 
 -- sums over the stations of a window
-sum_le : (window : Window) (f g : Station → ℕ) → ((station : Station) → is_heard window.stations station ≡ true → f station ≤ g station)
+sum_le : (window : Window) (f g : Station → ℕ) → ((station : Station) → has_station window.stations station ≡ true → f station ≤ g station)
     → sum_by f (stations_of window.stations) ≤ sum_by g (stations_of window.stations)
-sum_le window f g le = sum_from_le (is_heard window.stations) f g le (Dcf77 ∷ Msf ∷ Wwvb ∷ Jjy ∷ []) 0 0 (omega arith)
+sum_le window f g le = sum_from_le (has_station window.stations) f g le (Dcf77 ∷ Msf ∷ Wwvb ∷ Jjy ∷ []) 0 0 (omega arith)
 
 fold_ge : (c m : ℕ) (g : ℤ → ℕ) → ((d : ℤ) → c ≤ g d) → c ≤ m → (ds : List ℤ) → c ≤ fold min m (map g ds)
 fold_ge c m g le first [] = first
@@ -94,11 +94,11 @@ module _ (station : Station) (costs : ℕ → ℕ → ℕ) (n : ℕ) (q : Sequen
       by_second false e = omega arith
 
   -- a sequence costs a station no less than its sets do
-  sets_cost_no_more : total_below n in_slot ≤ station_cost station costs n q
+  sets_cost_no_more : sum_below n in_slot ≤ station_cost station costs n q
   sets_cost_no_more = by_station (has_dut1 station) refl (lies_in_one_day n q)
     where
       by_station : (has : Bool) → has_dut1 station ≡ has → (one : Bool)
-          → total_below n in_slot ≤ (if has && one then untied_cost station costs n q + least_dut1_cost station costs n q else total_below n in_slot)
+          → sum_below n in_slot ≤ (if has && one then cost_outside_dut1 station costs n q + least_dut1_cost station costs n q else sum_below n in_slot)
       by_station false e one = omega arith
       by_station true e false = omega arith
       by_station true e true =
@@ -106,7 +106,7 @@ module _ (station : Station) (costs : ℕ → ℕ → ℕ) (n : ℕ) (q : Sequen
             arith,
             total_le n in_slot (λ k. untold k + told k) (λ k lt. parted (tells k) (in_slot k)),
             total_plus n untold told,
-            least_values station (total_below n told) (dut1_cost station costs n q) e
+            least_values station (sum_below n told) (dut1_cost station costs n q) e
                 (λ d. total_le n told (λ k. if tells k then costs k (dut1_symbol station d (place_at q k).1) else 0) (λ k lt. told_le d k)),
           )
 
@@ -130,7 +130,7 @@ module _ (costs : Costs) (window : Window) (b : Block) where
   union_bound_le n q bound is walkable =
       let unions = bound.1 in
       let le = sum_le window
-      (λ station. total_below window.seconds (λ k. set_cost station (costs station k) (unions station k)))
+      (λ station. sum_below window.seconds (λ k. set_cost station (costs station k) (unions station k)))
       (λ station. station_cost station (costs station) window.seconds q)
       (λ station heard.
       let one = total_le window.seconds (λ k. set_cost station (costs station k) (unions station k)) (λ k. set_cost station (costs station k) (set_at station q k))
@@ -174,12 +174,12 @@ module _ (costs : Costs) (window : Window) (b : Block) where
 
   -- unions of one kind cost the same
   unions_le : (unions others : Station → ℕ → ℕ)
-      → ((station : Station) (k : ℕ) → is_heard window.stations station ≡ true → k < window.seconds → IsUnion window b station k (unions station k))
-      → ((station : Station) (k : ℕ) → is_heard window.stations station ≡ true → k < window.seconds → IsUnion window b station k (others station k))
+      → ((station : Station) (k : ℕ) → has_station window.stations station ≡ true → k < window.seconds → IsUnion window b station k (unions station k))
+      → ((station : Station) (k : ℕ) → has_station window.stations station ≡ true → k < window.seconds → IsUnion window b station k (others station k))
       → union_cost costs window unions ≤ union_cost costs window others
   unions_le unions others are also = sum_le window
-      (λ station. total_below window.seconds (λ k. set_cost station (costs station k) (unions station k)))
-      (λ station. total_below window.seconds (λ k. set_cost station (costs station k) (others station k)))
+      (λ station. sum_below window.seconds (λ k. set_cost station (costs station k) (unions station k)))
+      (λ station. sum_below window.seconds (λ k. set_cost station (costs station k) (others station k)))
       (λ station heard. total_le window.seconds _ _ (λ k lt.
       let one = are station k heard lt in
       let other = also station k heard lt in

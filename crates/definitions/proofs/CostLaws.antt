@@ -1,5 +1,6 @@
 -- How costs add up, and that they are small.
 use Rattle.std.proofs.Common.{◌≡◌, ℕ, zero, suc, ◌+◌, ◌*◌, ◌<◌, ◌≤◌, List, [], ◌∷◌, ◌++◌, length, Option, Some, None, unwrap_or, Bool, true, false, min, fold, map, filter, if◌then◌else◌, ◌==◌, refl, sym, ap, ◌∙◌, subst, arith, add-one, add-zero, zero-add, suc-mul}
+use Rattle.std.specs.Option.{option_map_or}
 use Rattle.std.proofs.lemmas.List.{append-nil, map-append}
 use Rattle.std.proofs.lemmas.List.Elements.{filter-append}
 use Rattle.signal_base.specs.declared.tuning.Tuning.{Tuning}
@@ -7,7 +8,7 @@ use Rattle.definitions.specs.declared.level.Level.{Level}
 use Rattle.definitions.specs.declared.level.Level.TheVariants.{High, Low, Unknown}
 use Rattle.definitions.specs.heard.Logs.{Records, low_count, count_level, level_at}
 use Rattle.definitions.specs.heard.Receivers.{receptions}
-use Rattle.definitions.specs.heard.Costs.{total_below, least, lesser_with, set_cost}
+use Rattle.definitions.specs.heard.Costs.{sum_below, least, set_cost}
 use Rattle.signal_base.specs.declared.station.Station.{Station}
 use Rattle.signal_base.specs.Waveform.{symbol_count}
 use Rattle.definitions.specs.codes.Vocabulary.{unscored}
@@ -31,29 +32,29 @@ low_count_bound log m zero = omega arith
 low_count_bound log m (suc n) = count_level_bound n (level_at log (m + n)) (low_count log m n) (low_count_bound log m n)
 
 -- one more term of a sum
-pub total_below_more : (n : ℕ) (f : ℕ → ℕ) → total_below (n + 1) f ≡ total_below n f + f n
-unfolding total_below
-total_below_more n f = rw add-one refl
+pub sum_below_more : (n : ℕ) (f : ℕ → ℕ) → sum_below (n + 1) f ≡ sum_below n f + f n
+unfolding sum_below
+sum_below_more n f = rw add-one refl
 
-pub total_below_none : (f : ℕ → ℕ) → total_below 0 f ≡ 0
-unfolding total_below
-total_below_none f = refl
+pub sum_below_none : (f : ℕ → ℕ) → sum_below 0 f ≡ 0
+unfolding sum_below
+sum_below_none f = refl
 
 -- sums of the same terms
-pub total_below_same : (n : ℕ) (f g : ℕ → ℕ) → ((k : ℕ) → k < n → f k ≡ g k) → total_below n f ≡ total_below n g
-unfolding total_below
-total_below_same zero f g same = refl
-total_below_same (suc n) f g same =
-    let before = total_below_same n f g (λ k h. same k (omega arith)) in
+pub sum_below_same : (n : ℕ) (f g : ℕ → ℕ) → ((k : ℕ) → k < n → f k ≡ g k) → sum_below n f ≡ sum_below n g
+unfolding sum_below
+sum_below_same zero f g same = refl
+sum_below_same (suc n) f g same =
+    let before = sum_below_same n f g (λ k h. same k (omega arith)) in
     let last = same n (omega arith) in
     omega arith
 
 -- a sum of small terms
-pub total_below_bound : (n b : ℕ) (f : ℕ → ℕ) → ((k : ℕ) → k < n → f k ≤ b) → total_below n f ≤ n * b
-unfolding total_below
-total_below_bound zero b f small = omega arith
-total_below_bound (suc n) b f small =
-    let before = total_below_bound n b f (λ k h. small k (omega arith)) in
+pub sum_below_bound : (n b : ℕ) (f : ℕ → ℕ) → ((k : ℕ) → k < n → f k ≤ b) → sum_below n f ≤ n * b
+unfolding sum_below
+sum_below_bound zero b f small = omega arith
+sum_below_bound (suc n) b f small =
+    let before = sum_below_bound n b f (λ k h. small k (omega arith)) in
     let last = small n (omega arith) in
     omega (arith, suc-mul n b)
 
@@ -68,6 +69,10 @@ receptions_more (u ∷ ts) (m ∷ ls) t l same = ap (λ rs. record { tuning = u;
 fold_more : (b : ℕ) (cs : List ℕ) (c : ℕ) → fold min b (cs ++ c ∷ []) ≡ min (fold min b cs) c
 fold_more b [] c = refl
 fold_more b (d ∷ cs) c = fold_more (min b d) cs c
+
+-- the lesser of a number that there may be and one more
+abbrev pub lesser_with : Option ℕ → ℕ → Option ℕ
+lesser_with o c = Some (option_map_or (λ b. min b c) o c)
 
 -- one more cost
 pub least_more : (cs : List ℕ) (c : ℕ) → least (cs ++ c ∷ []) ≡ lesser_with (least cs) c

@@ -8,7 +8,7 @@ use Rattle.signal_base.specs.declared.window.Window.{Window}
 use Rattle.definitions.specs.declared.sequence.Sequence.{Sequence}
 use Rattle.definitions.specs.declared.answer.Answer.{Answer}
 use Rattle.definitions.specs.time.Calendar.{century_minutes, minute_length}
-use Rattle.definitions.specs.codes.Allowed.{encoded_year, is_heard, IsSent}
+use Rattle.definitions.specs.codes.Allowed.{encoded_year, has_station, CanBeEncoded}
 use Rattle.definitions.specs.sequences.Keys.{key_of}
 use Rattle.definitions.specs.sequences.Walks.{place_at, set_at, unannounced, IsWalkable, ShowsLeap, IsLegal, IsSequence}
 use Rattle.definitions.specs.heard.Costs.{Costs, sequence_cost}
@@ -163,32 +163,32 @@ decide_some_station P each = some (decide_either (each Dcf77) (decide_either (ea
     some (inl (inr (inr (inr h)))) = inl (Jjy, h)
     some (inr not) = inr (λ h. never not h.0 h.1)
 
-decide_sent : (stations : Stations) (t : ℕ) → Decided (IsSent stations t)
+decide_sent : (stations : Stations) (t : ℕ) → Decided (CanBeEncoded stations t)
 decide_sent stations t =
     decide_both (decide_le (suc t) century_minutes)
-    (decide_station (λ s. is_heard stations s ≡ true → encoded_year s t ≤ 2099) (λ s. decide_if (decide_true (is_heard stations s)) (decide_le (encoded_year s t) 2099)))
+    (decide_station (λ s. has_station stations s ≡ true → encoded_year s t ≤ 2099) (λ s. decide_if (decide_true (has_station stations s)) (decide_le (encoded_year s t) 2099)))
 
 module _ (window : Window) (q : Sequence) where
   decide_walkable : Decided (IsWalkable window q)
   decide_walkable =
       put (decide_both (decide_le window.from q.first) (decide_both (decide_le (suc q.first) window.to)
       (decide_both (decide_le (suc q.second) (minute_length q.announced q.first))
-      (decide_each (λ k. IsSent window.stations (place_at q k).0) (λ k. decide_sent window.stations (place_at q k).0) window.seconds))))
+      (decide_each (λ k. CanBeEncoded window.stations (place_at q k).0) (λ k. decide_sent window.stations (place_at q k).0) window.seconds))))
     where
-      put : Decided ((window.from ≤ q.first) × ((q.first < window.to) × ((q.second < minute_length q.announced q.first) × ((k : ℕ) → k < window.seconds → IsSent window.stations (place_at q k).0))))
+      put : Decided ((window.from ≤ q.first) × ((q.first < window.to) × ((q.second < minute_length q.announced q.first) × ((k : ℕ) → k < window.seconds → CanBeEncoded window.stations (place_at q k).0))))
           → Decided (IsWalkable window q)
-      put (inl h) = inl (record { not_before = h.0; before_end = h.1.0; second = h.1.1.0; sent = h.1.1.1 })
-      put (inr not) = inr (λ is. not (is.not_before, (is.before_end, (is.second, is.sent))))
+      put (inl h) = inl (record { not_before = h.0; before_end = h.1.0; second = h.1.1.0; encoded = h.1.1.1 })
+      put (inr not) = inr (λ is. not (is.not_before, (is.before_end, (is.second, is.encoded))))
 
   differs : Station → ℕ → Type 0
-  differs station k = (is_heard window.stations station ≡ true) × (set_at station q k ≢ set_at station (unannounced q) k)
+  differs station k = (has_station window.stations station ≡ true) × (set_at station q k ≢ set_at station (unannounced q) k)
 
   decide_shows : Decided (ShowsLeap window q)
   unfolding differs
   decide_shows =
       put (decide_some_station (λ s. (k : ℕ) × (k < window.seconds) × differs s k)
       (λ s. decide_some (differs s)
-      (λ k. decide_both (decide_true (is_heard window.stations s)) (decide_not (decide_eq (set_at s q k) (set_at s (unannounced q) k)))) window.seconds))
+      (λ k. decide_both (decide_true (has_station window.stations s)) (decide_not (decide_eq (set_at s q k) (set_at s (unannounced q) k)))) window.seconds))
     where
       put : Decided ((s : Station) × ((k : ℕ) × (k < window.seconds) × differs s k)) → Decided (ShowsLeap window q)
       put (inl h) = inl (h.0, h.1.0, h.1.2.0, h.1.1, h.1.2.1)

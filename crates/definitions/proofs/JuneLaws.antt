@@ -6,7 +6,7 @@ use Rattle.signal_base.specs.declared.station.Station.TheVariants.{Dcf77, Msf, W
 use Rattle.definitions.specs.declared.dcf77.DcfFacts.{DcfFacts}
 use Rattle.definitions.specs.time.Calendar.{century_minutes, day_at, minute_length}
 use Rattle.definitions.specs.time.Summer.{season_at, eu_change_within}
-use Rattle.definitions.specs.codes.Allowed.{allowed, dcf_facts, encoded_year, is_heard}
+use Rattle.definitions.specs.codes.Allowed.{allowed, dcf_facts, encoded_year, has_station}
 use Rattle.definitions.specs.codes.Dcf77.{dcf_second}
 use Rattle.definitions.specs.sequences.Walks.{place_at, next_place, set_at, unannounced, IsWalkable, IsLegal}
 use Rattle.definitions.specs.examples.Sequences.{window_of, june_announced}
@@ -40,7 +40,7 @@ walkable mask b = record {
   not_before = omega arith;
   before_end = omega arith;
   second = omega (arith, short b);
-  sent = λ k lt. let there = ap (λ (p : ℕ × ℕ). p.0) (places b k lt) in
+  encoded = λ k lt. let there = ap (λ (p : ℕ × ℕ). p.0) (places b k lt) in
       (omega (arith, there), λ station heard. omega (arith, ap (encoded_year station) there, year station));
 }
 
@@ -78,7 +78,7 @@ hidden k lt =
     ap (allowed Dcf77 true) (places true k lt) ∙ ap (λ (f : DcfFacts). dcf_second f k) same_facts
     ∙ sym (ap (allowed Dcf77 false) (places false k lt))
 
-never : (station : Station) (k : ℕ) → is_heard (window_of 1 0 century_minutes).stations station ≡ true → k < 60
+never : (station : Station) (k : ℕ) → has_station (window_of 1 0 century_minutes).stations station ≡ true → k < 60
     → set_at station june_announced k ≢ set_at station (unannounced june_announced) k → ⊥
 never Dcf77 k heard lt apart = apart (hidden k lt)
 never Msf k heard lt apart = absurd cc

@@ -7,10 +7,10 @@ use Rattle.signal_base.specs.Mask.{has_bit}
 use Rattle.signal_base.specs.Waveform.{symbol_count}
 use Rattle.definitions.specs.codes.Vocabulary.{free, unscored}
 use Rattle.definitions.specs.codes.Allowed.{IsSetOf}
-use Rattle.definitions.specs.heard.Costs.{lesser_with, set_cost}
+use Rattle.definitions.specs.heard.Costs.{set_cost}
 use Rattle.definitions.proofs.SetLaws.{IsBit}
 use Rattle.definitions.proofs.Dut1Laws.{in_free}
-use Rattle.definitions.proofs.CostLaws.{least_below, least_below-in, least_below-out}
+use Rattle.definitions.proofs.CostLaws.{lesser_with, least_below, least_below-in, least_below-out}
 
 -- every number of the one is one of the other
 abbrev pub IsWithin : ℕ → ℕ → Type 0

@@ -12,12 +12,11 @@ ghost use Rattle.definitions.specs.codes.Vocabulary.{free, no_second};
 ghost use Rattle.definitions.specs.codes.Allowed.{IsSetOf, allowed};
 ghost use Rattle.definitions.specs.heard.Dut1.{dut1_symbol, is_dut1_second};
 ghost use Rattle.definitions.specs.heard.Receivers.{Receiver};
-ghost use Rattle.definitions.specs.heard.Phase.{fit, phase_of};
+ghost use Rattle.definitions.specs.heard.Phase.{agreement, phase_of};
 ghost use Rattle.definitions.specs.heard.Costs.{Costs};
 ghost use Rattle.definitions.specs.answers.Answers.{IsWindowAnswer};
 ghost use Rattle.definitions.specs.sequences.Walks.{IsSequence};
-ghost use Rattle.definitions.specs.sequences.Keys.{ceiling_key, key_of};
-ghost use Rattle.definitions.specs.sequences.Keys.{sequence_of, cost_of};
+ghost use Rattle.definitions.specs.sequences.Keys.{ceiling_key, cost_of, key_of, sequence_of};
 ghost use Rattle.definitions.specs.time.Spelling.{day_text};
 
 /// Two different sequences have different keys, whatever they cost, and a key gives its sequence and cost back. The
@@ -40,8 +39,8 @@ pub fn window_has_one_answer()
 /// The phase is one of the milliseconds of a second; none fits the start edges better, and no lesser one as well.
 pub fn phase_fits_best()
     ensures range { (start n : ℕ) (bank : List Receiver) → phase_of start n bank < 1000 }
-    ensures best { (start n : ℕ) (bank : List Receiver) (f : ℕ) → f < 1000 → fit start n bank f ≤ fit start n bank (phase_of start n bank) }
-    ensures first { (start n : ℕ) (bank : List Receiver) (f : ℕ) → f < phase_of start n bank → fit start n bank f < fit start n bank (phase_of start n bank) }
+    ensures best { (start n : ℕ) (bank : List Receiver) (f : ℕ) → f < 1000 → agreement start n bank f ≤ agreement start n bank (phase_of start n bank) }
+    ensures first { (start n : ℕ) (bank : List Receiver) (f : ℕ) → f < phase_of start n bank → agreement start n bank f < agreement start n bank (phase_of start n bank) }
 {}
 
 /// Different days of the century have different dates.

@@ -3,9 +3,8 @@
 ghost use Rattle.std.specs.Prelude.{◌≡◌, ◌%◌, ◌^◌, ◌<◌, ◌≤◌};
 ghost use Rattle.std.specs.Option.{ForSome};
 ghost use Rattle.definitions.specs.sequences.Walks.{IsSequence};
-ghost use Rattle.definitions.specs.sequences.Keys.{index_of, key_of};
+ghost use Rattle.definitions.specs.sequences.Keys.{cost_of, index_end, index_of, key_of, sequence_of};
 ghost use Rattle.definitions.specs.answers.FirstTwo.{answer_from};
-ghost use Rattle.definitions.specs.sequences.Keys.{cost_of, sequence_of};
 
 use definitions::{Answer, Sequence};
 
@@ -36,7 +35,7 @@ pub fn key(cost: u32, q: &Sequence) -> u64
 
 /// The sequence of a key.
 pub fn sequence_of(key: u64) -> Sequence
-    requires { key % 2 ^ 33 < 6_416_712_000 }
+    requires { key % 2 ^ 33 < index_end }
     ensures { result ≡ sequence_of key }
 {
     let index = key % (1 << 33);
@@ -57,8 +56,8 @@ pub fn cost_of(key: u64) -> u32
 
 /// The answer where the first two admitted sequences have these keys.
 pub fn answer_of(first: Option<u64>, second: Option<u64>) -> Answer
-    requires first { ForSome first (λ key. key % 2 ^ 33 < 6_416_712_000) }
-    requires second { ForSome second (λ key. key % 2 ^ 33 < 6_416_712_000) }
+    requires first { ForSome first (λ key. key % 2 ^ 33 < index_end) }
+    requires second { ForSome second (λ key. key % 2 ^ 33 < index_end) }
     ensures { result ≡ answer_from first second }
 {
     let Some(first) = first else {

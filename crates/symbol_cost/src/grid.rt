@@ -1,11 +1,12 @@
 //! The grid of costs.
 
-ghost use Rattle.std.specs.Prelude.{◌≡◌, ◌+◌, ◌<◌, ◌≤◌, ℕ, IfOk, filter, length, map, slice_index, unwrap_or};
+ghost use Rattle.std.specs.Prelude.{◌≡◌, ◌+◌, ◌<◌, ◌≤◌, ℕ, IfOk, Some, filter, length, map, min, slice_index, unwrap_or};
 ghost use Rattle.std.specs.List.{All};
+ghost use Rattle.std.specs.Option.{option_map_or};
 ghost use Rattle.signal_base.specs.declared.station.Station.{Station};
 ghost use Rattle.signal_base.specs.Mask.{has_bit};
 ghost use Rattle.definitions.specs.heard.Receivers.{receptions};
-ghost use Rattle.definitions.specs.heard.Costs.{least, lesser_with, set_cost, slot_cost, symbols_of};
+ghost use Rattle.definitions.specs.heard.Costs.{least, set_cost, slot_cost, symbols_of};
 ghost use Rattle.symbol_cost.specs.Grid.{HasCosts, IsPriced, AreRows, IsTuned, cost_at};
 
 use crate::receivers::{Row, row_of};
@@ -147,7 +148,7 @@ fn has(set: u8, x: u8) -> bool
 
 // The lesser of what is the least so far and one more cost.
 fn lesser(least: Option<u32>, cost: u32) -> Option<u32>
-    ensures { result ≡ lesser_with least cost }
+    ensures { result ≡ Some (option_map_or (λ other. min other cost) least cost) }
 {
     match least {
         None => Some(cost),

@@ -5,7 +5,7 @@ ghost use Rattle.std.specs.Option.{ForSome};
 ghost use Rattle.std.specs.List.{All};
 ghost use Rattle.signal_base.specs.Waveform.{symbol_count, waveform};
 ghost use Rattle.definitions.specs.heard.Receivers.{receptions};
-ghost use Rattle.definitions.specs.heard.Costs.{second_cost, slot_cost, tenth_cost, total_below};
+ghost use Rattle.definitions.specs.heard.Costs.{second_cost, slot_cost, tenth_cost, sum_below};
 ghost use Rattle.definitions.specs.heard.Logs.{low_count};
 ghost use Rattle.symbol_cost.specs.Grid.{IsPriced, IsTuned};
 ghost use Rattle.symbol_cost.specs.Rows.{Adds, heard};
@@ -70,7 +70,7 @@ fn add_second(row: &mut Row, station: Station, table: &CostTable, weight: u8, lo
     requires priced { IsPriced table.now }
     requires from { from < 1_500_000_000_000 }
     requires room { (x : ℕ) → slice_index row.old x ≤ 1_400_000 }
-    ensures adds { Adds station row.old row.new (λ x. total_below 10 (λ j. tenth_cost table.now weight (slice_index_or (waveform station x) j false) (low_count log.now (from + 100 * j) 100))) }
+    ensures adds { Adds station row.old row.new (λ x. sum_below 10 (λ j. tenth_cost table.now weight (slice_index_or (waveform station x) j false) (low_count log.now (from + 100 * j) 100))) }
     ensures bound { (x : ℕ) → slice_index row.new x ≤ slice_index row.old x + 200_000 }
 {
     for j in 0..10u64 {

@@ -9,10 +9,10 @@ use Rattle.definitions.specs.declared.block.Block.{Block}
 use Rattle.definitions.specs.declared.block.Span.{Span}
 use Rattle.definitions.specs.declared.block.Span.TheVariants.{Year, Day, Hour, Minute}
 use Rattle.definitions.specs.time.Calendar.{day_at, is_leap_year, minutes_per_day, minutes_per_hour}
-use Rattle.definitions.specs.codes.Allowed.{is_heard, stations_of}
+use Rattle.definitions.specs.codes.Allowed.{has_station, stations_of}
 use Rattle.definitions.specs.sequences.Walks.{set_at, IsWalkable, IsLegal}
 use Rattle.definitions.specs.sequences.Keys.{key_of}
-use Rattle.definitions.specs.heard.Costs.{Costs, total_below, set_cost, sequence_cost}
+use Rattle.definitions.specs.heard.Costs.{Costs, sum_below, set_cost, sequence_cost}
 
 -- how many days of its year come after the day n
 abbrev pub days_left : ℕ → ℕ
@@ -96,7 +96,7 @@ pub record IsUnion (window : Window) (b : Block) (station : Station) (k set : �
 -- the sum of the costs of these unions, over the stations and the slots
 abbrev pub union_cost : Costs → Window → (Station → ℕ → ℕ) → ℕ
 union_cost costs window unions =
-    sum_by (λ station. total_below window.seconds (λ k. set_cost station (costs station k) (unions station k)))
+    sum_by (λ station. sum_below window.seconds (λ k. set_cost station (costs station k) (unions station k)))
     (stations_of window.stations)
 
 -- of a minute: what its sequence costs, where it is legal
@@ -110,7 +110,7 @@ IsUnionBound costs window b None = (q : Sequence) → IsIn b q → ¬ (IsWalkabl
 IsUnionBound costs window b (Some n) =
     ((q : Sequence) × IsIn b q × IsWalkable window q)
     × (unions : Station → ℕ → ℕ)
-    × ((station : Station) (k : ℕ) → is_heard window.stations station ≡ true → k < window.seconds
+    × ((station : Station) (k : ℕ) → has_station window.stations station ≡ true → k < window.seconds
     → IsUnion window b station k (unions station k))
     × (n ≡ union_cost costs window unions)
 

@@ -137,13 +137,13 @@ abbrev pub IsSetOf : Station → ℕ → Type 0
 IsSetOf station set = (set ≡ unscored) ⊎ ((0 < set) × (set < 2 ^ symbol_count station))
 
 -- the station is one of these
-abbrev pub is_heard : Stations → Station → Bool
-is_heard stations station = has_bit stations.mask (number_of station)
+abbrev pub has_station : Stations → Station → Bool
+has_station stations station = has_bit stations.mask (number_of station)
 
 -- the same stations as a list, in their order
 abbrev pub stations_of : Stations → List Station
-stations_of stations = filter (is_heard stations) (Dcf77 ∷ Msf ∷ Wwvb ∷ Jjy ∷ [])
+stations_of stations = filter (has_station stations) (Dcf77 ∷ Msf ∷ Wwvb ∷ Jjy ∷ [])
 
 -- the minute is one of the century, and so is the year that each of the stations encodes in it
-abbrev pub IsSent : Stations → ℕ → Type 0
-IsSent stations t = (t < century_minutes) × ((station : Station) → is_heard stations station ≡ true → encoded_year station t ≤ 2099)
+abbrev pub CanBeEncoded : Stations → ℕ → Type 0
+CanBeEncoded stations t = (t < century_minutes) × ((station : Station) → has_station stations station ≡ true → encoded_year station t ≤ 2099)

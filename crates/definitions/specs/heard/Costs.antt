@@ -18,9 +18,9 @@ use Rattle.definitions.specs.sequences.Walks.{place_at, set_at}
 use Rattle.definitions.specs.heard.Dut1.{has_dut1, is_dut1_second, dut1_values, dut1_symbol}
 
 -- f 0 + f 1 + .. up to, and without, f n
-unfoldable pub total_below : ℕ → (ℕ → ℕ) → ℕ
-total_below zero f = 0
-total_below (suc n) f = total_below n f + f n
+unfoldable pub sum_below : ℕ → (ℕ → ℕ) → ℕ
+sum_below zero f = 0
+sum_below (suc n) f = sum_below n f + f n
 
 -- what a tenth of a second costs a receiver, from the number of its low milliseconds: nothing where one of them
 -- is unknown
@@ -32,7 +32,7 @@ tenth_cost table weight is_low (Some n) =
 -- what the ten tenths from millisecond m on cost a receiver under a waveform
 abbrev pub second_cost : CostTable → Reception → ℕ → List Bool → ℕ
 second_cost table r m wave =
-    total_below 10 (λ j. tenth_cost table r.tuning.weight (slice_index_or wave j false) (low_count r.log (m + 100 * j) 100))
+    sum_below 10 (λ j. tenth_cost table r.tuning.weight (slice_index_or wave j false) (low_count r.log (m + 100 * j) 100))
 
 -- what symbol x costs in slot k: the sum over the station's receivers, of which each hears the slot later by its
 -- delay
@@ -53,11 +53,6 @@ abbrev pub least : List ℕ → Option ℕ
 least [] = None
 least (c ∷ cs) = Some (fold min c cs)
 
--- the lesser of a number that there may be and one more
-abbrev pub lesser_with : Option ℕ → ℕ → Option ℕ
-lesser_with None c = Some c
-lesser_with (Some b) c = Some (min b c)
-
 -- the symbols of a station
 abbrev pub symbols_of : Station → List ℕ
 symbols_of station = range_with_len 0 (symbol_count station)
@@ -74,14 +69,14 @@ lies_in_one_day n q =
     list_all (λ k. (place_at q k).0 / minutes_per_day == q.first / minutes_per_day) (range_with_len 0 n)
 
 -- what the sets of n slots cost a station, but for the seconds that tell DUT1
-abbrev pub untied_cost : Station → (ℕ → ℕ → ℕ) → ℕ → Sequence → ℕ
-untied_cost station costs n q =
-    total_below n (λ k. if is_dut1_second station (place_at q k).1 then 0 else set_cost station (costs k) (set_at station q k))
+abbrev pub cost_outside_dut1 : Station → (ℕ → ℕ → ℕ) → ℕ → Sequence → ℕ
+cost_outside_dut1 station costs n q =
+    sum_below n (λ k. if is_dut1_second station (place_at q k).1 then 0 else set_cost station (costs k) (set_at station q k))
 
 -- what these seconds cost where they tell d tenths
 abbrev pub dut1_cost : Station → (ℕ → ℕ → ℕ) → ℕ → Sequence → ℤ → ℕ
 dut1_cost station costs n q d =
-    total_below n (λ k. let s = (place_at q k).1 in if is_dut1_second station s then costs k (dut1_symbol station d s) else 0)
+    sum_below n (λ k. let s = (place_at q k).1 in if is_dut1_second station s then costs k (dut1_symbol station d s) else 0)
 
 -- what they cost at the least
 abbrev pub least_dut1_cost : Station → (ℕ → ℕ → ℕ) → ℕ → Sequence → ℕ
@@ -92,8 +87,8 @@ least_dut1_cost station costs n q = unwrap_or (least (map (dut1_cost station cos
 abbrev pub station_cost : Station → (ℕ → ℕ → ℕ) → ℕ → Sequence → ℕ
 station_cost station costs n q =
     if has_dut1 station && lies_in_one_day n q
-    then untied_cost station costs n q + least_dut1_cost station costs n q
-    else total_below n (λ k. set_cost station (costs k) (set_at station q k))
+    then cost_outside_dut1 station costs n q + least_dut1_cost station costs n q
+    else sum_below n (λ k. set_cost station (costs k) (set_at station q k))
 
 -- what a sequence costs in a window: the sum over the window's stations
 abbrev pub sequence_cost : Costs → Window → Sequence → ℕ

@@ -8,18 +8,18 @@ use Rattle.definitions.specs.heard.Logs.{Records}
 use Rattle.definitions.specs.heard.Receivers.{Receiver}
 
 -- The carrier falls as a second begins; at JJY it rises.
-abbrev pub begins_second : Station → Level → Level → Bool
-begins_second Jjy Low High = true
-begins_second Jjy before after = false
-begins_second station High Low = true
-begins_second station before after = false
+abbrev pub is_start_edge : Station → Level → Level → Bool
+is_start_edge Jjy Low High = true
+is_start_edge Jjy before after = false
+is_start_edge station High Low = true
+is_start_edge station before after = false
 
 -- the times of the records of a log that may begin a second, by each record and the one before it
 abbrev pub start_edges : Station → Records → List ℕ
 start_edges station [] = []
 start_edges station (r ∷ []) = []
 start_edges station (r ∷ s ∷ rs) =
-    if begins_second station r.1 s.1
+    if is_start_edge station r.1 s.1
     then s.0 ∷ start_edges station (s ∷ rs)
     else start_edges station (s ∷ rs)
 
@@ -34,15 +34,15 @@ offsets start n r =
 abbrev pub circular_distance : ℕ → ℕ → ℕ
 circular_distance x y = min ((x - y) + (y - x)) (1000 - ((x - y) + (y - x)))
 
--- how well a phase fits the start edges: each within 50 ms of it counts the milliseconds that are left
-abbrev pub fit : ℕ → ℕ → List Receiver → ℕ → ℕ
-fit start n bank f = sum_by (λ r. sum_by (λ o. 50 - circular_distance o f) (offsets start n r)) bank
+-- how far the start edges agree with a phase: each within 50 ms of it counts the milliseconds that are left
+abbrev pub agreement : ℕ → ℕ → List Receiver → ℕ → ℕ
+agreement start n bank f = sum_by (λ r. sum_by (λ o. 50 - circular_distance o f) (offsets start n r)) bank
 
 -- the least of the numbers up to n at which a function is greatest
-unfoldable pub first_peak : (ℕ → ℕ) → ℕ → ℕ
-first_peak f zero = 0
-first_peak f (suc n) = let p = first_peak f n in if nat_lt (f p) (f (suc n)) then suc n else p
+unfoldable pub first_maximum : (ℕ → ℕ) → ℕ → ℕ
+first_maximum f zero = 0
+first_maximum f (suc n) = let p = first_maximum f n in if nat_lt (f p) (f (suc n)) then suc n else p
 
--- the phase: the least from 0 to 999 that fits best
+-- the phase: the least from 0 to 999 with which they agree most
 abbrev pub phase_of : ℕ → ℕ → List Receiver → ℕ
-phase_of start n bank = first_peak (fit start n bank) 999
+phase_of start n bank = first_maximum (agreement start n bank) 999

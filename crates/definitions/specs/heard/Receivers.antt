@@ -21,12 +21,6 @@ pub record Receiver : Type 0 where
   pub station : Station
   pub heard : Reception
 
--- the receivers, from their stations and what each of them heard
-abbrev pub receivers : List Station → List Reception → List Receiver
-receivers [] heard = []
-receivers (s ∷ ss) [] = []
-receivers (s ∷ ss) (r ∷ rs) = record { station = s; heard = r } ∷ receivers ss rs
-
 -- what those heard that listen to a station
 abbrev pub heard_of : Station → List Receiver → List Reception
 heard_of station bank = map (λ r. r.heard) (filter (λ r. number_of r.station == number_of station) bank)

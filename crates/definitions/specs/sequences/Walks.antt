@@ -4,7 +4,7 @@ use Rattle.signal_base.specs.declared.station.Station.{Station}
 use Rattle.signal_base.specs.declared.window.Window.{Window}
 use Rattle.definitions.specs.declared.sequence.Sequence.{Sequence}
 use Rattle.definitions.specs.time.Calendar.{century_minutes, minute_length}
-use Rattle.definitions.specs.codes.Allowed.{allowed, is_heard, IsSent}
+use Rattle.definitions.specs.codes.Allowed.{allowed, has_station, CanBeEncoded}
 
 -- the numbers that a sequence can have
 pub record IsSequence (q : Sequence) : Type 0 where
@@ -25,12 +25,12 @@ place_at q (suc k) = next_place q.announced (place_at q k)
 abbrev pub set_at : Station → Sequence → ℕ → ℕ
 set_at station q k = allowed station q.announced (place_at q k)
 
--- the sequence begins in the range, and every minute of its walk is sent
+-- the sequence begins in the range, and every minute of its walk can be encoded
 pub record IsWalkable (window : Window) (q : Sequence) : Type 0 where
   pub not_before : window.from ≤ q.first
   pub before_end : q.first < window.to
   pub second : q.second < minute_length q.announced q.first
-  pub sent : (k : ℕ) → k < window.seconds → IsSent window.stations (place_at q k).0
+  pub encoded : (k : ℕ) → k < window.seconds → CanBeEncoded window.stations (place_at q k).0
 
 -- the same beginning without a leap second
 abbrev pub unannounced : Sequence → Sequence
@@ -39,7 +39,7 @@ unannounced q = record { first = q.first; second = q.second; announced = false }
 -- in some slot of the window a station may carry another set than without the announcement
 abbrev pub ShowsLeap : Window → Sequence → Type 0
 ShowsLeap window q =
-    (station : Station) × (k : ℕ) × (is_heard window.stations station ≡ true) × (k < window.seconds)
+    (station : Station) × (k : ℕ) × (has_station window.stations station ≡ true) × (k < window.seconds)
     × (set_at station q k ≢ set_at station (unannounced q) k)
 
 -- Walkable; and a leap second is announced only where the window tells: it begins with that second, or the

@@ -1,7 +1,6 @@
 use Rattle.std.proofs.Common.{◌≡◌, ℕ, true, false, get_or, Option, sym, subst, ap, ◌∙◌}
 use Rattle.signal_base.specs.Mask.{has_bit}
-use Rattle.definitions.specs.heard.Costs.{lesser_with}
-use Rattle.definitions.proofs.CostLaws.{IsAtMost, least_below-in, least_below-out, lesser_with_bound}
+use Rattle.definitions.proofs.CostLaws.{IsAtMost, least_below-in, least_below-out, lesser_with, lesser_with_bound}
 use Rattle.symbol_cost.proofs.grid.cheapest.Goals.{then-has, else-has}
 use Rattle.symbol_cost.proofs.grid.cheapest.Goals as goal
 

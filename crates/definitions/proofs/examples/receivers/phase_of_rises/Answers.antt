@@ -1,12 +1,12 @@
 -- The phase of three rises.
 use Rattle.std.proofs.Common.{refl}
-use Rattle.definitions.specs.heard.Phase.{first_peak}
+use Rattle.definitions.specs.heard.Phase.{first_maximum}
 use Rattle.definitions.proofs.examples.receivers.phase_of_rises.Goals as goal
 
 pub returns-clause-plain : goal.returns-clause-plain
-unfolding first_peak
+unfolding first_maximum
 returns-clause-plain c = refl
 
 pub returns-clause-delayed : goal.returns-clause-delayed
-unfolding first_peak
+unfolding first_maximum
 returns-clause-delayed c = refl

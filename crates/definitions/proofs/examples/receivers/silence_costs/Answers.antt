@@ -1,10 +1,10 @@
 -- A second without a pulse.
 use Rattle.std.proofs.Common.{refl}
-use Rattle.definitions.specs.heard.Costs.{total_below}
+use Rattle.definitions.specs.heard.Costs.{sum_below}
 use Rattle.definitions.specs.heard.Logs.{low_count}
 use Rattle.signal_base.specs.Table.{difference_table}
 use Rattle.definitions.proofs.examples.receivers.silence_costs.Goals as goal
 
 pub returns : goal.returns
-unfolding total_below low_count difference_table
+unfolding sum_below low_count difference_table
 returns c = refl
