@@ -1,9 +1,25 @@
--- Dates that the public knows: days of ten dates, and what is around a change of summer time.
-use Rattle.std.specs.Prelude.{ℕ, ◌+◌, ◌-◌, ◌*◌, Bool, false, List, [], ◌∷◌, map}
+-- Days and minutes by their dates, and what is around a change of summer time.
+use Rattle.std.specs.Prelude.{ℕ, ◌+◌, ◌-◌, ◌*◌, ◌/◌, ◌%◌, ◌==◌, ◌&&◌, nat_lt, if◌then◌else◌, Bool, false, List, [], ◌∷◌, map, slice_index}
 use Rattle.signal_base.specs.declared.station.Station.TheVariants.{Wwvb}
-use Rattle.definitions.specs.time.Calendar.{minutes_per_day}
+use Rattle.definitions.specs.time.Calendar.{minutes_per_day, minutes_per_hour}
 use Rattle.definitions.specs.codes.Allowed.{allowed, dcf_facts, msf_facts}
 use Rattle.definitions.specs.time.Summer.{is_eu_summer, is_eu_change, us_code}
+
+-- how many days come before a month, where the year isn't a leap year
+abbrev pub days_before : ℕ → ℕ
+days_before month =
+    slice_index (0 ∷ 31 ∷ 59 ∷ 90 ∷ 120 ∷ 151 ∷ 181 ∷ 212 ∷ 243 ∷ 273 ∷ 304 ∷ 334 ∷ []) (month - 1)
+
+-- The day of a date of the years 2000 to 2099, counted from 2000-01-01: in one step, and not day after day as the
+-- calendar is defined.
+abbrev pub on : ℕ → ℕ → ℕ → ℕ
+on year month day =
+    365 * (year - 2000) + (year - 1997) / 4 + days_before month
+    + (if nat_lt 2 month && (year % 4 == 0) then day else day - 1)
+
+-- a minute of a day
+abbrev pub at : ℕ → ℕ → ℕ → ℕ
+at day hour minute = day * minutes_per_day + hour * minutes_per_hour + minute
 
 -- of a day: whether 00:59 UTC is in European summer time, whether a change stands at 01:00, whether that is in it
 abbrev pub eu_around : ℕ → List Bool

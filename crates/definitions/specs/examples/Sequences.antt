@@ -4,8 +4,8 @@ use Rattle.signal_base.specs.declared.window.Window.{Window}
 use Rattle.definitions.specs.declared.sequence.Sequence.{Sequence}
 use Rattle.definitions.specs.declared.block.Block.{Block}
 use Rattle.definitions.specs.declared.block.Span.{Span}
-use Rattle.definitions.specs.time.Calendar.{minutes_per_day}
 use Rattle.definitions.specs.sequences.Walks.{place_at}
+use Rattle.definitions.specs.examples.Dates.{at, on}
 
 -- the sequence from a second of a minute on, without a leap second
 abbrev pub from_place : ℕ → ℕ → Sequence
@@ -13,7 +13,7 @@ from_place first second = record { first = first; second = second; announced = f
 
 -- a walk from the first second of 2000-06-30T23:59Z on, as it would be with a leap second
 abbrev pub leap_walk : List (ℕ × ℕ)
-leap_walk = map (place_at (record { first = 181 * 1440 + 1439; second = 0; announced = true })) (0 ∷ 59 ∷ 60 ∷ 61 ∷ 121 ∷ [])
+leap_walk = map (place_at (record { first = at (on 2000 6 30) 23 59; second = 0; announced = true })) (0 ∷ 59 ∷ 60 ∷ 61 ∷ 121 ∷ [])
 
 -- 60 seconds of some stations, from minute lo up to, and without, hi
 abbrev pub window_of : ℕ → ℕ → ℕ → Window
@@ -21,7 +21,7 @@ window_of mask lo hi = record { stations = record { mask = mask }; start = 0; ph
 
 -- the first minute of June 2000, as it would be with a leap second at the end of the month
 abbrev pub june_announced : Sequence
-june_announced = record { first = 152 * minutes_per_day; second = 0; announced = true }
+june_announced = record { first = at (on 2000 6 1) 0 0; second = 0; announced = true }
 
 -- the block of a span from minute lo up to, and without, hi, from the first second on
 abbrev pub block_of : Span → ℕ → ℕ → Block

@@ -5,20 +5,21 @@ ghost use Rattle.definitions.specs.declared.block.Span.TheVariants.{Year, Day, H
 ghost use Rattle.definitions.specs.time.Calendar.{century_minutes};
 ghost use Rattle.definitions.specs.answers.Blocks.{children, items};
 ghost use Rattle.definitions.specs.sequences.Walks.{IsLegal, IsWalkable};
+ghost use Rattle.definitions.specs.examples.Dates.{at, on};
 ghost use Rattle.definitions.specs.examples.Sequences.{block_of, from_place, june_announced, leap_walk, window_of};
 
 /// The seconds 0, 59 and 60 of a minute with a leap second, and the first of the next two.
 pub fn walk_through_a_leap_second()
-    ensures { leap_walk ≡ (262_079, 0) ∷ (262_079, 59) ∷ (262_079, 60) ∷ (262_080, 0) ∷ (262_081, 0) ∷ [] }
+    ensures { leap_walk ≡ (at (on 2000 6 30) 23 59, 0) ∷ (at (on 2000 6 30) 23 59, 59) ∷ (at (on 2000 6 30) 23 59, 60) ∷ (at (on 2000 7 1) 0 0, 0) ∷ (at (on 2000 7 1) 0 1, 0) ∷ [] }
 {}
 
 /// A window of two years has two items for each beginning; a block's children are cut to it.
 pub fn blocks_of_a_window()
-    ensures items { length (items (window_of 8 (366 * 1440 - 60) (366 * 1440 + 60))) ≡ 242 }
-    ensures year { children (block_of Year 52_595_938 52_596_000) ≡ block_of Day 52_595_938 52_596_000 ∷ [] }
-    ensures day { children (block_of Day 52_595_938 52_596_000) ≡ block_of Hour 52_595_938 52_595_940 ∷ block_of Hour 52_595_940 52_596_000 ∷ [] }
-    ensures hour { children (block_of Hour 52_595_938 52_595_940) ≡ block_of Minute 52_595_938 52_595_939 ∷ block_of Minute 52_595_939 52_595_940 ∷ [] }
-    ensures minute { children (block_of Minute 52_595_938 52_595_939) ≡ [] }
+    ensures items { length (items (window_of 8 (at (on 2000 12 31) 23 0) (at (on 2001 1 1) 1 0))) ≡ 242 }
+    ensures year { children (block_of Year (at (on 2099 12 31) 22 58) century_minutes) ≡ block_of Day (at (on 2099 12 31) 22 58) century_minutes ∷ [] }
+    ensures day { children (block_of Day (at (on 2099 12 31) 22 58) century_minutes) ≡ block_of Hour (at (on 2099 12 31) 22 58) (at (on 2099 12 31) 23 0) ∷ block_of Hour (at (on 2099 12 31) 23 0) century_minutes ∷ [] }
+    ensures hour { children (block_of Hour (at (on 2099 12 31) 22 58) (at (on 2099 12 31) 23 0)) ≡ block_of Minute (at (on 2099 12 31) 22 58) (at (on 2099 12 31) 22 59) ∷ block_of Minute (at (on 2099 12 31) 22 59) (at (on 2099 12 31) 23 0) ∷ [] }
+    ensures minute { children (block_of Minute (at (on 2099 12 31) 22 58) (at (on 2099 12 31) 22 59)) ≡ [] }
 {}
 
 /// A leap second at the end of June 2000, announced in the month's first minute: WWVB tells it there, and DCF77 not yet,
@@ -31,7 +32,7 @@ pub fn announcement_in_june()
 /// The last minute that DCF77 can send in the century: a walk of 60 seconds from its first on is walkable, and one from its
 /// second on isn't.
 pub fn last_walk_of_dcf77()
-    ensures first { IsWalkable (window_of 1 52_595_938 52_595_939) (from_place 52_595_938 0) }
-    ensures second { ¬ (IsWalkable (window_of 1 52_595_938 52_595_939) (from_place 52_595_938 1)) }
-    ensures range { ¬ (IsWalkable (window_of 1 52_595_937 52_595_938) (from_place 52_595_938 0)) }
+    ensures first { IsWalkable (window_of 1 (at (on 2099 12 31) 22 58) (at (on 2099 12 31) 22 59)) (from_place (at (on 2099 12 31) 22 58) 0) }
+    ensures second { ¬ (IsWalkable (window_of 1 (at (on 2099 12 31) 22 58) (at (on 2099 12 31) 22 59)) (from_place (at (on 2099 12 31) 22 58) 1)) }
+    ensures range { ¬ (IsWalkable (window_of 1 (at (on 2099 12 31) 22 57) (at (on 2099 12 31) 22 58)) (from_place (at (on 2099 12 31) 22 58) 0)) }
 {}

@@ -1,5 +1,5 @@
-//! Worked examples, computed from the definitions alone. A minute is counted from 2000-01-01T00:00Z: its day and what
-//! of the day has passed.
+//! Worked examples of telegrams, computed from the definitions alone. A minute is named by its date, hour and minute, in
+//! UTC.
 
 ghost use Rattle.std.specs.Prelude.{◌≡◌, ◌+◌, ◌*◌, ◌∷◌, ◌++◌, [], codes, map, true, false};
 ghost use Rattle.signal_base.specs.declared.station.Station.TheVariants.{Dcf77, Msf, Wwvb, Jjy};
@@ -7,60 +7,61 @@ ghost use Rattle.definitions.specs.codes.Allowed.{allowed, dcf_facts, msf_facts,
 ghost use Rattle.definitions.specs.codes.Msf.{msf_second};
 ghost use Rattle.definitions.specs.codes.Vocabulary.{free, only, unscored};
 ghost use Rattle.definitions.specs.codes.Listing.{characters};
+ghost use Rattle.definitions.specs.examples.Dates.{at, on};
 
 /// DCF77 at 2016-12-31T23:59Z, the minute with the leap second: 01:00 on Sunday 2017-01-01 follows.
 pub fn dcf77_with_a_leap_second()
-    ensures facts { dcf_facts true (6209 * 1440 + 1439)
+    ensures facts { dcf_facts true (at (on 2016 12 31) 23 59)
         ≡ record { minute = 0; hour = 1; day = 1; weekday = 0; month = 1; year = 17; summer = false; change = false; leap = true; long = true } }
-    ensures characters { characters Dcf77 true (6209 * 1440 + 1439)
+    ensures characters { characters Dcf77 true (at (on 2016 12 31) 23 59)
         ≡ codes "0???????????????00111000000001000001100000111100001110100010-" }
 {}
 
 /// DCF77 at 2024-03-31T00:59Z, the minute before summer time: 03:00 on that Sunday follows.
 pub fn dcf77_in_spring()
-    ensures facts { dcf_facts false (8856 * 1440 + 59)
+    ensures facts { dcf_facts false (at (on 2024 3 31) 0 59)
         ≡ record { minute = 0; hour = 3; day = 31; weekday = 0; month = 3; year = 24; summer = true; change = true; leap = false; long = false } }
-    ensures characters { characters Dcf77 false (8856 * 1440 + 59)
+    ensures characters { characters Dcf77 false (at (on 2024 3 31) 0 59)
         ≡ codes "0???????????????1100100000000110000010001111111000001001000-" }
 {}
 
 /// MSF at 2016-12-31T23:59Z, the minute with the leap second: 00:00 on Sunday 2017-01-01 follows.
 pub fn msf_with_a_leap_second()
-    ensures facts { msf_facts true (6209 * 1440 + 1439)
+    ensures facts { msf_facts true (at (on 2016 12 31) 23 59)
         ≡ record { minute = 0; hour = 0; day = 1; weekday = 0; month = 1; year = 17; summer = false; change = false; long = true } }
-    ensures characters { characters Msf true (6209 * 1440 + 1439)
+    ensures characters { characters Msf true (at (on 2016 12 31) 23 59)
         ≡ codes "M????????????????00002022200002000002000000000000000002333320" }
 {}
 
 /// MSF at 2024-07-15T12:00Z, in summer time: 13:01 on that Monday follows.
 pub fn msf_in_summer()
-    ensures facts { msf_facts false (8962 * 1440 + 720)
+    ensures facts { msf_facts false (at (on 2024 7 15) 12 0)
         ≡ record { minute = 1; hour = 13; day = 15; weekday = 1; month = 7; year = 24; summer = true; change = false; long = false } }
-    ensures characters { characters Msf false (8962 * 1440 + 720)
+    ensures characters { characters Msf false (at (on 2024 7 15) 12 0)
         ≡ codes "M????????????????0020020000222020202002020022000000202332330" }
 {}
 
 /// WWVB at 2024-02-29T12:34Z, day 60 of a leap year.
 pub fn wwvb_on_a_leap_day()
-    ensures facts { wwvb_facts false (8825 * 1440 + 754)
+    ensures facts { wwvb_facts false (at (on 2024 2 29) 12 34)
         ≡ record { minute = 34; hour = 12; day_of_year = 60; year = 24; us_code = 0; leap = false; long = false } }
-    ensures characters { characters Wwvb false (8825 * 1440 + 754)
+    ensures characters { characters Wwvb false (at (on 2024 2 29) 12 34)
         ≡ codes "M01100100M000100010M000000110M000000???M????00010M010001000M" }
 {}
 
 /// JJY at 2024-06-10T06:45Z, in Japan 15:45 on Monday, day 162.
 pub fn jjy_at_quarter_to_four()
-    ensures facts { jjy_facts false (8927 * 1440 + 405)
+    ensures facts { jjy_facts false (at (on 2024 6 10) 6 45)
         ≡ record { minute = 45; hour = 15; day_of_year = 162; year = 24; weekday = 1; leap = false; long = false } }
-    ensures characters { characters Jjy false (8927 * 1440 + 405)
+    ensures characters { characters Jjy false (at (on 2024 6 10) 6 45)
         ≡ codes "M10000101M000100101M000100110M001000110M*********M??????000M" }
 {}
 
 /// JJY's call sign in the minutes 15 and 45 of the hour: what the seconds 40, 48 and 50 may carry at 2024-06-10T06:15Z, and
 /// at 06:16Z.
 pub fn jjy_with_its_call_sign()
-    ensures sent { map (λ s. allowed Jjy false (8927 * 1440 + 375, s)) (40 ∷ 48 ∷ 50 ∷ []) ≡ unscored ∷ unscored ∷ free ∷ [] }
-    ensures not_sent { map (λ s. allowed Jjy false (8927 * 1440 + 376, s)) (40 ∷ 48 ∷ 50 ∷ []) ≡ only 0 ∷ only 0 ∷ only 0 ∷ [] }
+    ensures sent { map (λ s. allowed Jjy false (at (on 2024 6 10) 6 15, s)) (40 ∷ 48 ∷ 50 ∷ []) ≡ unscored ∷ unscored ∷ free ∷ [] }
+    ensures not_sent { map (λ s. allowed Jjy false (at (on 2024 6 10) 6 16, s)) (40 ∷ 48 ∷ 50 ∷ []) ≡ only 0 ∷ only 0 ∷ only 0 ∷ [] }
 {}
 
 /// MSF at 2085-12-31T23:59Z, with a leap second: the seconds about the one that the minute has more, and a year of the
@@ -71,16 +72,62 @@ pub fn msf_longer_by_second_17()
 
 /// WWVB at 2016-12-31T23:59Z, the minute with the leap second: day 366 of a leap year.
 pub fn wwvb_with_a_leap_second()
-    ensures facts { wwvb_facts true (6209 * 1440 + 1439)
+    ensures facts { wwvb_facts true (at (on 2016 12 31) 23 59)
         ≡ record { minute = 59; hour = 23; day_of_year = 366; year = 16; us_code = 0; leap = true; long = true } }
-    ensures characters { characters Wwvb true (6209 * 1440 + 1439)
+    ensures characters { characters Wwvb true (at (on 2016 12 31) 23 59)
         ≡ codes "M10101001M001000011M001100110M011000???M????00001M011001100MM" }
 {}
 
 /// JJY at 2016-12-31T23:59Z, the minute with the leap second: in Japan 08:59 on Sunday, day 1 of 2017.
 pub fn jjy_with_a_leap_second()
-    ensures facts { jjy_facts true (6209 * 1440 + 1439)
+    ensures facts { jjy_facts true (at (on 2016 12 31) 23 59)
         ≡ record { minute = 59; hour = 8; day_of_year = 1; year = 17; weekday = 0; leap = true; long = true } }
-    ensures characters { characters Jjy true (6209 * 1440 + 1439)
+    ensures characters { characters Jjy true (at (on 2016 12 31) 23 59)
         ≡ codes "M10101001M000001000M000000000M000100100M000010111M0001100000M" }
+{}
+
+/// Minutes of DCF77 that, with those above, tell any two weights of a field apart.
+pub fn dcf77_weights()
+    ensures of_2085 { characters Dcf77 false (at (on 2085 6 14) 16 46)
+        ≡ codes "0???????????????0100111100010000110000101000101100101000010-" }
+    ensures of_2047 { characters Dcf77 false (at (on 2047 8 9) 14 14)
+        ≡ codes "0???????????????0100110101001011010110010010100010111000101-" }
+    ensures of_2059 { characters Dcf77 false (at (on 2059 4 26) 14 58)
+        ≡ codes "0???????????????0100110011010011010101100101100100100110100-" }
+{}
+
+/// Minutes of MSF that, with those above, tell any two weights of a field apart.
+pub fn msf_weights()
+    ensures of_2056 { characters Msf false (at (on 2056 12 6) 21 37)
+        ≡ codes "M????????????????0202022020020000220022200002022200002333220" }
+    ensures of_2018 { characters Msf false (at (on 2018 6 21) 18 51)
+        ≡ codes "M????????????????0002200000220200002200022002202002002332330" }
+    ensures of_2024 { characters Msf false (at (on 2024 9 7) 18 57)
+        ≡ codes "M????????????????0020020002002000222220022002202200002323330" }
+{}
+
+/// Minutes of WWVB that, with those above, tell any two weights of a field apart.
+pub fn wwvb_weights()
+    ensures of_2071 { characters Wwvb false (at (on 2071 8 21) 9 7)
+        ≡ codes "M00000111M000001001M001000011M001100???M????00111M000100011M" }
+    ensures of_2085 { characters Wwvb false (at (on 2085 12 4) 18 9)
+        ≡ codes "M00001001M000101000M001100011M100000???M????01000M010100000M" }
+{}
+
+/// Minutes of JJY that, with those above, tell any two weights of a field apart.
+pub fn jjy_weights()
+    ensures of_2099 { characters Jjy false (at (on 2099 11 26) 18 29)
+        ≡ codes "M01001001M000000011M001100011M000100010M010011001M101000000M" }
+    ensures of_2032 { characters Jjy false (at (on 2032 4 25) 22 57)
+        ≡ codes "M10100111M000000111M000100001M011100110M000110010M001000000M" }
+    ensures of_2095 { characters Jjy false (at (on 2095 6 28) 5 17)
+        ≡ codes "M00100111M000100100M000100111M100100000M010010101M010000000M" }
+{}
+
+/// MSF at 2024-03-31T00:59Z, the minute before summer time, which it announces: 02:00 on that Sunday follows.
+pub fn msf_in_spring()
+    ensures facts { msf_facts false (at (on 2024 3 31) 0 59)
+        ≡ record { minute = 0; hour = 2; day = 31; weekday = 0; month = 3; year = 24; summer = true; change = true; long = false } }
+    ensures characters { characters Msf false (at (on 2024 3 31) 0 59)
+        ≡ codes "M????????????????0020020000022220002000000020000000003323230" }
 {}

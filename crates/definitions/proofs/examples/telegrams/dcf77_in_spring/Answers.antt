@@ -2,6 +2,7 @@
 use Rattle.std.proofs.Common.{◌+◌, ◌*◌, false, refl, ◌∙◌}
 use Rattle.definitions.specs.time.Calendar.{day_at}
 use Rattle.definitions.specs.time.Summer.{season_at, eu_change_within}
+use Rattle.definitions.specs.examples.Dates.{at, on}
 use Rattle.definitions.proofs.ListingLaws.{dcf_characters}
 use Rattle.definitions.proofs.examples.telegrams.dcf77_in_spring.Goals as goal
 
@@ -11,4 +12,4 @@ returns-clause-facts c = refl
 
 pub returns-clause-characters : goal.returns-clause-characters
 unfolding day_at season_at eu_change_within
-returns-clause-characters c = dcf_characters false (8856 * 1440 + 59) ∙ refl
+returns-clause-characters c = dcf_characters false (at (on 2024 3 31) 0 59) ∙ refl

@@ -1,6 +1,7 @@
 -- JJY at 2016-12-31T23:59Z.
 use Rattle.std.proofs.Common.{◌+◌, ◌*◌, true, refl, ◌∙◌}
 use Rattle.definitions.specs.time.Calendar.{day_at}
+use Rattle.definitions.specs.examples.Dates.{at, on}
 use Rattle.definitions.proofs.ListingLaws.{jjy_characters}
 use Rattle.definitions.proofs.examples.telegrams.jjy_with_a_leap_second.Goals as goal
 
@@ -10,4 +11,4 @@ returns-clause-facts c = refl
 
 pub returns-clause-characters : goal.returns-clause-characters
 unfolding day_at
-returns-clause-characters c = jjy_characters true (6209 * 1440 + 1439) ∙ refl
+returns-clause-characters c = jjy_characters true (at (on 2016 12 31) 23 59) ∙ refl

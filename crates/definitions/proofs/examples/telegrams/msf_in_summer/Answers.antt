@@ -2,6 +2,7 @@
 use Rattle.std.proofs.Common.{◌+◌, ◌*◌, false, refl, ◌∙◌}
 use Rattle.definitions.specs.time.Calendar.{day_at}
 use Rattle.definitions.specs.time.Summer.{season_at, eu_change_within}
+use Rattle.definitions.specs.examples.Dates.{at, on}
 use Rattle.definitions.proofs.ListingLaws.{msf_characters}
 use Rattle.definitions.proofs.examples.telegrams.msf_in_summer.Goals as goal
 
@@ -11,4 +12,4 @@ returns-clause-facts c = refl
 
 pub returns-clause-characters : goal.returns-clause-characters
 unfolding day_at season_at eu_change_within
-returns-clause-characters c = msf_characters false (8962 * 1440 + 720) ∙ refl
+returns-clause-characters c = msf_characters false (at (on 2024 7 15) 12 0) ∙ refl

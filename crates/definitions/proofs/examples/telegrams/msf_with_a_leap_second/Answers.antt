@@ -2,6 +2,7 @@
 use Rattle.std.proofs.Common.{◌+◌, ◌*◌, true, refl, ◌∙◌}
 use Rattle.definitions.specs.time.Calendar.{day_at}
 use Rattle.definitions.specs.time.Summer.{season_at, eu_change_within}
+use Rattle.definitions.specs.examples.Dates.{at, on}
 use Rattle.definitions.proofs.ListingLaws.{msf_characters}
 use Rattle.definitions.proofs.examples.telegrams.msf_with_a_leap_second.Goals as goal
 
@@ -11,4 +12,4 @@ returns-clause-facts c = refl
 
 pub returns-clause-characters : goal.returns-clause-characters
 unfolding day_at season_at eu_change_within
-returns-clause-characters c = msf_characters true (6209 * 1440 + 1439) ∙ refl
+returns-clause-characters c = msf_characters true (at (on 2016 12 31) 23 59) ∙ refl

@@ -2,6 +2,7 @@
 use Rattle.std.proofs.Common.{◌+◌, ◌*◌, false, refl, ◌∙◌}
 use Rattle.definitions.specs.time.Calendar.{day_at}
 use Rattle.definitions.specs.time.Summer.{season_at}
+use Rattle.definitions.specs.examples.Dates.{at, on}
 use Rattle.definitions.proofs.ListingLaws.{wwvb_characters}
 use Rattle.definitions.proofs.examples.telegrams.wwvb_on_a_leap_day.Goals as goal
 
@@ -11,4 +12,4 @@ returns-clause-facts c = refl
 
 pub returns-clause-characters : goal.returns-clause-characters
 unfolding day_at season_at
-returns-clause-characters c = wwvb_characters false (8825 * 1440 + 754) ∙ refl
+returns-clause-characters c = wwvb_characters false (at (on 2024 2 29) 12 34) ∙ refl
