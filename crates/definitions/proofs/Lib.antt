@@ -7,6 +7,7 @@ pub mod DateLaws
 pub mod ParityLaws
 pub mod WaveLaws
 pub mod ListingLaws
+pub mod CheckLaws
 pub mod SetLaws
 pub mod CenturyLaws
 pub mod SeasonLaws

@@ -1,14 +1,16 @@
 -- Each second that a minute has may carry something.
-use Rattle.std.proofs.Common.{ℕ, zero, suc, ◌+◌, ◌*◌, ◌/◌, ◌%◌, ◌-◌, ◌<◌, ◌≤◌, ◌≡◌, inl, inr, Bool, true, false, ◌&&◌, ◌||◌, ◌==◌, nat_lt, if◌then◌else◌, List, [], ◌∷◌, Option, Some, None, refl, sym, ap, subst, arith}
+use Rattle.std.proofs.Common.{ℕ, zero, suc, ◌^◌, ◌+◌, ◌*◌, ◌/◌, ◌%◌, ◌-◌, ◌<◌, ◌≤◌, ◌≡◌, ◌⊎◌, inl, inr, Bool, true, false, ◌&&◌, ◌||◌, ◌==◌, nat_lt, if◌then◌else◌, List, [], ◌∷◌, Option, Some, None, refl, sym, ap, subst, arith}
 use Rattle.std.specs.Option.{option_map_or}
 use Rattle.std.proofs.lemmas.Bool.{lt-ltb, le-ltb}
+use Rattle.std.proofs.lemmas.Nat.{pow_pos, pow_below}
 use Rattle.signal_base.specs.declared.station.Station.{Station}
 use Rattle.signal_base.specs.declared.station.Station.TheVariants.{Dcf77, Msf, Wwvb, Jjy}
 use Rattle.definitions.specs.declared.dcf77.DcfFacts.{DcfFacts}
 use Rattle.definitions.specs.declared.msf.MsfFacts.{MsfFacts}
 use Rattle.definitions.specs.declared.wwvb.WwvbFacts.{WwvbFacts}
 use Rattle.definitions.specs.declared.jjy.JjyFacts.{JjyFacts}
-use Rattle.definitions.specs.codes.Vocabulary.{only, free, no_second, Field, digit_bit, weight_of, carried_bit, ones, is_within}
+use Rattle.signal_base.specs.Waveform.{symbol_count}
+use Rattle.definitions.specs.codes.Vocabulary.{only, free, unscored, no_second, Field, digit_bit, weight_of, carried_bit, ones, is_within}
 use Rattle.definitions.specs.time.Calendar.{minute_length, minutes_per_day}
 use Rattle.definitions.specs.time.Summer.{season_at, us_begins, us_ends, us_code}
 use Rattle.definitions.specs.codes.Allowed.{IsSetOf, allowed, dcf_facts, msf_facts, wwvb_facts, jjy_facts}
@@ -54,33 +56,26 @@ unfolding IsBit
 carried [] s = omega arith
 carried (f ∷ fs) s = mapped (digit_bit f.1) (weight_of f.0 s) (carried_bit fs s) (digit f.1) (carried fs s)
 
--- the set of one bit, the free set, and a set that isn't scored
-bit_set : (station : Station) (b : ℕ) → IsBit b → IsSetOf station (only b)
-unfolding IsBit
-bit_set Dcf77 zero lt = inr (omega arith, omega arith)
-bit_set Msf zero lt = inr (omega arith, omega arith)
-bit_set Wwvb zero lt = inr (omega arith, omega arith)
-bit_set Jjy zero lt = inr (omega arith, omega arith)
-bit_set Dcf77 (suc zero) lt = inr (omega arith, omega arith)
-bit_set Msf (suc zero) lt = inr (omega arith, omega arith)
-bit_set Wwvb (suc zero) lt = inr (omega arith, omega arith)
-bit_set Jjy (suc zero) lt = inr (omega arith, omega arith)
-bit_set station (suc (suc b)) lt = absurd (omega (arith, lt))
+-- the set of one symbol, and of one bit, of two, and the free set
+one_set : (station : Station) (x : ℕ) → x < symbol_count station → IsSetOf station (only x)
+one_set station x lt = inr (inr (x, lt, refl))
 
-free_set : (station : Station) → IsSetOf station free
-free_set Dcf77 = inr (omega arith, omega arith)
-free_set Msf = inr (omega arith, omega arith)
-free_set Wwvb = inr (omega arith, omega arith)
-free_set Jjy = inr (omega arith, omega arith)
+pub few : (station : Station) (b : ℕ) → IsBit b → b < symbol_count station
+unfolding IsBit
+few Dcf77 b lt = omega (arith, lt)
+few Msf b lt = omega (arith, lt)
+few Wwvb b lt = omega (arith, lt)
+few Jjy b lt = omega (arith, lt)
+
+bit_set : (station : Station) (b : ℕ) → IsBit b → IsSetOf station (only b)
+bit_set station b lt = one_set station b (few station b lt)
 
 pair_set : (a b : ℕ) → IsBit a → IsBit b → IsSetOf Msf (only (2 * a + b))
 unfolding IsBit
-pair_set zero zero lt gt = inr (omega arith, omega arith)
-pair_set zero (suc zero) lt gt = inr (omega arith, omega arith)
-pair_set (suc zero) zero lt gt = inr (omega arith, omega arith)
-pair_set (suc zero) (suc zero) lt gt = inr (omega arith, omega arith)
-pair_set (suc (suc a)) b lt gt = absurd (omega (arith, lt))
-pair_set a (suc (suc b)) lt gt = absurd (omega (arith, gt))
+pair_set a b lt gt = one_set Msf (2 * a + b) (omega (arith, lt, gt))
+
+free_set : (station : Station) → IsSetOf station free
+free_set station = inr (inl refl)
 
 -- a second that the minute has
 in_minute : (station : Station) (s n set : ℕ) → s < n → IsSetOf station set → IsSetOf station (if nat_lt s n then set else no_second)
@@ -101,7 +96,7 @@ dcf_bit f s =
 dcf_set : (f : DcfFacts) (s : ℕ) → s < (if f.long then 61 else 60) → IsSetOf Dcf77 (dcf.dcf_second f s)
 dcf_set f s lt =
     in_minute Dcf77 s (if f.long then 61 else 60) _ lt
-    (either (IsSetOf Dcf77) (s == (if f.long then 60 else 59)) _ _ (inr (omega arith, omega arith))
+    (either (IsSetOf Dcf77) (s == (if f.long then 60 else 59)) _ _ (one_set Dcf77 dcf.no_reduction (omega arith))
     (either (IsSetOf Dcf77) (is_within 1 15 s) _ _ (free_set Dcf77) (bit_set Dcf77 (dcf.dcf_bit f s) (dcf_bit f s))))
 
 bit_a : (f : MsfFacts) (s : ℕ) → IsBit (msf.bit_a f s)
@@ -118,14 +113,14 @@ bit_b f s =
 
 code_set : (f : MsfFacts) (s : ℕ) → IsSetOf Msf (msf.code_second f s)
 code_set f s =
-    either (IsSetOf Msf) (s == 0) _ _ (inr (omega arith, omega arith))
+    either (IsSetOf Msf) (s == 0) _ _ (one_set Msf msf.minute_marker (omega arith))
     (either (IsSetOf Msf) (is_within 1 16 s) _ _ (free_set Msf)
     (pair_set (msf.bit_a f s) (msf.bit_b f s) (bit_a f s) (bit_b f s)))
 
 msf_set : (f : MsfFacts) (s : ℕ) → s < (if f.long then 61 else 60) → IsSetOf Msf (msf.msf_second f s)
 msf_set f s lt =
     in_minute Msf s (if f.long then 61 else 60) _ lt
-    (either (IsSetOf Msf) (f.long && (s == 17)) _ _ (inr (omega arith, omega arith))
+    (either (IsSetOf Msf) (f.long && (s == 17)) _ _ (one_set Msf 0 (omega arith))
     (either (IsSetOf Msf) (f.long && nat_lt 17 s) _ _ (code_set f (s - 1)) (code_set f s)))
 
 half : (n : ℕ) → n < 4 → IsBit (n / 2)
@@ -142,7 +137,7 @@ wwvb_bit f s lt =
 wwvb_set : (f : WwvbFacts) (s : ℕ) → f.us_code < 4 → s < (if f.long then 61 else 60) → IsSetOf Wwvb (wwvb.wwvb_second f s)
 wwvb_set f s code lt =
     in_minute Wwvb s (if f.long then 61 else 60) _ lt
-    (either (IsSetOf Wwvb) (wwvb.is_marked s) _ _ (inr (omega arith, omega arith))
+    (either (IsSetOf Wwvb) (wwvb.is_marked s) _ _ (one_set Wwvb wwvb.marker (omega arith))
     (either (IsSetOf Wwvb) (is_within 36 38 s || is_within 40 43 s) _ _ (free_set Wwvb)
     (bit_set Wwvb (wwvb.wwvb_bit f s) (wwvb_bit f s code))))
 
@@ -155,10 +150,20 @@ jjy_bit f s =
 jjy_set : (f : JjyFacts) (s : ℕ) → s < (if f.long then 61 else 60) → IsSetOf Jjy (jjy.jjy_second f s)
 jjy_set f s lt =
     in_minute Jjy s (if f.long then 61 else 60) _ lt
-    (either (IsSetOf Jjy) (jjy.is_marked f s) _ _ (inr (omega arith, omega arith))
+    (either (IsSetOf Jjy) (jjy.is_marked f s) _ _ (one_set Jjy jjy.marker (omega arith))
     (either (IsSetOf Jjy) (jjy.is_call_minute f && is_within 40 48 s) _ _ (inl refl)
     (either (IsSetOf Jjy) (jjy.is_call_minute f && is_within 50 55 s) _ _ (free_set Jjy)
     (bit_set Jjy (jjy.jjy_bit f s) (jjy_bit f s)))))
+
+-- a set of some symbols is a number below the sets of all
+pub some_symbols : (station : Station) (set : ℕ) → IsSetOf station set → (set ≡ unscored) ⊎ ((0 < set) × (set < 2 ^ symbol_count station))
+some_symbols station set (inl e) = inl e
+some_symbols Dcf77 set (inr (inl e)) = inr (omega (arith, e), omega (arith, e))
+some_symbols Msf set (inr (inl e)) = inr (omega (arith, e), omega (arith, e))
+some_symbols Wwvb set (inr (inl e)) = inr (omega (arith, e), omega (arith, e))
+some_symbols Jjy set (inr (inl e)) = inr (omega (arith, e), omega (arith, e))
+some_symbols station set (inr (inr one)) =
+    inr (omega (arith, one.2, pow_pos one.0), omega (arith, one.2, pow_below one.0 (symbol_count station) one.1))
 
 code_small : (t : ℕ) → us_code t < 4
 code_small t =

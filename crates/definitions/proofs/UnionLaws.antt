@@ -8,7 +8,7 @@ use Rattle.signal_base.specs.Waveform.{symbol_count}
 use Rattle.definitions.specs.codes.Vocabulary.{free, unscored}
 use Rattle.definitions.specs.codes.Allowed.{IsSetOf}
 use Rattle.definitions.specs.heard.Costs.{set_cost}
-use Rattle.definitions.proofs.SetLaws.{IsBit}
+use Rattle.definitions.proofs.SetLaws.{IsBit, few, some_symbols}
 use Rattle.definitions.proofs.Dut1Laws.{in_free}
 use Rattle.definitions.proofs.CostLaws.{lesser_with, least_below, least_below-in, least_below-out}
 
@@ -173,14 +173,14 @@ below_unscored Wwvb set small = ne_eqb set 255 (λ e. omega (arith, small, e))
 below_unscored Jjy set small = ne_eqb set 255 (λ e. omega (arith, small, e))
 
 -- a set that has all of another costs no more
-pub wider_costs_no_more : (station : Station) (costs : ℕ → ℕ) (a b : ℕ) → IsSetOf station a → b < 256 → IsWithin a b
+wider_no_more : (station : Station) (costs : ℕ → ℕ) (a b : ℕ) → (a ≡ 255) ⊎ ((0 < a) × (a < 2 ^ symbol_count station)) → b < 256 → IsWithin a b
     → set_cost station costs b ≤ set_cost station costs a
 unfolding HasOne
-wider_costs_no_more station costs a b (inl e) small within =
+wider_no_more station costs a b (inl e) small within =
     let le = within_le a b (omega (arith, e)) small within in
     let all : b ≡ 255 = omega (arith, e, le, small) in
     rw (all, e) (omega arith)
-wider_costs_no_more station costs a b (inr is) small within = by_set (b == unscored)
+wider_no_more station costs a b (inr is) small within = by_set (b == unscored)
   where
     plain : set_cost station costs a ≡ unwrap_or (least_below costs a (symbol_count station)) 0
     plain = ap (λ c. if c then 0 else unwrap_or (least_below costs a (symbol_count station)) 0) (below_unscored station a is.1)
@@ -200,18 +200,16 @@ wider_costs_no_more station costs a b (inr is) small within = by_set (b == unsco
               (attained costs a (symbol_count station)) there,
         )
 
+pub wider_costs_no_more : (station : Station) (costs : ℕ → ℕ) (a b : ℕ) → IsSetOf station a → b < 256 → IsWithin a b
+    → set_cost station costs b ≤ set_cost station costs a
+wider_costs_no_more station costs a b is small within = wider_no_more station costs a b (some_symbols station a is) small within
+
 -- a free set costs no more than either of its symbols
 pub free_costs_no_more : (station : Station) (costs : ℕ → ℕ) (x : ℕ) → IsBit x → set_cost station costs free ≤ costs x
 unfolding IsBit
 free_costs_no_more station costs x lt =
-    unwrapped (least_below costs free (symbol_count station)) (lower costs free (symbol_count station) x (few station) (in_free x lt))
+    unwrapped (least_below costs free (symbol_count station)) (lower costs free (symbol_count station) x (few station x lt) (in_free x lt))
   where
-    few : (station : Station) → x < symbol_count station
-    few Dcf77 = omega (arith, lt)
-    few Msf = omega (arith, lt)
-    few Wwvb = omega (arith, lt)
-    few Jjy = omega (arith, lt)
-
     unwrapped : (o : Option ℕ) → IsUpTo (costs x) o → unwrap_or o 0 ≤ costs x
     unwrapped None never = absurd never
     unwrapped (Some c) le = le

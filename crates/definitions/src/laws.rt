@@ -10,6 +10,7 @@ ghost use Rattle.definitions.specs.declared.answer.Answer.{Answer};
 ghost use Rattle.definitions.specs.time.Calendar.{day_at, century_days, century_minutes, minute_length};
 ghost use Rattle.definitions.specs.codes.Vocabulary.{free, no_second};
 ghost use Rattle.definitions.specs.codes.Allowed.{IsSetOf, allowed};
+ghost use Rattle.definitions.specs.codes.Listing.{blank, listed};
 ghost use Rattle.definitions.specs.heard.Dut1.{dut1_symbol, is_dut1_second};
 ghost use Rattle.definitions.specs.heard.Receivers.{Receiver};
 ghost use Rattle.definitions.specs.heard.Phase.{agreement, phase_of};
@@ -55,9 +56,11 @@ pub fn waveforms_differ()
         → waveform station x ≡ waveform station y → x ≡ y }
 {}
 
-/// Each second that a minute has may carry some of the station's symbols, or it isn't scored; after them comes none.
+/// Each second that a minute has may carry one of the station's symbols, or 0 and 1 alike, or it isn't scored, and is listed
+/// by a character; after them comes none.
 pub fn each_second_is_sent()
     ensures sent { (station : Station) (announced : Bool) (t s : ℕ) → s < minute_length announced t → IsSetOf station (allowed station announced (t, s)) }
+    ensures listed { (station : Station) (announced : Bool) (t s : ℕ) → s < minute_length announced t → listed station (allowed station announced (t, s)) ≢ blank }
     ensures ends { (station : Station) (announced : Bool) (t s : ℕ) → minute_length announced t ≤ s → allowed station announced (t, s) ≡ no_second }
 {}
 

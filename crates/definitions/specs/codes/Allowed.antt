@@ -7,7 +7,7 @@ use Rattle.signal_base.specs.declared.station.Stations.{Stations}
 use Rattle.signal_base.specs.Mask.{has_bit}
 use Rattle.signal_base.specs.Number.{number_of}
 use Rattle.signal_base.specs.Waveform.{symbol_count}
-use Rattle.definitions.specs.codes.Vocabulary.{unscored}
+use Rattle.definitions.specs.codes.Vocabulary.{free, only, unscored}
 use Rattle.definitions.specs.declared.dcf77.DcfFacts.{DcfFacts}
 use Rattle.definitions.specs.declared.msf.MsfFacts.{MsfFacts}
 use Rattle.definitions.specs.declared.wwvb.WwvbFacts.{WwvbFacts}
@@ -132,9 +132,9 @@ telegram_of station announced t =
     then Some (map (λ s. allowed station announced (t, s)) (range_with_len 0 61))
     else None
 
--- a second may carry some of the station's symbols, or it isn't scored
+-- a second may carry one of the station's symbols, or 0 and 1 alike, or it isn't scored
 abbrev pub IsSetOf : Station → ℕ → Type 0
-IsSetOf station set = (set ≡ unscored) ⊎ ((0 < set) × (set < 2 ^ symbol_count station))
+IsSetOf station set = (set ≡ unscored) ⊎ ((set ≡ free) ⊎ ((x : ℕ) × (x < symbol_count station) × (set ≡ only x)))
 
 -- the station is one of these
 abbrev pub has_station : Stations → Station → Bool
