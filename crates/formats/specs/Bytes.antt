@@ -27,6 +27,15 @@ asterisk = 42
 abbrev pub comma : ℕ
 comma = 44
 
+abbrev pub letter_h : ℕ
+letter_h = 72
+
+abbrev pub letter_l : ℕ
+letter_l = 76
+
+abbrev pub letter_x : ℕ
+letter_x = 88
+
 -- a line of these bytes
 abbrev pub line : List ℕ → List ℕ
 line bytes = bytes ++ line_feed ∷ []

@@ -4,7 +4,10 @@ use Rattle.std.specs.Fmt.{decimal}
 use Rattle.definitions.specs.declared.level.Level.{Level}
 use Rattle.definitions.specs.declared.level.Level.TheVariants.{High, Low, Unknown}
 use Rattle.definitions.specs.heard.Logs.{Records}
-use Rattle.formats.specs.Bytes.{line_feed, carriage_return, number_sign, space}
+use Rattle.formats.specs.declared.limits.TheConstants.{MOST_RECORDS, TIME_LIMIT}
+use Rattle.formats.specs.declared.fault.LineFault.{LineFault}
+use Rattle.formats.specs.declared.fault.LineFault.TheVariants.{Shape, NotRising, TooManyRecords}
+use Rattle.formats.specs.Bytes.{line_feed, carriage_return, number_sign, space, letter_h, letter_l, letter_x}
 
 -- the byte onto the first of the lines
 abbrev pub onto_first : ℕ → List (List ℕ) → List (List ℕ)
@@ -28,13 +31,13 @@ IsSkipped line = (without_cr line ≡ []) ⊎ ((bs : List ℕ) × (without_cr li
 
 -- the letter of a level
 abbrev pub letter : Level → ℕ
-letter High = 72
-letter Low = 76
-letter Unknown = 88
+letter High = letter_h
+letter Low = letter_l
+letter Unknown = letter_x
 
--- a record's line: the time, below 10^12 ms, a space and the letter
+-- a record's line: the time in milliseconds, below 10^12, a space and the letter
 abbrev pub IsRecord : List ℕ → ℕ × Level → Type 0
-IsRecord line r = (r.0 < 1_000_000_000_000) × (without_cr line ≡ decimal r.0 ++ space ∷ letter r.1 ∷ [])
+IsRecord line r = (r.0 < TIME_LIMIT) × (without_cr line ≡ decimal r.0 ++ space ∷ letter r.1 ∷ [])
 
 -- the time is above that of the last of the records
 abbrev pub IsLater : Records → ℕ → Type 0
@@ -42,33 +45,24 @@ IsLater [] time = Unit {0}
 IsLater (r ∷ []) time = r.0 < time
 IsLater (r ∷ s ∷ rs) time = IsLater (s ∷ rs) time
 
-abbrev pub most_records : ℕ
-most_records = 200000
-
 -- Reading the lines after the records so far gives all these records.
 abbrev pub ReadsOn : Records → List (List ℕ) → Records → Type 0
 ReadsOn before [] records = records ≡ before
 ReadsOn before (line ∷ lines) records =
     (IsSkipped line × ReadsOn before lines records)
-    ⊎ ((r : ℕ × Level) × IsRecord line r × IsLater before r.0 × (length before < most_records)
+    ⊎ ((r : ℕ × Level) × IsRecord line r × IsLater before r.0 × (length before < MOST_RECORDS)
     × ReadsOn (before ++ r ∷ []) lines records)
 
 -- the text is a log of these records
 abbrev pub IsLog : List ℕ → Records → Type 0
 IsLog text records = ReadsOn [] (lines_of text) records
 
--- why a line is refused, in the order in which one line is judged
-pub data LineFault : Type 0 where
-  Shape : LineFault
-  NotRising : LineFault
-  TooManyRecords : LineFault
-
 -- the line is bad in this way after these records
 abbrev pub IsBad : Records → List ℕ → LineFault → Type 0
 IsBad before line Shape = ¬ (IsSkipped line) × ((r : ℕ × Level) → ¬ (IsRecord line r))
 IsBad before line NotRising = (r : ℕ × Level) × IsRecord line r × ¬ (IsLater before r.0)
 IsBad before line TooManyRecords =
-    (r : ℕ × Level) × IsRecord line r × IsLater before r.0 × (most_records ≤ length before)
+    (r : ℕ × Level) × IsRecord line r × IsLater before r.0 × (MOST_RECORDS ≤ length before)
 
 -- the first bad line of the text has this number, counted from 1, and is bad in this way
 pub record IsRefused (text : List ℕ) (line_number : ℕ) (fault : LineFault) : Type 0 where

@@ -1,10 +1,20 @@
 -- The line of each refusal.
 use Rattle.std.specs.Prelude.{ℕ, List, [], ◌∷◌, ◌++◌, Option, Some, None, codes}
 use Rattle.std.specs.Fmt.{decimal}
-use Rattle.formats.specs.LogLines.{LineFault}
-use Rattle.formats.specs.LogLines.LineFault.{Shape, NotRising, TooManyRecords}
+use Rattle.formats.specs.declared.fault.LineFault.{LineFault}
+use Rattle.formats.specs.declared.fault.LineFault.TheVariants.{Shape, NotRising, TooManyRecords}
+use Rattle.formats.specs.declared.refusal.Refusal.{Refusal}
+use Rattle.formats.specs.declared.refusal.Refusal.TheVariants.{WordsUsage, LogTooLarge, LogLine}
 use Rattle.definitions.specs.time.Spelling.{dash}
 use Rattle.formats.specs.Bytes.{space, line}
+
+-- a text that is larger than it may be
+abbrev pub too_large : List ℕ
+too_large = codes "too large"
+
+-- what is said of a line of a text, by its number from 1
+abbrev pub at_line : ℕ → List ℕ → List ℕ
+at_line number what = codes "line " ++ decimal number ++ codes ": " ++ what
 
 -- words that aren't of the grammar, a bad value, named by its option or its place, and a range that is empty
 abbrev pub usage_line : List ℕ
@@ -31,7 +41,7 @@ pub data ConfigurationFault : Type 0 where
   UnknownKey : ConfigurationFault
 
 abbrev pub configuration_fault_text : ConfigurationFault → List ℕ
-configuration_fault_text TooLarge = codes "too large"
+configuration_fault_text TooLarge = too_large
 configuration_fault_text NotToml = codes "not toml"
 configuration_fault_text (MissingKey receiver key) = codes "missing " ++ key_text receiver key
 configuration_fault_text (WrongKind receiver key) = codes "wrong kind " ++ key_text receiver key
@@ -41,7 +51,7 @@ configuration_fault_text UnknownKey = codes "unknown key"
 abbrev pub configuration_fault_line : ConfigurationFault → List ℕ
 configuration_fault_line fault = line (codes "configuration: " ++ configuration_fault_text fault)
 
--- a bad line of a log
+-- the words for a bad line of a log
 abbrev pub fault_text : LineFault → List ℕ
 fault_text Shape = codes "shape"
 fault_text NotRising = codes "not rising"
@@ -51,12 +61,9 @@ fault_text TooManyRecords = codes "too many records"
 abbrev pub log_text : ℕ → List ℕ → List ℕ
 log_text number name = codes "log " ++ decimal number ++ space ∷ name ++ codes ": "
 
-abbrev pub log_too_large_line : ℕ → List ℕ → List ℕ
-log_too_large_line number name = line (log_text number name ++ codes "too large")
-
-abbrev pub log_fault_line : ℕ → List ℕ → ℕ → LineFault → List ℕ
-log_fault_line number name at fault =
-    line (log_text number name ++ codes "line " ++ decimal at ++ codes ": " ++ fault_text fault)
+-- what is said of the log
+abbrev pub log_line : ℕ → List ℕ → List ℕ → List ℕ
+log_line number name what = line (log_text number name ++ what)
 
 -- the refusals of a certificate: its text, by size or line, or what it says, by step or named keys
 pub data CertificateFault : Type 0 where
@@ -75,9 +82,9 @@ named_key None = dash ∷ []
 named_key (Some key) = decimal key
 
 abbrev pub certificate_fault_text : CertificateFault → List ℕ
-certificate_fault_text TooLarge = codes "too large"
-certificate_fault_text (BadLine at) = codes "line " ++ decimal at ++ codes ": shape"
-certificate_fault_text (TooManySteps at) = codes "line " ++ decimal at ++ codes ": too many steps"
+certificate_fault_text TooLarge = too_large
+certificate_fault_text (BadLine at) = at_line at (codes "shape")
+certificate_fault_text (TooManySteps at) = at_line at (codes "too many steps")
 certificate_fault_text OtherWindow = codes "other window"
 certificate_fault_text (Uncovered step) = codes "uncovered at step " ++ decimal step
 certificate_fault_text (WrongBound step) = codes "wrong bound at step " ++ decimal step
@@ -86,3 +93,9 @@ certificate_fault_text (WrongEnds key) = codes "wrong ends " ++ named_key key
 
 abbrev pub certificate_fault_line : CertificateFault → List ℕ
 certificate_fault_line fault = line (codes "certificate: " ++ certificate_fault_text fault)
+
+-- the line of a refusal
+abbrev pub refusal_text : Refusal → List ℕ
+refusal_text WordsUsage = usage_line
+refusal_text (LogTooLarge receiver name) = log_line receiver name too_large
+refusal_text (LogLine receiver name at fault) = log_line receiver name (at_line at (fault_text fault))

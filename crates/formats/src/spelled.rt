@@ -4,12 +4,13 @@ ghost use Rattle.std.specs.Prelude.{ℕ, ◌≡◌, ◌+◌, ◌*◌, ◌∷◌,
 ghost use Rattle.signal_base.specs.declared.station.Station.TheVariants.{Dcf77, Msf, Wwvb, Jjy};
 ghost use Rattle.signal_base.specs.declared.dut.Dut.TheVariants.{Absent, Free, Tied, Tenths};
 ghost use Rattle.definitions.specs.declared.answer.Answer.TheVariants.{Nothing, Decided, Undecided};
-ghost use Rattle.formats.specs.LogLines.LineFault.{Shape, NotRising, TooManyRecords};
+ghost use Rattle.formats.specs.declared.fault.LineFault.TheVariants.{Shape, NotRising, TooManyRecords};
+ghost use Rattle.formats.specs.declared.refusal.Refusal.TheVariants.{WordsUsage, LogTooLarge, LogLine};
 ghost use Rattle.formats.specs.Refusals.ConfigurationFault.{TooLarge, NotToml, MissingKey, WrongKind, OutOfRange, UnknownKey};
 ghost use Rattle.formats.specs.Refusals.CertificateFault.{BadLine, NotAbove, OtherWindow, TooLarge as CertificateTooLarge, TooManySteps, Uncovered, WrongBound, WrongEnds};
 ghost use Rattle.formats.specs.Examples.{dut_told};
 ghost use Rattle.definitions.specs.examples.Sequences.{from_place, window_of};
-ghost use Rattle.formats.specs.Refusals.{bad_word_line, certificate_fault_line, configuration_fault_line, empty_range_line, log_fault_line, log_too_large_line, usage_line};
+ghost use Rattle.formats.specs.Refusals.{bad_word_line, certificate_fault_line, configuration_fault_line, empty_range_line, refusal_text};
 ghost use Rattle.formats.specs.Reports.{at_minutes, certified_report, dut_lines, minute_line, report, report_head};
 ghost use Rattle.formats.specs.Bytes.{line};
 ghost use Rattle.formats.specs.Trials.{trial_answer, trial_summary};
@@ -55,7 +56,7 @@ pub fn trial_of_msf()
 
 /// Lines that refuse words.
 pub fn refused_words()
-    ensures usage { usage_line ≡ line (codes "words: usage") }
+    ensures usage { refusal_text WordsUsage ≡ line (codes "words: usage") }
     ensures value { bad_word_line (codes "--seconds") ≡ line (codes "words: bad --seconds") }
     ensures range { empty_range_line ≡ line (codes "words: --to is before --from") }
 {}
@@ -72,10 +73,10 @@ pub fn refused_configurations()
 
 /// Lines that refuse logs.
 pub fn refused_logs()
-    ensures large { log_too_large_line 1 (codes "a") ≡ line (codes "log 1 a: too large") }
-    ensures shape { log_fault_line 1 (codes "a") 4 Shape ≡ line (codes "log 1 a: line 4: shape") }
-    ensures rising { log_fault_line 1 (codes "a") 2 NotRising ≡ line (codes "log 1 a: line 2: not rising") }
-    ensures many { log_fault_line 1 (codes "a") 200001 TooManyRecords ≡ line (codes "log 1 a: line 200001: too many records") }
+    ensures large { refusal_text (LogTooLarge 1 (codes "a")) ≡ line (codes "log 1 a: too large") }
+    ensures shape { refusal_text (LogLine 1 (codes "a") 4 Shape) ≡ line (codes "log 1 a: line 4: shape") }
+    ensures rising { refusal_text (LogLine 1 (codes "a") 2 NotRising) ≡ line (codes "log 1 a: line 2: not rising") }
+    ensures many { refusal_text (LogLine 1 (codes "a") 200001 TooManyRecords) ≡ line (codes "log 1 a: line 200001: too many records") }
 {}
 
 /// Lines that refuse certificates.
