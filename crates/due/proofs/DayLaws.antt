@@ -5,7 +5,8 @@ use Rattle.definitions.specs.declared.answer.Answer.{Answer}
 use Rattle.definitions.specs.time.Calendar.{century_days, minute_length}
 use Rattle.definitions.specs.heard.Logs.{Records}
 use Rattle.definitions.specs.sequences.Walks.{IsSequence}
-use Rattle.due.specs.Owed.{IsOfDay, IsDayAnswer, IsDecode, day_cost}
+use Rattle.due.specs.Days.{IsOfDay, IsDayAnswer, day_cost}
+use Rattle.due.specs.Words.{IsDecode}
 use Rattle.definitions.proofs.AnswerLaws.{answer_is_one}
 use Rattle.definitions.proofs.DateLaws.{days_differ}
 

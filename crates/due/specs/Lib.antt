@@ -1,1 +1,6 @@
-pub mod Owed
+pub mod Words
+pub mod LogFiles
+pub mod Days
+pub mod Status
+pub mod Dues
+pub mod Rules

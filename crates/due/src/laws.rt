@@ -4,7 +4,8 @@ ghost use Rattle.std.specs.Prelude.{ℕ, ◌≡◌, ◌<◌, List};
 ghost use Rattle.definitions.specs.declared.answer.Answer.{Answer};
 ghost use Rattle.definitions.specs.time.Calendar.{century_days};
 ghost use Rattle.definitions.specs.heard.Logs.{Records};
-ghost use Rattle.due.specs.Owed.{IsDayAnswer, IsDecode};
+ghost use Rattle.due.specs.Days.{IsDayAnswer};
+ghost use Rattle.due.specs.Words.{IsDecode};
 
 /// There is at most one answer for a day and a log.
 pub fn answer_is_one()

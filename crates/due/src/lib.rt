@@ -1,7 +1,13 @@
-//! What a run of the program owes for words and contents of files: a status, and the bytes that it adds to standard
-//! output. The definitions stand in `specs/`; here are laws.
+//! What a run of the program owes for its words and the contents of files: a text for standard output, and a status.
+//! The rules stand in `specs/`; here are the plain types and laws.
 #![tactic(auto)]
 
+mod due;
+mod duts;
 mod laws;
+mod status;
 
+pub use due::Due;
+pub use duts::{Duts, MOST_STATIONS};
 pub use laws::{answer_is_one, words_are_one};
+pub use status::Status;

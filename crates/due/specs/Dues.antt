@@ -1,0 +1,32 @@
+-- The status and the text of what is due.
+use Rattle.std.specs.Prelude.{ℕ, List}
+use Rattle.definitions.specs.declared.answer.Answer.{Answer}
+use Rattle.definitions.specs.declared.answer.Answer.TheVariants as answers
+use Rattle.formats.specs.declared.refusal.Refusal.{Refusal}
+use Rattle.formats.specs.declared.refusal.Refusal.TheVariants.{WordsUsage, LogTooLarge, LogLine}
+use Rattle.formats.specs.Refusals.{refusal_text}
+use Rattle.formats.specs.Reports.{report}
+use Rattle.due.specs.declared.due.Due.{Due}
+use Rattle.due.specs.declared.due.Due.TheVariants.{Refused, Report}
+use Rattle.due.specs.declared.status.Status.{Status}
+use Rattle.due.specs.declared.status.Status.TheVariants.{Decided, Undecided, Nothing, BadWords, BadLog}
+
+abbrev pub refusal_status : Refusal → Status
+refusal_status WordsUsage = BadWords
+refusal_status (LogTooLarge receiver name) = BadLog
+refusal_status (LogLine receiver name line fault) = BadLog
+
+abbrev pub answer_status : Answer → Status
+answer_status (answers.Decided cost q next) = Decided
+answer_status (answers.Undecided cost q r) = Undecided
+answer_status answers.Nothing = Nothing
+
+-- the status with which a run ends that told this
+abbrev pub status_of : Due → Status
+status_of (Refused refusal) = refusal_status refusal
+status_of (Report window answer duts) = answer_status answer
+
+-- the bytes that a run adds to standard output
+abbrev pub text_of : Due → List ℕ
+text_of (Refused refusal) = refusal_text refusal
+text_of (Report window answer duts) = report window duts answer

@@ -1,0 +1,34 @@
+//! How a run of the program ends.
+
+ghost use Rattle.std.specs.Prelude.{◌≡◌};
+ghost use Rattle.due.specs.Status.{code_of};
+
+/// How a run ended. After `Failed` and `NoMemory` the text that is due wasn't told, or not all of it.
+#[derive(Clone, Copy, Debug, PartialEq, Eq)]
+pub enum Status {
+    /// One sequence costs less than every other.
+    Decided,
+    /// The two cheapest sequences cost the same.
+    Undecided,
+    /// No sequence is admitted.
+    Nothing,
+    /// The words aren't of the grammar.
+    BadWords,
+    /// The configuration is refused.
+    BadConfiguration,
+    /// A log is refused.
+    BadLog,
+    /// A file couldn't be read or written.
+    Failed,
+    /// Memory wasn't found.
+    NoMemory,
+}
+
+impl Status {
+    /// The number with which the program ends: 0 to 7, in this order.
+    pub fn code(self) -> u8
+        ensures { result ≡ code_of self }
+    {
+        self as u8
+    }
+}
