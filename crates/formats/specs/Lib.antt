@@ -1,5 +1,6 @@
 pub mod Bytes
 pub mod LogLines
+pub mod LogOrder
 pub mod Reports
 pub mod Listing
 pub mod Feed

@@ -35,9 +35,13 @@ letter High = letter_h
 letter Low = letter_l
 letter Unknown = letter_x
 
--- a record's line: the time in milliseconds, below 10^12, a space and the letter
+-- the bytes of a record: the time in milliseconds, below 10^12, a space and the letter
+abbrev pub SpellsRecord : List ℕ → ℕ × Level → Type 0
+SpellsRecord bytes r = (r.0 < TIME_LIMIT) × (bytes ≡ decimal r.0 ++ space ∷ letter r.1 ∷ [])
+
+-- a record's line
 abbrev pub IsRecord : List ℕ → ℕ × Level → Type 0
-IsRecord line r = (r.0 < TIME_LIMIT) × (without_cr line ≡ decimal r.0 ++ space ∷ letter r.1 ∷ [])
+IsRecord line r = SpellsRecord (without_cr line) r
 
 -- the time is above that of the last of the records
 abbrev pub IsLater : Records → ℕ → Type 0
@@ -74,3 +78,9 @@ pub record IsRefused (text : List ℕ) (line_number : ℕ) (fault : LineFault) :
   pub number : line_number ≡ length front + 1
   pub good : ReadsOn [] front records
   pub bad : IsBad records line fault
+
+-- the text is a log, or it is refused for its first bad line
+abbrev pub HasOutcome : List ℕ → Type 0
+HasOutcome text =
+    ((log : Records) × IsLog text log)
+    ⊎ ((line_number : ℕ) × (fault : LineFault) × IsRefused text line_number fault)

@@ -4,11 +4,13 @@
 
 mod fault;
 mod limits;
+mod log_law;
 mod name;
 mod refusal;
 mod spelled;
 
 pub use fault::LineFault;
+pub use log_law::log_has_one_outcome;
 pub use limits::{LOG_LIMIT, LONGEST_NAME, MOST_RECORDS, TIME_LIMIT};
 pub use name::Name;
 pub use refusal::Refusal;

@@ -5,8 +5,9 @@ use Rattle.std.proofs.lemmas.Bool.{cases_lt}
 use Rattle.std.proofs.lemmas.List.Elements.{All-push}
 use Rattle.definitions.specs.declared.level.Level.{Level}
 use Rattle.definitions.specs.heard.Logs.{Records}
-use Rattle.formats.specs.LogLines.{most_records, IsLater}
-use Rattle.pulse_log.specs.Rising.{IsRising, IsOrderly}
+use Rattle.formats.specs.declared.limits.TheConstants.{MOST_RECORDS, TIME_LIMIT}
+use Rattle.formats.specs.LogLines.{IsLater}
+use Rattle.formats.specs.LogOrder.{IsRising, IsOrderly}
 
 -- what is later than all is later than the last
 IsLater-at : (records : Records) (time k : ℕ) (d : ℕ × Level) → length records ≡ suc k → IsLater records time → (get_or records k d).0 < time
@@ -15,17 +16,6 @@ IsLater-at (r ∷ []) time zero d e later = later
 IsLater-at (r ∷ []) time (suc k) d e later = absurd (omega arith)
 IsLater-at (r ∷ s ∷ rs) time zero d e later = absurd (omega arith)
 IsLater-at (r ∷ s ∷ rs) time (suc k) d e later = IsLater-at (s ∷ rs) time k d (omega arith) later
-
--- later than the last is later
-pub IsLater-push : (front : Records) (last : ℕ × Level) (time : ℕ) → last.0 < time → IsLater (front ++ last ∷ []) time
-IsLater-push [] last time h = h
-IsLater-push (r ∷ []) last time h = h
-IsLater-push (r ∷ s ∷ rs) last time h = IsLater-push (s ∷ rs) last time h
-
-pub IsLater-pop : (front : Records) (last : ℕ × Level) (time : ℕ) → IsLater (front ++ last ∷ []) time → last.0 < time
-IsLater-pop [] last time h = h
-IsLater-pop (r ∷ []) last time h = h
-IsLater-pop (r ∷ s ∷ rs) last time h = IsLater-pop (s ∷ rs) last time h
 
 -- one more record that is later
 IsRising-push : (records : Records) (r : ℕ × Level) → IsRising records → IsLater records r.0 → IsRising (records ++ r ∷ [])
@@ -44,10 +34,10 @@ IsRising-push records r rising later = λ i j d h l. go i j d h (cases_lt j (len
     go i j d h (inl inside) l = omega (arith, ap (λ (s : ℕ × Level). s.0) (get_or_append_left records (r ∷ []) d i (omega arith)), ap (λ (s : ℕ × Level). s.0) (get_or_append_left records (r ∷ []) d j inside), rising i j d h inside)
     go i j d h (inr end) l = omega (arith, ap (λ (s : ℕ × Level). s.0) (get_or_append_left records (r ∷ []) d i (omega arith)), ap (λ (s : ℕ × Level). s.0) (get_or_push records r d j (omega arith)), before i d (omega arith))
 
-pub IsOrderly-push : (records : Records) (r : ℕ × Level) → IsOrderly records → r.0 < 1_000_000_000_000 → IsLater records r.0 → length records < most_records → IsOrderly (records ++ r ∷ [])
+pub IsOrderly-push : (records : Records) (r : ℕ × Level) → IsOrderly records → r.0 < TIME_LIMIT → IsLater records r.0 → length records < MOST_RECORDS → IsOrderly (records ++ r ∷ [])
 IsOrderly-push records r h below later room = record {
   rising = IsRising-push records r h.rising later;
-  below = All-push (λ (s : ℕ × Level). s.0 < 1_000_000_000_000) records r h.below below;
+  below = All-push (λ (s : ℕ × Level). s.0 < TIME_LIMIT) records r h.below below;
   most = omega (arith, length_push records r);
 }
 
