@@ -10,8 +10,8 @@ mod refusal;
 mod spelled;
 
 pub use fault::LineFault;
-pub use log_law::log_has_one_outcome;
 pub use limits::{LOG_LIMIT, LONGEST_NAME, MOST_RECORDS, TIME_LIMIT};
+pub use log_law::log_has_one_outcome;
 pub use name::Name;
 pub use refusal::Refusal;
 pub use spelled::{

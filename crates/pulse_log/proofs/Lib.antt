@@ -1,7 +1,4 @@
-pub mod LineLemmas
-pub mod OnceLemmas
-pub mod OrderLemmas
-pub mod OutcomeLemmas
-pub mod PlaceLemmas
-pub mod ReadLemmas
-pub mod TimeLemmas
+pub mod LineLaws
+pub mod PlaceLaws
+pub mod ReadLaws
+pub mod TimeLaws

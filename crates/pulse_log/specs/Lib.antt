@@ -1,5 +1,3 @@
 pub mod Line
-pub mod Outcome
 pub mod Place
 pub mod Reading
-pub mod Rising

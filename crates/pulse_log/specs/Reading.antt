@@ -1,25 +1,29 @@
--- What reading a log owes: which fault stands for a bad line, and when it may come.
-use Rattle.std.specs.Prelude.{◌≡◌, ℕ, List, ◌⊎◌, Result, Err}
+-- What reading a log owes, and which line a fault names.
+use Rattle.std.specs.Prelude.{◌≡◌, ℕ, List, Option, Some, None, IfSome, Result, Ok, Err}
 use Rattle.definitions.specs.heard.Logs.{Records}
-use Rattle.formats.specs.LogLines.{LineFault, IsRefused}
-use Rattle.formats.specs.LogLines as lines
+use Rattle.formats.specs.declared.fault.LineFault.{LineFault}
+use Rattle.formats.specs.declared.fault.LineFault.TheVariants as lines
+use Rattle.formats.specs.LogLines.{IsRefused}
 use Rattle.pulse_log.specs.declared.fault.LogFault.{LogFault}
-use Rattle.pulse_log.specs.declared.fault.LogFault.TheVariants as faults
+use Rattle.pulse_log.specs.declared.fault.LogFault.TheVariants.{Shape, NotRising, TooManyRecords, NoMemory}
 
--- the fault that names this line and says in which way it is bad
-abbrev pub fault_at : ℕ → LineFault → LogFault
-fault_at line lines.Shape = faults.Shape line
-fault_at line lines.NotRising = faults.NotRising line
-fault_at line lines.TooManyRecords = faults.TooManyRecords line
+-- the line that a fault names, and how it is bad; want of memory names none
+abbrev pub bad_line_of : LogFault → Option (ℕ × LineFault)
+bad_line_of (Shape line) = Some (line, lines.Shape)
+bad_line_of (NotRising line) = Some (line, lines.NotRising)
+bad_line_of (TooManyRecords line) = Some (line, lines.TooManyRecords)
+bad_line_of NoMemory = None
 
--- The line that a fault names is the first bad one of the text, and bad in this way. Want of memory says
--- nothing of the text.
+-- the line that a fault names is the first bad one of the text, and bad in this way
 abbrev pub IsFaultOf : List ℕ → LogFault → Type 0
-IsFaultOf text (faults.Shape line) = IsRefused text line lines.Shape
-IsFaultOf text (faults.NotRising line) = IsRefused text line lines.NotRising
-IsFaultOf text (faults.TooManyRecords line) = IsRefused text line lines.TooManyRecords
-IsFaultOf text faults.NoMemory = Unit {0}
+IsFaultOf text fault = IfSome (bad_line_of fault) (λ bad. IsRefused text bad.0 bad.1)
 
--- the result is this one, or memory ran out
-abbrev pub IsUnlessNoMemory : Result Records LogFault → Result Records LogFault → Type 0
-IsUnlessNoMemory result owed = (result ≡ owed) ⊎ (result ≡ Err faults.NoMemory)
+-- the log was read, or memory ran out
+abbrev pub HasReadLog : Result Records LogFault → Records → Type 0
+HasReadLog (Ok log) owed = log ≡ owed
+HasReadLog (Err fault) owed = fault ≡ NoMemory
+
+-- this line is named, and how it is bad, or memory ran out
+abbrev pub HasRefusedLine : Result Records LogFault → ℕ → LineFault → Type 0
+HasRefusedLine (Ok log) line fault = ⊥
+HasRefusedLine (Err found) line fault = IfSome (bad_line_of found) (λ bad. (bad.0 ≡ line) × (bad.1 ≡ fault))

@@ -3,7 +3,6 @@
 #![tactic(auto)]
 
 mod fault;
-mod law;
 mod line;
 mod log;
 mod look;
@@ -13,6 +12,5 @@ mod tests;
 
 pub use definitions::Level;
 pub use fault::LogFault;
-pub use law::one_outcome;
 pub use log::Log;
 pub use read::read_log;

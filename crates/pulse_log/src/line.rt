@@ -2,8 +2,9 @@
 
 ghost use Rattle.std.specs.Prelude.{◌≡◌, ◌≢◌, ◌==◌, ℕ, ◌<◌, ◌∷◌, length, IfSome, IfNone};
 ghost use Rattle.std.specs.List.{position};
-ghost use Rattle.formats.specs.LogLines.{lines_of, without_cr, letter};
-ghost use Rattle.pulse_log.specs.Line.{SpellsTime, SpellsRecord, Says};
+ghost use Rattle.formats.specs.Bytes.{line_feed};
+ghost use Rattle.formats.specs.LogLines.{lines_of, without_cr, letter, SpellsRecord};
+ghost use Rattle.pulse_log.specs.Line.{SpellsTime, Says};
 
 use definitions::Level;
 
@@ -23,7 +24,7 @@ pub enum Line {
 
 // Where the first LF of a text stands.
 fn line_end(text: &[u8]) -> Option<usize>
-    ensures { result ≡ position (λ byte. byte == 10) text.now }
+    ensures { result ≡ position (λ byte. byte == line_feed) text.now }
 {
     text.iter().position(|byte| *byte == b'\n')
 }

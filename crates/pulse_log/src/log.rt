@@ -5,6 +5,7 @@ ghost use Rattle.definitions.specs.heard.Logs.{level_at, low_count};
 
 use crate::look;
 use definitions::Level;
+use formats::TIME_LIMIT;
 use std::marker::Model;
 
 /// A log: records of a time in milliseconds and the level from that time on. Times rise strictly and are below
@@ -16,7 +17,7 @@ pub struct Log {
 
 impl Model for Log {
     ghost use Rattle.definitions.specs.heard.Logs.{Records};
-    ghost use Rattle.pulse_log.specs.Rising.{IsOrderly};
+    ghost use Rattle.formats.specs.LogOrder.{IsOrderly};
 
     ghost Value = { Records };
 
@@ -26,7 +27,7 @@ impl Model for Log {
 }
 
 impl Log {
-    ghost use Rattle.pulse_log.specs.Rising.{IsOrderly};
+    ghost use Rattle.formats.specs.LogOrder.{IsOrderly};
 
     /// The log of these records.
     pub(crate) fn of_records(records: Vec<(u64, Level)>) -> Log
@@ -56,7 +57,7 @@ impl Log {
     pub fn entry(&self, i: usize) -> (u64, Level)
         requires { i < length self.now }
         ensures record { slice_get self.now i ≡ Some result }
-        ensures bound { result.0 < 1_000_000_000_000 }
+        ensures bound { result.0 < TIME_LIMIT }
     {
         self.records[i]
     }

@@ -2,7 +2,7 @@
 
 ghost use Rattle.std.specs.Prelude.{◌≡◌, ◌+◌, ◌-◌, ◌<◌, ◌≤◌, length};
 ghost use Rattle.definitions.specs.heard.Logs.{level_at, low_count};
-ghost use Rattle.pulse_log.specs.Rising.{IsRising};
+ghost use Rattle.formats.specs.LogOrder.{IsRising};
 ghost use Rattle.pulse_log.specs.Place.{StandsAfter, level_after};
 
 use definitions::Level;

@@ -2,17 +2,15 @@
 
 ghost use Rattle.std.specs.Prelude.{◌≡◌, ℕ, ◌≤◌, ◌<◌, ◌↔◌, length, IsTrue, IfOk, IfErr};
 ghost use Rattle.definitions.specs.heard.Logs.{Records};
-ghost use Rattle.formats.specs.LogLines.{IsLater, IsLog, IsRefused, LineFault};
-ghost use Rattle.pulse_log.specs.Reading.{IsFaultOf, IsUnlessNoMemory, fault_at};
-ghost use Rattle.pulse_log.specs.Rising.{IsOrderly};
+ghost use Rattle.formats.specs.declared.fault.LineFault.{LineFault as Fault};
+ghost use Rattle.formats.specs.LogLines.{IsLater, IsLog, IsRefused};
+ghost use Rattle.pulse_log.specs.Reading.{HasReadLog, HasRefusedLine, IsFaultOf};
 
 use crate::line::{Line, first_line, line_says};
 use crate::{Log, LogFault};
 use definitions::Level;
+use formats::{LOG_LIMIT, MOST_RECORDS, log_has_one_outcome};
 use std::alloc::Global;
-
-// How many records a log may have.
-const MOST_RECORDS: usize = 200_000;
 
 // Whether the time is above that of the last record.
 fn is_later(records: &[(u64, Level)], time: u64) -> bool
@@ -26,9 +24,8 @@ fn is_later(records: &[(u64, Level)], time: u64) -> bool
 
 // The records of the text.
 fn read_records(alloc: Global, bytes: &[u8]) -> Result<Vec<(u64, Level)>, LogFault>
-    requires { length bytes.now ≤ 8_000_000 }
+    requires { length bytes.now ≤ LOG_LIMIT }
     ensures accepted { IfOk result (λ records. IsLog bytes.now records.items) }
-    ensures orderly { IfOk result (λ records. IsOrderly records.items) }
     ensures refused { IfErr result (λ fault. IsFaultOf bytes.now fault) }
 {
     let mut records = Vec::new(alloc);
@@ -58,16 +55,16 @@ fn read_records(alloc: Global, bytes: &[u8]) -> Result<Vec<(u64, Level)>, LogFau
 /// Reads a log's text, of at most 8,000,000 bytes. The first bad line decides; on one line `Shape` goes before
 /// `NotRising`, and that before `TooManyRecords`. `NoMemory` comes only for want of memory.
 pub fn read_log(alloc: Global, bytes: &[u8]) -> Result<Log, LogFault>
-    requires { length bytes.now ≤ 8_000_000 }
+    requires { length bytes.now ≤ LOG_LIMIT }
 
     // What is read is a log of these records; a fault names the first bad line and says how it is bad.
     ensures accepted { IfOk result (λ log. IsLog bytes.now log) }
     ensures refused { IfErr result (λ fault. IsFaultOf bytes.now fault) }
 
-    // Unless memory runs out, each log is read and each other text is refused for its first bad line.
-    ensures every_log { (log : Records) → IsLog bytes.now log → IsUnlessNoMemory result (Ok log) }
-    ensures every_fault { (line : ℕ) (fault : LineFault) → IsRefused bytes.now line fault
-        → IsUnlessNoMemory result (Err (fault_at line fault)) }
+    // Each log is read and each other text is refused for its first bad line, unless memory runs out.
+    ensures every_log { (log : Records) → IsLog bytes.now log → HasReadLog result log }
+    ensures every_fault { (line : ℕ) (fault : Fault) → IsRefused bytes.now line fault → HasRefusedLine result line fault }
 {
+    log_has_one_outcome();
     Ok(Log::of_records(read_records(alloc, bytes)?))
 }

@@ -1,12 +1,13 @@
 //! Worked logs, and what becomes of each.
 
 use crate::{Level, Log, LogFault, read_log};
+use formats::LOG_LIMIT;
 use std::alloc::{AllocError, Global};
 use std::process::Abort;
 use std::test::Fail;
 
 fn read(rt: &(impl Abort + AllocGlobal), text: &[u8]) -> Result<Log, LogFault> {
-    assert!(rt; text.len() <= 8_000_000);
+    assert!(rt; text.len() as u64 <= LOG_LIMIT);
     read_log(rt.alloc(), text)
 }
 
@@ -51,7 +52,7 @@ fn refuses_the_first_bad_line(rt: HostRuntime) -> Result<(), Fail> {
 
 #[test]
 fn reads_each_log(rt: HostRuntime) -> Result<(), Fail> {
-    let comment = vec![in rt.alloc(); b'#'; 8_000_000]?;
+    let comment = vec![in rt.alloc(); b'#'; LOG_LIMIT as usize]?;
     let accepted = [
         (
             b"5 H\r\n7 L".as_slice(),

@@ -2,7 +2,7 @@
 use Rattle.std.proofs.Common.{ap, ◌∙◌, ◌∷◌, sym, List, ℕ}
 use Rattle.std.proofs.lemmas.List.{take_rest}
 use Rattle.formats.specs.LogLines.{lines_of}
-use Rattle.pulse_log.proofs.LineLemmas.{lines_of-some, lines_of-none, nothing_left}
+use Rattle.pulse_log.proofs.LineLaws.{lines_of-some, lines_of-none, nothing_left}
 use Rattle.pulse_log.proofs.line.first_line.Goals as goal
 
 pub returns-in-Some-clause-lines : goal.returns-in-Some-clause-lines

@@ -1,5 +1,5 @@
 -- What the last two bytes, or the digits before them, are not is no record.
-use Rattle.pulse_log.proofs.TimeLemmas.{SpellsRecord-ends}
+use Rattle.pulse_log.proofs.TimeLaws.{SpellsRecord-ends}
 use Rattle.pulse_log.proofs.line.record_in.Goals as goal
 
 pub returns-then-space-ne32-clause-none : goal.returns-then-space-ne32-clause-none

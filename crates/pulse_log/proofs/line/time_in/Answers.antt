@@ -1,7 +1,7 @@
 -- The digits so far are those of a time, and what is refused is none.
 use Rattle.std.proofs.Common.{◌≡◌, ◌<◌, ◌≤◌, length, get_or, arith}
 use Rattle.std.proofs.lemmas.Bool.Decides.{nat_tests}
-use Rattle.pulse_log.proofs.TimeLemmas.{IsTimeText-decimal, ReadsDigits-more, ReadsDigits-all, not_digit}
+use Rattle.pulse_log.proofs.TimeLaws.{IsTimeText-decimal, ReadsDigits-more, ReadsDigits-all, not_digit}
 use Rattle.pulse_log.proofs.line.time_in.Goals as goal
 use Rattle.pulse_log.proofs.line.time_in.Goals.{then-is_empty-via-then-is_empty, then-is_empty-via-else-is_empty+then-digits-gt-MOST_DIGITS}
 

@@ -1,5 +1,5 @@
 -- The digits so far are those of a time.
-use Rattle.pulse_log.proofs.TimeLemmas.{ReadsDigits}
+use Rattle.pulse_log.proofs.TimeLaws.{ReadsDigits}
 use Rattle.pulse_log.proofs.line.time_in.Given as goal
 
 abbrev pub invariant-loop-digit : goal.invariant-loop-digit

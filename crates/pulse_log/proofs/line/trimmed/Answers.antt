@@ -1,5 +1,5 @@
 -- The last byte is a CR or it is not.
-use Rattle.pulse_log.proofs.LineLemmas.{without_cr-yes, without_cr-no}
+use Rattle.pulse_log.proofs.LineLaws.{without_cr-yes, without_cr-no}
 use Rattle.pulse_log.proofs.line.trimmed.Goals as goal
 
 pub returns-then-last-eq13 : goal.returns-then-last-eq13

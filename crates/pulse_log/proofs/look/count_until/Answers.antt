@@ -2,7 +2,7 @@
 use Rattle.std.proofs.Common.{leb, arith, rules}
 use Rattle.std.proofs.lemmas.Bool.{leb-true, leb-false}
 use Rattle.std.proofs.lemmas.List.Sorted.{IsPartitionedBy-leb, IsPartitionPoint-from_clause}
-use Rattle.pulse_log.proofs.PlaceLemmas.{IsNonDecreasingBy-rising}
+use Rattle.pulse_log.proofs.PlaceLaws.{IsNonDecreasingBy-rising}
 use Rattle.pulse_log.proofs.look.count_until.Goals as goal
 
 pub returns : goal.returns

@@ -1,7 +1,7 @@
 -- The last of the first records has the level.
 use Rattle.std.proofs.Common.{◌<◌, arith, sym}
 use Rattle.definitions.specs.declared.level.Level.TheVariants.{High}
-use Rattle.pulse_log.proofs.PlaceLemmas.{level_after-known}
+use Rattle.pulse_log.proofs.PlaceLaws.{level_after-known}
 use Rattle.pulse_log.proofs.look.level_after.Goals as goal
 
 pub returns-else-count-records : goal.returns-else-count-records

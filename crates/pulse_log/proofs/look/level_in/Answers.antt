@@ -1,6 +1,6 @@
 -- The place of the millisecond gives its level.
 use Rattle.std.proofs.Common.{◌∙◌, sym}
-use Rattle.pulse_log.proofs.PlaceLemmas.{level_at-place}
+use Rattle.pulse_log.proofs.PlaceLaws.{level_at-place}
 use Rattle.pulse_log.proofs.look.level_in.Goals as goal
 
 pub returns : goal.returns

@@ -2,7 +2,7 @@
 use Rattle.std.proofs.Common.{◌≡◌, ◌<◌, ◌≤◌, ◌+◌, sym, arith, subst, length, get_or}
 use Rattle.definitions.specs.declared.level.Level.TheVariants.{High}
 use Rattle.pulse_log.specs.Place.{StandsAfter}
-use Rattle.pulse_log.proofs.PlaceLemmas.{StandsAfter-next, level_after-past, low_count-start, low_count-unknown, low_count-low_stretch, low_count-high_stretch}
+use Rattle.pulse_log.proofs.PlaceLaws.{StandsAfter-next, level_after-past, low_count-start, low_count-unknown, low_count-low_stretch, low_count-high_stretch}
 use Rattle.pulse_log.proofs.look.low_in.Goals as goal
 use Rattle.pulse_log.proofs.look.low_in.Goals.{in-Low, in-High}
 

@@ -3,7 +3,7 @@ use Rattle.std.proofs.Common.{sym, subst}
 use Rattle.std.proofs.lemmas.Bool.{lt-ltb, ltb-true}
 use Rattle.definitions.specs.heard.Logs.{Records}
 use Rattle.formats.specs.LogLines.{IsLater}
-use Rattle.pulse_log.proofs.OrderLemmas.{IsLater-push, IsLater-pop}
+use Rattle.pulse_log.proofs.ReadLaws.{IsLater-push, IsLater-pop}
 use Rattle.pulse_log.proofs.read.is_later.Goals as goal
 
 pub returns-in-Some : goal.returns-in-Some

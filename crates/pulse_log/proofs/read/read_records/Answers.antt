@@ -2,8 +2,9 @@
 use Rattle.std.proofs.Common.{arith, sym, subst}
 use Rattle.std.proofs.lemmas.Bool.{iff_false}
 use Rattle.definitions.specs.heard.Logs.{Records}
-use Rattle.formats.specs.LogLines.{IsLater, NotRising, TooManyRecords}
-use Rattle.pulse_log.proofs.ReadLemmas.{HasRead-skipped, HasRead-record, IsRefused-read}
+use Rattle.formats.specs.declared.fault.LineFault.TheVariants.{NotRising, TooManyRecords}
+use Rattle.formats.specs.LogLines.{IsLater}
+use Rattle.pulse_log.proofs.ReadLaws.{HasRead-skipped, HasRead-record, IsRefused-read}
 use Rattle.pulse_log.proofs.read.read_records.Goals as goal
 
 pub loop-rest-preserved-in-Skipped : goal.loop-rest-preserved-in-Skipped

@@ -1,6 +1,6 @@
 -- The lines before the rest were read.
 use Rattle.std.proofs.Common.{◌+◌, ◌≤◌, length}
-use Rattle.pulse_log.proofs.ReadLemmas.{HasRead}
+use Rattle.pulse_log.proofs.ReadLaws.{HasRead}
 use Rattle.pulse_log.proofs.read.read_records.Given as goal
 
 abbrev pub invariant-loop-rest : goal.invariant-loop-rest

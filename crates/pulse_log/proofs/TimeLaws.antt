@@ -10,8 +10,11 @@ use Rattle.std.proofs.lemmas.List.{same_from_push, take_all}
 use Rattle.std.proofs.lemmas.Str.Parse.{IsNumeralModel, numerals_by_value, tells_digits, digits_value_short, digit_at}
 use Rattle.definitions.specs.declared.level.Level.{Level}
 use Rattle.definitions.specs.declared.level.Level.TheVariants.{High, Low, Unknown}
-use Rattle.formats.specs.LogLines.{letter}
-use Rattle.pulse_log.specs.Line.{SpellsTime, SpellsRecord}
+use Rattle.formats.specs.declared.limits.TheConstants.{TIME_LIMIT}
+use Rattle.formats.specs.Bytes.{space}
+use Rattle.formats.specs.LogLines.{letter, SpellsRecord}
+use Rattle.formats.proofs.LineLaws.{SpellsRecord-parts}
+use Rattle.pulse_log.specs.Line.{SpellsTime}
 
 own : IsNumeralModel (AllDigits 10) (digits_value 10)
 own = numerals_by_value (AllDigits 10) tells_digits
@@ -23,11 +26,11 @@ pub record IsTimeText (digits : List ℕ) : Type 0 where
   pub first : get_or digits 0 0 ≡ 48 → length digits ≡ 1
   pub each : AllDigits 10 digits
 
-first-decimal : (time : ℕ) → time < 1_000_000_000_000 → get_or (decimal time) 0 0 ≡ 48 → length (decimal time) ≡ 1
+first-decimal : (time : ℕ) → time < TIME_LIMIT → get_or (decimal time) 0 0 ≡ 48 → length (decimal time) ≡ 1
 first-decimal zero h e = ap (λ (l : List ℕ). length l) (decimal_digit 0 (omega arith))
 first-decimal (suc n) h e = absurd (omega (arith, first_decimal (suc n) (omega arith) (omega arith)))
 
-pub IsTimeText-decimal : (digits : List ℕ) (time : ℕ) → time < 1_000_000_000_000 → digits ≡ decimal time → IsTimeText digits
+pub IsTimeText-decimal : (digits : List ℕ) (time : ℕ) → time < TIME_LIMIT → digits ≡ decimal time → IsTimeText digits
 IsTimeText-decimal digits time h e = rw e (record {
   some = (decimal_is_IsNumeral time (omega arith)).0.0;
   most = length-decimal-le 12 time (omega arith) (omega arith) (omega arith);
@@ -45,7 +48,7 @@ digit_value-digit c low high =
 pub record ReadsDigits (digits : List ℕ) (i time : ℕ) : Type 0 where
   pub each : AllDigits 10 (take i digits)
   pub value : time ≡ digits_value 10 (take i digits)
-  pub below : time < 1_000_000_000_000
+  pub below : time < TIME_LIMIT
 
 pub ReadsDigits-more : (digits : List ℕ) (i time : ℕ) → length digits ≤ 12 → i < length digits → ReadsDigits digits i time → 48 ≤ get_or digits i 0 → get_or digits i 0 ≤ 57 → ReadsDigits digits (i + 1) (time * 10 + (get_or digits i 0 - 48))
 ReadsDigits-more digits i time short h so_far low high =
@@ -56,7 +59,7 @@ ReadsDigits-more digits i time short h so_far low high =
     let below : digits_value 10 (take (i + 1) digits) < 10 ^ 12 = digits_value_short own (take (i + 1) digits) 12 each short' in
     record { each = each; value = value; below = omega arith }
 
-pub ReadsDigits-all : (digits : List ℕ) (i time : ℕ) → 0 < length digits → length digits ≤ 12 → (get_or digits 0 0 ≡ 48 → length digits ≡ 1) → length digits ≤ i → ReadsDigits digits i time → (time < 1_000_000_000_000) × (digits ≡ decimal time)
+pub ReadsDigits-all : (digits : List ℕ) (i time : ℕ) → 0 < length digits → length digits ≤ 12 → (get_or digits 0 0 ≡ 48 → length digits ≡ 1) → length digits ≤ i → ReadsDigits digits i time → (time < TIME_LIMIT) × (digits ≡ decimal time)
 ReadsDigits-all digits i time some most first end read =
     let each : AllDigits 10 digits = rw (take_all i digits end) at read.each in
     let value : time ≡ digits_value 10 digits = rw (take_all i digits end) at read.value in
@@ -66,28 +69,8 @@ ReadsDigits-all digits i time some most first end read =
 pub not_digit : (digits : List ℕ) (i : ℕ) → i < length digits → (48 ≤ get_or digits i 0 → get_or digits i 0 ≤ 57 → ⊥) → IsTimeText digits → ⊥
 not_digit digits i h out text = let at = digit_at digits i text.each h in out at.0 at.1
 
--- the last two bytes of a record, and what stands before them
-pub SpellsRecord-parts : (front : List ℕ) (space byte : ℕ) (r : ℕ × Level) → SpellsRecord ((front ++ space ∷ []) ++ byte ∷ []) r → (front ≡ decimal r.0) × (space ≡ 32) × (byte ≡ letter r.1)
-SpellsRecord-parts front space byte r h =
-    let e : (front ++ space ∷ []) ++ byte ∷ [] ≡ (decimal r.0 ++ 32 ∷ []) ++ letter r.1 ∷ [] = h.1 ∙ sym (append_assoc (decimal r.0) (32 ∷ []) (letter r.1 ∷ [])) in
-    let (fronts, bytes) = same_from_push (front ++ space ∷ []) (decimal r.0 ++ 32 ∷ []) byte (letter r.1) e in
-    let (digits, spaces) = same_from_push front (decimal r.0) space 32 fronts in
-    (digits, spaces, bytes)
-
--- the same where the last byte and the one before were taken off in turn
-pub SpellsRecord-ends : (bytes front digits : List ℕ) (space byte : ℕ) (r : ℕ × Level) → bytes ≡ front ++ byte ∷ [] → front ≡ digits ++ space ∷ [] → SpellsRecord bytes r → SpellsTime digits r.0 × (space ≡ 32) × (byte ≡ letter r.1)
-SpellsRecord-ends bytes front digits space byte r e d h =
-    let parts = SpellsRecord-parts digits space byte r (h.0, sym (e ∙ ap (λ (l : List ℕ). l ++ byte ∷ []) d) ∙ h.1) in
+-- the last two bytes of a record, taken off in turn, and what stands before them
+pub SpellsRecord-ends : (bytes front digits : List ℕ) (gap byte : ℕ) (r : ℕ × Level) → bytes ≡ front ++ byte ∷ [] → front ≡ digits ++ gap ∷ [] → SpellsRecord bytes r → SpellsTime digits r.0 × (gap ≡ space) × (byte ≡ letter r.1)
+SpellsRecord-ends bytes front digits gap byte r e d h =
+    let parts = SpellsRecord-parts digits gap byte r (h.0, sym (e ∙ ap (λ (l : List ℕ). l ++ byte ∷ []) d) ∙ h.1) in
     ((h.0, parts.0), parts.1, parts.2)
-
--- each level has its own letter
-pub letter-injective : (a b : Level) → letter a ≡ letter b → a ≡ b
-letter-injective High High e = refl
-letter-injective Low Low e = refl
-letter-injective Unknown Unknown e = refl
-letter-injective High Low e = absurd (omega arith)
-letter-injective High Unknown e = absurd (omega arith)
-letter-injective Low High e = absurd (omega arith)
-letter-injective Low Unknown e = absurd (omega arith)
-letter-injective Unknown High e = absurd (omega arith)
-letter-injective Unknown Low e = absurd (omega arith)

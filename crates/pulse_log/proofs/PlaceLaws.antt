@@ -9,7 +9,7 @@ use Rattle.std.proofs.lemmas.List.Recursion.{or_at, or_from_places}
 use Rattle.definitions.specs.declared.level.Level.{Level}
 use Rattle.definitions.specs.declared.level.Level.TheVariants.{High, Low, Unknown}
 use Rattle.definitions.specs.heard.Logs.{Records, last_level, level_at, count_level, low_count}
-use Rattle.pulse_log.specs.Rising.{IsRising}
+use Rattle.formats.specs.LogOrder.{IsRising}
 use Rattle.pulse_log.specs.Place.{StandsAfter, level_after}
 
 -- what a test keeps that passes just the first n elements
