@@ -11,7 +11,7 @@ use Rattle.definitions.specs.time.Spelling.{day_text}
 year_step : (d : Day) → d.year ≤ (next_day d).year
 year_step d = grind (arith, nat_tests)
 
-years_rise : (n k : ℕ) → (day_at n).year ≤ (day_at (n + k)).year
+pub years_rise : (n k : ℕ) → (day_at n).year ≤ (day_at (n + k)).year
 unfolding day_at
 years_rise n zero = rw add-zero (omega arith)
 years_rise n (suc k) = rw add-suc (omega (arith, years_rise n k, year_step (day_at (n + k))))

@@ -1,5 +1,5 @@
 -- A window has an answer: what is admitted can be decided, and of numbers that can be decided two are least.
-use Rattle.std.proofs.Common.{◌≡◌, ◌≢◌, ℕ, zero, suc, ◌+◌, ◌*◌, ◌^◌, ◌<◌, ◌≤◌, ◌⊎◌, inl, inr, Bool, true, false, Option, Some, None, refl, sym, ap, ◌∙◌, subst, arith}
+use Rattle.std.proofs.Common.{◌≡◌, ◌≢◌, ℕ, zero, suc, ◌+◌, ◌*◌, ◌^◌, ◌<◌, ◌≤◌, max, ◌⊎◌, inl, inr, Bool, true, false, Option, Some, None, refl, sym, ap, ◌∙◌, subst, arith}
 use Rattle.std.proofs.lemmas.Bool.{cases_order, cases_eq}
 use Rattle.signal_base.specs.declared.station.Station.{Station}
 use Rattle.signal_base.specs.declared.station.Station.TheVariants.{Dcf77, Msf, Wwvb, Jjy}
@@ -12,18 +12,18 @@ use Rattle.definitions.specs.codes.Allowed.{encoded_year, has_station, CanBeEnco
 use Rattle.definitions.specs.sequences.Keys.{key_of}
 use Rattle.definitions.specs.sequences.Walks.{place_at, set_at, unannounced, IsWalkable, ShowsLeap, IsLegal, IsSequence}
 use Rattle.definitions.specs.heard.Costs.{Costs, sequence_cost}
-use Rattle.definitions.specs.answers.Answers.{IsAdmitted, IsWindowAnswer}
+use Rattle.definitions.specs.answers.Answers.{IsAdmitted, IsAnswer, IsWindowAnswer}
 use Rattle.definitions.specs.answers.FirstTwo.{AreLeastTwo, IsKey, answer_from}
-use Rattle.definitions.specs.sequences.Keys.{sequence_of}
-use Rattle.definitions.proofs.KeyLaws.{sequence_of-key_of, index_bound}
+use Rattle.definitions.specs.sequences.Keys.{index_of, index_end, sequence_at, sequence_of}
+use Rattle.definitions.proofs.KeyLaws.{sequence_of-key_of, sequence_at-index_of, index_bound}
 use Rattle.definitions.proofs.EndLaws.{answer_is}
 use Rattle.definitions.proofs.AnswerLaws.{walkable_sequence}
 
 -- it holds or it doesn't
-abbrev Decided : Type 0 → Type 0
+abbrev pub Decided : Type 0 → Type 0
 Decided A = A ⊎ (¬ A)
 
-decide_le : (m n : ℕ) → Decided (m ≤ n)
+pub decide_le : (m n : ℕ) → Decided (m ≤ n)
 decide_le m n = elim (cases_order m n) [
   | inl e ↦ inl (omega arith)
   | inr apart ↦ elim apart [ inl lt ↦ inl (omega arith) | inr gt ↦ inr (λ le. omega (arith, gt, le)) ]
@@ -32,11 +32,11 @@ decide_le m n = elim (cases_order m n) [
 decide_eq : (m n : ℕ) → Decided (m ≡ n)
 decide_eq m n = cases_eq m n
 
-decide_true : (b : Bool) → Decided (b ≡ true)
+pub decide_true : (b : Bool) → Decided (b ≡ true)
 decide_true true = inl refl
 decide_true false = inr (λ e. cc)
 
-decide_both : {A B : Type 0} → Decided A → Decided B → Decided (A × B)
+pub decide_both : {A B : Type 0} → Decided A → Decided B → Decided (A × B)
 decide_both (inl a) (inl b) = inl (a, b)
 decide_both (inl a) (inr n) = inr (λ p. n p.1)
 decide_both (inr n) b = inr (λ p. n p.0)
@@ -70,7 +70,7 @@ decide_each P each (suc n) = more (decide_each P each n) (each n)
     more (inl all) (inr not) = inr (λ f. not (f n (omega arith)))
     more (inr not) here = inr (λ f. not (λ k lt. f k (omega arith)))
 
-decide_some : (P : ℕ → Type 0) → ((k : ℕ) → Decided (P k)) → (n : ℕ) → Decided ((k : ℕ) × (k < n) × P k)
+pub decide_some : (P : ℕ → Type 0) → ((k : ℕ) → Decided (P k)) → (n : ℕ) → Decided ((k : ℕ) × (k < n) × P k)
 decide_some P each zero = inr (λ s. omega (arith, s.1))
 decide_some P each (suc n) = more (decide_some P each n) (each n)
   where
@@ -169,7 +169,7 @@ decide_sent stations t =
     (decide_station (λ s. has_station stations s ≡ true → encoded_year s t ≤ 2099) (λ s. decide_if (decide_true (has_station stations s)) (decide_le (encoded_year s t) 2099)))
 
 module _ (window : Window) (q : Sequence) where
-  decide_walkable : Decided (IsWalkable window q)
+  pub decide_walkable : Decided (IsWalkable window q)
   decide_walkable =
       put (decide_both (decide_le window.from q.first) (decide_both (decide_le (suc q.first) window.to)
       (decide_both (decide_le (suc q.second) (minute_length q.announced q.first))
@@ -194,28 +194,20 @@ module _ (window : Window) (q : Sequence) where
       put (inl h) = inl (h.0, h.1.0, h.1.2.0, h.1.1, h.1.2.1)
       put (inr not) = inr (λ h. not (h.0, (h.1, h.3, (h.2, h.4))))
 
-decide_legal : (window : Window) (q : Sequence) → Decided (IsLegal window q)
+pub decide_legal : (window : Window) (q : Sequence) → Decided (IsLegal window q)
 decide_legal window q =
     decide_both (decide_walkable window q)
     (decide_if (decide_true q.announced)
     (decide_either (decide_eq q.second 60) (decide_either (decide_not (decide_walkable window (unannounced q))) (decide_shows window q))))
 
-module _ (window : Window) (costs : Costs) (ceiling : ℕ) (end : window.to ≤ century_minutes) where
-  abbrev cost : Sequence → ℕ
-  cost q = sequence_cost costs window q
-
-  abbrev admitted : Sequence → Type 0
-  admitted q = IsAdmitted (IsLegal window) cost ceiling q
-
+-- Over sequences that can be decided and cost no more than a bound there is an answer.
+module _ (admitted : Sequence → Type 0) (cost : Sequence → ℕ) (is_sequence : (q : Sequence) → admitted q → IsSequence q) (decide : (q : Sequence) → Decided (admitted q)) (most : ℕ) (within : (q : Sequence) → admitted q → cost q ≤ most) where
   abbrev is_key : ℕ → Type 0
   is_key n = IsKey admitted cost n
 
-  is_sequence : (q : Sequence) → admitted q → IsSequence q
-  is_sequence q a = walkable_sequence window q end a.0.0
-
   -- a key is that of the sequence which it names
   decide_key : (n : ℕ) → Decided (is_key n)
-  decide_key n = put (decide_both (decide_both (decide_legal window (sequence_of n)) (decide_le (cost (sequence_of n)) ceiling)) (decide_eq (key_of (cost (sequence_of n)) (sequence_of n)) n))
+  decide_key n = put (decide_both (decide (sequence_of n)) (decide_eq (key_of (cost (sequence_of n)) (sequence_of n)) n))
     where
       named : (h : is_key n) → h.0 ≡ sequence_of n
       named h = sym (sequence_of-key_of (cost h.0) h.0 (is_sequence h.0 h.1)) ∙ ap sequence_of h.2
@@ -224,11 +216,38 @@ module _ (window : Window) (costs : Costs) (ceiling : ℕ) (end : window.to ≤ 
       put (inl h) = inl (sequence_of n, h.0, h.1)
       put (inr not) = inr (λ h. not (subst (λ q. admitted q × (key_of (cost q) q ≡ n)) (named h) (h.1, h.2)))
 
-  bound : (n : ℕ) → is_key n → n < (ceiling + 1) * 2 ^ 33
-  bound n h = omega (arith, h.1.1, h.2, index_bound h.0 (is_sequence h.0 h.1))
+  bound : (n : ℕ) → is_key n → n < (most + 1) * 2 ^ 33
+  bound n h = omega (arith, within h.0 h.1, h.2, index_bound h.0 (is_sequence h.0 h.1))
 
-  -- there is an answer
-  pub an_answer : (a : Answer) × IsWindowAnswer window costs ceiling a
-  an_answer =
-      let l = least_below is_key decide_key ((ceiling + 1) * 2 ^ 33) in
-      (answer_from l.0 l.1, answer_is admitted cost is_sequence l.0 l.1 (all_below is_key ((ceiling + 1) * 2 ^ 33) bound l.0 l.1 l.2))
+  pub answer_exists : (a : Answer) × IsAnswer admitted cost a
+  answer_exists =
+      let l = least_below is_key decide_key ((most + 1) * 2 ^ 33) in
+      (answer_from l.0 l.1, answer_is admitted cost is_sequence l.0 l.1 (all_below is_key ((most + 1) * 2 ^ 33) bound l.0 l.1 l.2))
+
+-- there is an answer for a window
+pub an_answer : (window : Window) (costs : Costs) (ceiling : ℕ) → window.to ≤ century_minutes → (a : Answer) × IsWindowAnswer window costs ceiling a
+an_answer window costs ceiling end =
+    answer_exists (IsAdmitted (IsLegal window) (sequence_cost costs window) ceiling) (sequence_cost costs window)
+    (λ q a. walkable_sequence window q end a.0.0)
+    (λ q. decide_both (decide_legal window q) (decide_le (sequence_cost costs window q) ceiling)) ceiling (λ q a. a.1)
+
+-- the greatest of the first n numbers
+greatest : (ℕ → ℕ) → ℕ → ℕ
+greatest f zero = 0
+greatest f (suc n) = max (greatest f n) (f n)
+
+greatest-above : (f : ℕ → ℕ) (n k : ℕ) → k < n → f k ≤ greatest f n
+unfolding greatest
+greatest-above f zero k lt = absurd (omega arith)
+greatest-above f (suc n) k lt = elim (last k n lt) [
+  | inl same ↦ omega (arith, ap f same)
+  | inr below ↦ omega (arith, greatest-above f n k below)
+]
+
+-- whatever it costs, what can be decided has an answer
+pub decided_has_answer : (admitted : Sequence → Type 0) (cost : Sequence → ℕ) → ((q : Sequence) → admitted q → IsSequence q)
+    → ((q : Sequence) → Decided (admitted q)) → (a : Answer) × IsAnswer admitted cost a
+decided_has_answer admitted cost is_sequence decide =
+    answer_exists admitted cost is_sequence decide (greatest (λ n. cost (sequence_at n)) index_end)
+    (λ q a. let e : cost (sequence_at (index_of q)) ≡ cost q = ap cost (sequence_at-index_of q (is_sequence q a)) in
+      omega (arith, e, greatest-above (λ n. cost (sequence_at n)) index_end (index_of q) (index_bound q (is_sequence q a))))

@@ -1,1 +1,4 @@
+pub mod WordLaws
+pub mod LogFileLaws
 pub mod DayLaws
+pub mod DueLaws

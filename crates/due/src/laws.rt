@@ -1,13 +1,32 @@
-//! What follows from the definitions of what is due: words ask for one thing, and one answer is due.
+//! What follows from the rules of what is due: for all words and contents there is one text and one status.
 
-ghost use Rattle.std.specs.Prelude.{ℕ, ◌≡◌, ◌<◌, List};
+ghost use Rattle.std.specs.Prelude.{ℕ, ◌≡◌, ◌≢◌, ◌<◌, List};
 ghost use Rattle.definitions.specs.declared.answer.Answer.{Answer};
+ghost use Rattle.definitions.specs.declared.answer.Answer.TheVariants.{Nothing};
 ghost use Rattle.definitions.specs.time.Calendar.{century_days};
 ghost use Rattle.definitions.specs.heard.Logs.{Records};
+ghost use Rattle.due.specs.declared.due.Due.{Due};
 ghost use Rattle.due.specs.Days.{IsDayAnswer};
+ghost use Rattle.due.specs.Rules.{IsDue};
 ghost use Rattle.due.specs.Words.{IsDecode};
 
-/// There is at most one answer for a day and a log.
+/// For all words and contents of files there is something due.
+pub fn something_is_due()
+    ensures { (words : List (List ℕ)) (contents : List ℕ → List ℕ) → (due : Due) × IsDue words contents due }
+{}
+
+/// And there is only one thing due, so one text and one status.
+pub fn due_is_one()
+    ensures { (words : List (List ℕ)) (contents : List ℕ → List ℕ) (a b : Due)
+        → IsDue words contents a → IsDue words contents b → a ≡ b }
+{}
+
+/// A day has an answer for each log, and it isn't that nothing is admitted.
+pub fn day_is_answered()
+    ensures { (day : ℕ) (log : Records) → day < century_days → (a : Answer) × IsDayAnswer day log a × (a ≢ Nothing) }
+{}
+
+/// And it has only one.
 pub fn answer_is_one()
     ensures { (day : ℕ) (log : Records) (a b : Answer) → day < century_days
         → IsDayAnswer day log a → IsDayAnswer day log b → a ≡ b }

@@ -9,5 +9,5 @@ mod status;
 
 pub use due::Due;
 pub use duts::{Duts, MOST_STATIONS};
-pub use laws::{answer_is_one, words_are_one};
+pub use laws::{answer_is_one, day_is_answered, due_is_one, something_is_due, words_are_one};
 pub use status::Status;

@@ -61,7 +61,7 @@ record_not_skipped line r h (inr s) =
     omega (arith, digit.0, first)
 
 -- bytes are a time's, or a level's, or they aren't
-decide_bytes : (xs ys : List ℕ) → Decided (xs ≡ ys)
+pub decide_bytes : (xs ys : List ℕ) → Decided (xs ≡ ys)
 decide_bytes xs ys = go (bytes_eq xs ys) refl
   where
     go : (t : Bool) → bytes_eq xs ys ≡ t → Decided (xs ≡ ys)

@@ -1,5 +1,5 @@
--- Words say one thing.
-use Rattle.due.proofs.DayLaws.{words_are_one}
+-- The law, from its lemma.
+use Rattle.due.proofs.WordLaws.{words_are_one}
 use Rattle.due.proofs.laws.words_are_one.Goals as goal
 
 pub returns : goal.returns
