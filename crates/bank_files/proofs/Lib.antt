@@ -1,4 +1,4 @@
 pub mod Telling
-pub mod Lasting
+pub mod Chaining
 mod Pieces
 mod Storing

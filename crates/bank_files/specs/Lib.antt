@@ -1,5 +1,5 @@
 pub mod Told
 pub mod Fault
-pub mod Files
+pub mod Seen
 pub mod Stored
 pub mod Memory

@@ -4,6 +4,7 @@ use Rattle.std.specs.Str.{bytes_eq}
 use Rattle.bank_files.specs.declared.memory.MemoryFiles.{MemoryFiles}
 use Rattle.bank_files.specs.Told.{Told, Missing, Holds, output_name}
 use Rattle.bank_files.specs.Fault.{greatest, raised}
+use Rattle.bank_files.specs.Seen.{Seen}
 use Rattle.bank_files.specs.Stored.{bytes_of}
 
 -- what a file holds
@@ -19,10 +20,6 @@ told_of (Some bytes) = Holds bytes
 abbrev pub told_by : MemoryFiles → List ℕ → Told
 told_by memory name = told_of (contents_of memory name)
 
--- standard output is told as a file that is there
-pub output_told : (memory : MemoryFiles) → told_by memory output_name ≢ Missing
-output_told memory = λ h. cc
-
 -- the numbers of the calls that are to fail
 abbrev pub failing_calls : MemoryFiles → List ℕ
 failing_calls memory = memory.failing.items
@@ -34,6 +31,14 @@ calls_made memory = memory.calls
 -- how many calls have failed
 abbrev pub faults_of : MemoryFiles → ℕ
 faults_of memory = memory.faults
+
+-- what is told, and the one count of faults, which serves for every name
+abbrev pub seen_by : MemoryFiles → Seen
+seen_by memory = record { told = told_by memory; read_faults = λ _. faults_of memory; write_faults = λ _. faults_of memory }
+
+-- standard output is told as a file that is there
+pub output_told : (memory : MemoryFiles) → (seen_by memory).told output_name ≢ Missing
+output_told memory = λ h. cc
 
 -- how many calls were given up for want of memory
 abbrev pub starved_of : MemoryFiles → ℕ
@@ -67,8 +72,8 @@ pub record CountsCall (old new : MemoryFiles) (failed : Bool) : Type 0 where
 abbrev pub StarvesOnce : MemoryFiles → MemoryFiles → Type 0
 StarvesOnce old new = (starved_of new ≡ starved_of old) ⊎ ((starved_of new ≡ raised (starved_of old)) × (IsListed old → ⊥))
 
--- the counts are as before
-pub record SameCounts (old new : MemoryFiles) : Type 0 where
+-- what is counted is as before
+pub record SameTally (old new : MemoryFiles) : Type 0 where
   pub calls : calls_made new ≡ calls_made old
   pub faults : faults_of new ≡ faults_of old
   pub starved : starved_of new ≡ starved_of old

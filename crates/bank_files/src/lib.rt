@@ -4,8 +4,10 @@
 mod files;
 mod memory;
 mod store;
+mod text;
 mod whole;
 
 pub use files::{Failed, Files, OUTPUT};
 pub use memory::MemoryFiles;
+pub use text::{TEXT_ROOM, Text, push_number, write_text};
 pub use whole::{GREATEST_LIMIT, ReadWhole, read_whole, write_all};

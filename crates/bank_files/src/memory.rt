@@ -1,4 +1,10 @@
-//! Files in memory, which tell all that they hold, and whose calls can be made to fail.
+//! Files in memory, for tests: they are given their contents, told which calls are to fail, handed to the
+//! code under test, and looked at afterwards. So a test can fail the first call, then the second, and so on,
+//! and see what each fault leaves behind.
+//!
+//! A call fails where its number is on the list, where it reads a file that isn't there, or where it finds no
+//! memory for what is written. The last is counted besides as `starved`, so that a test can tell that the
+//! machine was short of memory from a fault that it asked for.
 ghost use Rattle.std.specs.Prelude.{◌≡◌, ◌∷◌, ◌++◌, ◌↔◌, ◌⊎◌, ◌≤◌, [], IfOk, OnOk, OnErr, IsTrue, unwrap_or};
 ghost use Rattle.std.specs.Option.{option_copied};
 ghost use Rattle.bank_files.specs.Fault.{greatest, raised};
@@ -24,7 +30,7 @@ pub struct MemoryFiles {
 }
 
 impl MemoryFiles {
-    ghost use Rattle.bank_files.specs.Memory.{contents_of, failing_calls, faults_of, starved_of, next_call, IsListed, SameCounts, IsFresh};
+    ghost use Rattle.bank_files.specs.Memory.{contents_of, failing_calls, faults_of, starved_of, next_call, IsListed, SameTally, IsFresh};
 
     /// An empty standard output and no other file. No call is to fail.
     pub fn make(alloc: Global) -> Result<MemoryFiles, NoMemory>
@@ -46,7 +52,7 @@ impl MemoryFiles {
         ensures ok { OnOk result (Sets (contents_of self.old) (contents_of self.new) name.now bytes.now) }
         ensures err { OnErr result (SameFiles (contents_of self.old) (contents_of self.new)) }
         ensures failing { failing_calls self.new ≡ failing_calls self.old }
-        ensures counts { SameCounts self.old self.new }
+        ensures counts { SameTally self.old self.new }
     {
         let copy = bytes.to_vec(self.alloc).map_err(|_| NoMemory)?;
         self.set(name, copy).map_err(|_| NoMemory)
@@ -58,7 +64,7 @@ impl MemoryFiles {
         ensures ok { OnOk result (failing_calls self.new ≡ failing_calls self.old ++ call ∷ []) }
         ensures err { OnErr result (failing_calls self.new ≡ failing_calls self.old) }
         ensures files { SameFiles (contents_of self.old) (contents_of self.new) }
-        ensures counts { SameCounts self.old self.new }
+        ensures counts { SameTally self.old self.new }
     {
         self.failing.push(call).map_err(|_| NoMemory)
     }
@@ -85,7 +91,7 @@ impl MemoryFiles {
         ensures ok { OnOk result (Sets (contents_of self.old) (contents_of self.new) name.now bytes.items) }
         ensures err { OnErr result (SameFiles (contents_of self.old) (contents_of self.new)) }
         ensures failing { failing_calls self.new ≡ failing_calls self.old }
-        ensures counts { SameCounts self.old self.new }
+        ensures counts { SameTally self.old self.new }
     {
         if name == OUTPUT {
             self.output = bytes;
@@ -100,7 +106,7 @@ impl MemoryFiles {
             (unwrap_or (contents_of self.old name.now) [] ++ bytes.now)) }
         ensures err { OnErr result (SameFiles (contents_of self.old) (contents_of self.new)) }
         ensures failing { failing_calls self.new ≡ failing_calls self.old }
-        ensures counts { SameCounts self.old self.new }
+        ensures counts { SameTally self.old self.new }
     {
         if name == OUTPUT {
             return self.output.extend_from_slice(bytes);
@@ -143,13 +149,9 @@ impl Files for MemoryFiles {
     ghost use Rattle.std.specs.Prelude.{◌≡◌, ◌≢◌, ◌⊎◌, ◌↔◌, ◌++◌, [], None, IfOk, IfSome, OnOk, OnErr, IsErr, is_err, length, unwrap_or};
     ghost use Rattle.bank_files.specs.Told.{output_name};
     ghost use Rattle.bank_files.specs.Stored.{Sets, SameFiles};
-    ghost use Rattle.bank_files.specs.Memory.{contents_of, told_by, starved_of, faults_of, IsGivenUp, Copies, CountsCall, StarvesOnce, output_told};
+    ghost use Rattle.bank_files.specs.Memory.{contents_of, seen_by, starved_of, IsGivenUp, Copies, CountsCall, StarvesOnce, output_told};
 
-    ghost told = { told_by };
-
-    ghost read_faults = { λ memory _. faults_of memory };
-
-    ghost write_faults = { λ memory _. faults_of memory };
+    ghost view = { seen_by };
 
     ghost output_is_there = { output_told };
 

@@ -1,8 +1,7 @@
 //! Whole files: all the bytes of one, and a text appended to its end.
-ghost use Rattle.std.specs.Prelude.{◌≡◌, ◌≢◌, ◌<◌, ◌≤◌, [], length, vec_len, IfOk, IsErrOf, OnOk, OnErr};
-ghost use Rattle.bank_files.specs.Told.{output_name, appended, Tells, Finds, AppendsFront};
-ghost use Rattle.bank_files.specs.Fault.{HasFault};
-ghost use Rattle.bank_files.specs.Files.{KeepsCounts, KeepsAll, KeepsOthers};
+ghost use Rattle.std.specs.Prelude.{◌≡◌, ◌≢◌, ◌<◌, ◌≤◌, [], length, vec_len, IfOk, IsErrOf, OnOk};
+ghost use Rattle.bank_files.specs.Told.{output_name, Finds};
+ghost use Rattle.bank_files.specs.Seen.{SameCounts, ReadFails, OnlyReads, Writes};
 ghost use Rattle.bank_files.specs.declared.whole.TheConstants.{GREATEST_LIMIT};
 
 use crate::{Failed, Files};
@@ -66,15 +65,15 @@ fn read_into<F: Files>(
     requires limit { limit ≤ GREATEST_LIMIT }
     requires room { 0 < length piece.old }
     requires begun { bytes.old.items ≡ [] }
-    ensures whole { OnOk result (Finds (F.told files.old name.now)
+    ensures whole { OnOk result (Finds ((F.view files.old).told name.now)
         (λ file. (bytes.new.items ≡ file) × (length file ≤ limit))) }
     ensures within { OnOk result (vec_len bytes.new ≤ limit) }
     ensures failed { IsErrOf result ReadWhole.Failed
-        → HasFault (F.read_faults files.old name.now) (F.read_faults files.new name.now) }
+        → ReadFails name.now (F.view files.old) (F.view files.new) }
     ensures too_large { IsErrOf result ReadWhole.TooLarge
-        → Finds (F.told files.old name.now) (λ file. limit < length file) }
-    ensures counts { KeepsCounts F.read_faults F.write_faults files.old files.new }
-    ensures files { KeepsAll F.told files.old files.new }
+        → Finds ((F.view files.old).told name.now) (λ file. limit < length file) }
+    ensures same_counts { result ≢ Err ReadWhole.Failed → SameCounts (F.view files.old) (F.view files.new) }
+    ensures only { OnlyReads (F.view files.old) (F.view files.new) }
 {
     loop {
         let have = bytes.len() as u64;
@@ -99,18 +98,16 @@ pub fn read_whole<F: Files>(
     requires name { name.now ≢ output_name }
     requires limit { limit ≤ GREATEST_LIMIT }
     // What is read is the file, and it is within the limit.
-    ensures whole { IfOk result (λ bytes. Finds (F.told files.old name.now)
+    ensures whole { IfOk result (λ bytes. Finds ((F.view files.old).told name.now)
         (λ file. (bytes.items ≡ file) × (length file ≤ limit))) }
     ensures within { IfOk result (λ bytes. vec_len bytes ≤ limit) }
 
     ensures failed { IsErrOf result ReadWhole.Failed
-        → HasFault (F.read_faults files.old name.now) (F.read_faults files.new name.now) }
+        → ReadFails name.now (F.view files.old) (F.view files.new) }
     ensures too_large { IsErrOf result ReadWhole.TooLarge
-        → Finds (F.told files.old name.now) (λ file. limit < length file) }
-
-    // Reading changes no file.
-    ensures counts { KeepsCounts F.read_faults F.write_faults files.old files.new }
-    ensures files { KeepsAll F.told files.old files.new }
+        → Finds ((F.view files.old).told name.now) (λ file. limit < length file) }
+    ensures same_counts { result ≢ Err ReadWhole.Failed → SameCounts (F.view files.old) (F.view files.new) }
+    ensures only { OnlyReads (F.view files.old) (F.view files.new) }
 {
     let mut piece = room_for(alloc, PIECE)?;
     let mut bytes = Vec::new(alloc);
@@ -121,14 +118,7 @@ pub fn read_whole<F: Files>(
 /// Appends all the bytes to a file, which is made where it was missing, also where there are no bytes. After
 /// `Failed` nothing was appended, or a front of the bytes. It takes no memory.
 pub fn write_all<F: Files>(files: &mut F, name: &str, bytes: &[u8]) -> Result<(), Failed>
-    ensures whole { OnOk result
-        (Tells (appended (F.told files.old name.now) bytes.now) (F.told files.new name.now)) }
-    ensures front { OnErr result
-        (AppendsFront (F.told files.old name.now) bytes.now (F.told files.new name.now)) }
-    ensures cause { OnErr result
-        (HasFault (F.write_faults files.old name.now) (F.write_faults files.new name.now)) }
-    ensures counts { KeepsCounts F.read_faults F.write_faults files.old files.new }
-    ensures others { KeepsOthers F.told name.now files.old files.new }
+    ensures { Writes name.now (F.view files.old) (F.view files.new) bytes.now result }
 {
     let mut done = files.append(name, bytes)?;
     while done < bytes.len() {

@@ -1,18 +1,19 @@
 use Rattle.std.proofs.Common.{List, ℕ, ◌≡◌, ◌+◌, ◌-◌, ◌≤◌, vec_len}
 use Rattle.bank_files.specs.Told.{Holds}
-use Rattle.bank_files.specs.Files.{KeepsCounts, KeepsAll}
+use Rattle.bank_files.specs.Seen.{SameCounts, OnlyReads}
 use Rattle.bank_files.proofs.Pieces.{IsFront}
 use Rattle.bank_files.proofs.whole.read_into.Given as goal
 
--- the bytes so far are the file's front, if its bytes are told, and nothing else happened
+-- the bytes so far are the file's front, if its bytes are told, and no call failed
 abbrev pub invariant-loop-n : goal.invariant-loop-n
 invariant-loop-n g l =
-    let files = g.F.Files in
+    let before = g.F.Files.view l.fn.files in
+    let now = g.F.Files.view l.files in
     record {
       within : vec_len l.bytes ≤ l.limit;
-      front : (file : List ℕ) → files.told l.fn.files l.name ≡ Holds file → IsFront l.bytes.items file;
-      counts : KeepsCounts files.read_faults files.write_faults l.fn.files l.files;
-      files : KeepsAll files.told l.fn.files l.files;
+      front : (file : List ℕ) → before.told l.name ≡ Holds file → IsFront l.bytes.items file;
+      same_counts : SameCounts before now;
+      only : OnlyReads before now;
     }
 
 -- how many bytes may still come
