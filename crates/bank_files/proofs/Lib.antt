@@ -1,4 +1,3 @@
 pub mod Telling
 pub mod Chaining
 mod Pieces
-mod Storing

@@ -3,3 +3,4 @@ pub mod Fault
 pub mod Seen
 pub mod Stored
 pub mod Memory
+pub mod Sure

@@ -56,11 +56,6 @@ IsListed memory = Contains (failing_calls memory) (next_call memory)
 abbrev pub IsGivenUp : MemoryFiles → MemoryFiles → Type 0
 IsGivenUp old new = IsListed old ⊎ ((starved_of old < starved_of new) ⊎ (starved_of new ≡ greatest))
 
--- as many bytes of the file from place `at` as there are or fit went into the front of the buffer
-pub record Copies (file : List ℕ) (at n : ℕ) (old new : List ℕ) : Type 0 where
-  pub count : n ≡ min (length old) (length file - at)
-  pub buffer : new ≡ take n (drop at file) ++ drop n old
-
 -- what a call that failed or not does to the list and to the counts, but for that of the calls without memory
 pub record CountsCall (old new : MemoryFiles) (failed : Bool) : Type 0 where
   pub failing : failing_calls new ≡ failing_calls old

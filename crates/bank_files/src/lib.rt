@@ -3,11 +3,15 @@
 
 mod files;
 mod memory;
+mod one_byte;
 mod store;
+mod sure;
 mod text;
 mod whole;
 
 pub use files::{Failed, Files, OUTPUT};
 pub use memory::MemoryFiles;
+pub use one_byte::OneByte;
+pub use sure::SureFiles;
 pub use text::{TEXT_ROOM, Text, push_number, write_text};
 pub use whole::{GREATEST_LIMIT, ReadWhole, read_whole, write_all};

@@ -148,8 +148,8 @@ impl MemoryFiles {
 impl Files for MemoryFiles {
     ghost use Rattle.std.specs.Prelude.{◌≡◌, ◌≢◌, ◌⊎◌, ◌↔◌, ◌++◌, [], None, IfOk, IfSome, OnOk, OnErr, IsErr, is_err, length, unwrap_or};
     ghost use Rattle.bank_files.specs.Told.{output_name};
-    ghost use Rattle.bank_files.specs.Stored.{Sets, SameFiles};
-    ghost use Rattle.bank_files.specs.Memory.{contents_of, seen_by, starved_of, IsGivenUp, Copies, CountsCall, StarvesOnce, output_told};
+    ghost use Rattle.bank_files.specs.Stored.{Copies, Sets, SameFiles};
+    ghost use Rattle.bank_files.specs.Memory.{contents_of, seen_by, starved_of, IsGivenUp, CountsCall, StarvesOnce, output_told};
 
     ghost view = { seen_by };
 
@@ -215,11 +215,11 @@ impl Files for MemoryFiles {
 }
 
 #[cfg(test)]
-mod tests {
+pub(crate) mod tests {
     use super::*;
     use std::test::Fail;
 
-    fn holds(files: &MemoryFiles, name: &str, bytes: &[u8]) -> bool {
+    pub(crate) fn holds(files: &MemoryFiles, name: &str, bytes: &[u8]) -> bool {
         files.contents(name).is_some_and(|found| found == bytes)
     }
 

@@ -6,6 +6,7 @@ use std::alloc::{AllocError, Global};
 use std::collections::BTreeMap;
 
 // Gives a file these bytes. Without memory every file is as before.
+#[tactic(auto, using(std::proofs::lemmas::Map::Text::text_keys))]
 pub(crate) fn set_file(
     alloc: Global,
     files: &mut BTreeMap<String, Vec<u8>>,
@@ -22,6 +23,7 @@ pub(crate) fn set_file(
 
 // Adds these bytes to the end of a file, which is made where it was missing. Without memory every file is
 // as before.
+#[tactic(auto, using(std::proofs::lemmas::Map::Text::text_keys))]
 pub(crate) fn add_to_file(
     alloc: Global,
     files: &mut BTreeMap<String, Vec<u8>>,

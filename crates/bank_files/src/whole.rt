@@ -131,11 +131,8 @@ pub fn write_all<F: Files>(files: &mut F, name: &str, bytes: &[u8]) -> Result<()
 mod tests {
     use super::*;
     use crate::MemoryFiles;
+    use crate::memory::tests::holds;
     use std::test::Fail;
-
-    fn holds(files: &MemoryFiles, name: &str, bytes: &[u8]) -> bool {
-        files.contents(name).is_some_and(|found| found == bytes)
-    }
 
     #[test]
     fn reads_up_to_the_limit(rt: HostRuntime) -> Result<(), Fail> {
