@@ -1,20 +1,21 @@
 -- The days of the calendar are jiff's dates, one after another.
-use Rattle.std.proofs.Common.{◌≡◌, ℕ, zero, suc, ◌+◌, ◌-◌, ◌%◌, ◌<◌, ◌≤◌, refl, sym, ap, ◌∙◌, arith, ℤ, pos, add-zero, add-suc, add-one, zero-add, List, [], ◌∷◌, ◌++◌, length, get_or, below_more, ◌+ℤ◌, ◌<ℤ◌, Bool, true, false, nat_lt}
+use Rattle.std.proofs.Common.{◌≡◌, ℕ, zero, suc, ◌+◌, ◌-◌, ◌%◌, ◌<◌, ◌≤◌, refl, sym, ap, ◌∙◌, arith, ℤ, pos, zero-add, List, [], ◌∷◌, ◌++◌, length, get_or, below_more, ◌+ℤ◌, Bool, true, false, nat_lt}
 use Rattle.std.proofs.Math.ListN.{get_or-append}
 use Rattle.std.proofs.lemmas.List.{get_or_push}
 use Rattle.std.proofs.lemmas.Bool.{ltb-true, ltb-false}
 use Rattle.std.proofs.lemmas.Bool.Decides.{nat_tests}
 use Rattle.jiff_core.specs.declared.civil.date.Date.{Date}
 use Rattle.jiff_core.specs.Calendar.{day_count, days_from_civil, days_of_years, days_of_months, days_in_month, weekday_number}
-use Rattle.jiff_core.specs.Date.{epoch_day, ordinal, IsYmd}
+use Rattle.jiff_core.specs.Date.{epoch_day, ordinal}
 use Rattle.jiff_core.proofs.SignedLemmas.{signed_arith}
 use Rattle.jiff_core.proofs.CalendarLemmas.{days_in_month_bounds, days_in_year_bounds, day_of_year_bound, days_of_months-zero, days_of_months_more, weekday_number-add}
-use Rattle.jiff_core.proofs.DateLemmas.{epoch_day_injective, epoch_day-lt-max, days_from_civil-day, days_from_civil-next_month, days_from_civil-next_year}
+use Rattle.jiff_core.proofs.DateLemmas.{epoch_day_injective, days_from_civil-day, days_from_civil-next_month, days_from_civil-next_year}
 use Rattle.definitions.specs.declared.day.Day.{Day}
 use Rattle.civil.specs.declared.days.Entry.{Entry}
 use Rattle.civil.specs.Days.{IsPlausible, AreEntries, entry_at, first_entry}
-use Rattle.civil.specs.Dated.{IsOn}
-use Rattle.definitions.specs.time.Calendar.{day_at, next_day, first_day, month_length, next_weekday}
+use Rattle.civil.specs.Dated.{IsOn, IsNumbered}
+use Rattle.definitions.proofs.DateLaws.{early_year, years_rise}
+use Rattle.definitions.specs.time.Calendar.{century_days, day_at, next_day, first_day, month_length, next_weekday}
 
 -- the date of these numbers
 abbrev date_of : (y m d : ℕ) → y ≤ 9999 → 1 ≤ m → m ≤ 12 → 1 ≤ d → d ≤ month_length y m → Date
@@ -28,7 +29,7 @@ date_of y m d year low high first last =
       day_in = (first, last);
     }
 
-pub first_date : Date
+abbrev first_date : Date
 first_date = date_of 2000 1 1 (omega arith) (omega arith) (omega arith) (omega arith) (omega arith)
 
 -- its day number and its place in the year
@@ -101,21 +102,7 @@ day_after date d on early = by_day (nat_lt d.day (month_length d.year d.month)) 
     by_day true e = rw e (in_month date d on early (ltb-true _ _ e))
     by_day false e = by_month e (nat_lt d.month 12) refl
 
--- a date a day later is the next day
-pub next_on : (date later : Date) (d : Day) → IsOn date d → d.year ≤ 9998 → epoch_day later ≡ epoch_day date +ℤ pos 1 → IsOn later (next_day d)
-next_on date later d on early one =
-    let found = day_after date d on early in
-    let same = epoch_day_injective later found.0 (one ∙ sym found.1) in
-    let there = found.2 in
-    record {
-      year = same.0 ∙ there.year;
-      month = same.1 ∙ there.month;
-      day = same.2 ∙ there.day;
-      weekday = ap (λ z. (weekday_number z + 1) % 7) (one ∙ sym found.1) ∙ there.weekday;
-      place = rw (same.0, same.1, same.2) there.place;
-    }
-
-first_number : days_from_civil (pos 2000) 1 1 ≡ pos 10957
+pub first_number : days_from_civil (pos 2000) 1 1 ≡ pos 10957
 unfolding days_from_civil day_count days_of_years days_of_months
 first_number = refl
 
@@ -131,40 +118,35 @@ first_on date year month day =
       place = rw (year, month, day) refl;
     }
 
--- years don't fall
-year_step : (d : Day) → d.year ≤ (next_day d).year
-year_step d = grind (arith, nat_tests)
-
-years_rise : (n k : ℕ) → (day_at n).year ≤ (day_at (n + k)).year
+-- each day of the table has a date, with this number
+pub has_date : (n : ℕ) → n ≤ century_days → (date : Date) × IsOn date (day_at n) × IsNumbered date n
 unfolding day_at
-years_rise n zero = rw add-zero (omega arith)
-years_rise n (suc k) = rw add-suc (omega (arith, years_rise n k, year_step (day_at (n + k))))
-
--- the table's last day begins the year 2100
-last_year : (day_at 36525).year ≡ 2100
-unfolding day_at
-last_year = refl
-
-pub early_year : (n : ℕ) → n ≤ 36525 → (day_at n).year ≤ 2100
-early_year n h =
-    let there : n + (36525 - n) ≡ 36525 = omega arith in
-    omega (arith, years_rise n (36525 - n), ap (λ m. (day_at m).year) there, last_year)
-
--- each day of the table has a date
-pub has_date : (n : ℕ) → n ≤ 36525 → (date : Date) × IsOn date (day_at n)
-unfolding day_at
-has_date zero h = (date_of 2000 1 1 (omega arith) (omega arith) (omega arith) (omega arith) (omega arith), first_on _ refl refl refl)
+has_date zero h = (first_date, first_on first_date refl refl refl, first_number)
 has_date (suc n) h =
     let before = has_date n (omega arith) in
     let after = day_after before.0 (day_at n) before.1 (omega (arith, early_year n (omega arith))) in
-    (after.0, after.2)
+    (after.0, after.2, omega (arith, signed_arith, after.1, before.2))
+
+-- the date of this number is that day
+pub numbered_on : (date : Date) (n : ℕ) → n ≤ century_days → IsNumbered date n → IsOn date (day_at n)
+numbered_on date n h number =
+    let there = has_date n h in
+    let same = epoch_day_injective date there.0 (number ∙ sym there.2) in
+    let on = there.1 in
+    record {
+      year = same.0 ∙ on.year;
+      month = same.1 ∙ on.month;
+      day = same.2 ∙ on.day;
+      weekday = ap (λ z. (weekday_number z + 1) % 7) (number ∙ sym there.2) ∙ on.weekday;
+      place = rw (same.0, same.1, same.2) on.place;
+    }
 
 zeroth : (day_at 0).year ≡ 2000
 unfolding day_at
 zeroth = refl
 
 -- the fields of the table's days are in their ranges
-pub plausible : (n : ℕ) → n ≤ 36525 → IsPlausible (day_at n)
+pub plausible : (n : ℕ) → n ≤ century_days → IsPlausible (day_at n)
 plausible n h =
     let date = (has_date n h).0 in
     let on : IsOn date (day_at n) = (has_date n h).1 in
@@ -177,11 +159,6 @@ plausible n h =
       weekday = omega (arith, on.weekday);
       day_of_year = (omega (arith, on.place, date.day_in), omega (arith, on.place, place, days_in_year_bounds date.year));
     }
-
--- a date of the table isn't the last
-pub before_last : (date : Date) (d : Day) → IsOn date d → d.year ≤ 9998 → epoch_day date <ℤ pos 2_932_896
-before_last date d on early =
-    epoch_day-lt-max date (λ last. let same : pos d.year ≡ pos 9999 = sym on.year ∙ last.0 in let bad : d.year ≡ 9999 = cc in absurd (omega arith))
 
 -- the entry of these parts
 pub by_parts : (d d' : Day) (a a' b b' : Bool) → d ≡ d' → a ≡ a' → b ≡ b'
@@ -210,16 +187,3 @@ one_day date d e on also =
     let same_place : d.day_of_year ≡ e.day_of_year = cc in
     by_fields d.year d.month d.day d.weekday d.day_of_year e.year e.month e.day e.weekday e.day_of_year
     same_year same_month same_day same_weekday same_place
-
--- jiff's 1 January 2000 is the first day
-pub first_is : (date : Date) → IsYmd (pos 2000) (pos 1) (pos 1) date → IsOn date (day_at 0)
-unfolding day_at
-first_is date is =
-    let month : date.month ≡ 1 = (let e = is.1 in cc) in
-    let day : date.day ≡ 1 = (let e = is.2 in cc) in
-    first_on date is.0 month day
-
--- the same by the day's number
-pub next_is : (date later : Date) (n : ℕ) → IsOn date (day_at n) → (day_at n).year ≤ 9998 → epoch_day later ≡ epoch_day date +ℤ pos 1 → IsOn later (day_at (n + 1))
-unfolding day_at
-next_is date later n on early one = rw add-one (next_on date later (day_at n) on early one)

@@ -7,10 +7,6 @@ use Rattle.definitions.specs.time.Summer.{eu_season}
 use Rattle.civil.specs.declared.days.Entry.{Entry}
 use Rattle.civil.specs.Seasons.{us_season}
 
--- the days from 2000-01-01 to 2100-01-01
-abbrev pub table_days : ℕ
-table_days = 36526
-
 -- the entry of the day that comes n days after the first
 abbrev pub entry_at : ℕ → Entry
 entry_at n = record { day = day_at n; eu_summer = eu_season n; us_summer = us_season n }

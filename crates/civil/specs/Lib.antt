@@ -1,3 +1,4 @@
 pub mod Days
 pub mod Dated
 pub mod Seasons
+pub mod Clock

@@ -1,18 +1,25 @@
 //! The table of days, made with `jiff` day after day.
 
-ghost use Rattle.std.specs.Prelude.{◌≡◌, ◌≤◌, pos, ◌+ℤ◌, IfOk, vec_len};
+ghost use Rattle.std.specs.Prelude.{◌≡◌, pos, ◌+ℤ◌, ◌<ℤ◌, IfOk, vec_len};
 ghost use Rattle.jiff.specs.Words.{epoch_day};
 ghost use Rattle.definitions.specs.declared.day.Day.{Day};
 ghost use Rattle.civil.specs.Dated.{IsOn};
-ghost use Rattle.civil.specs.Days.{AreEntries, table_days};
+ghost use Rattle.civil.specs.Days.{AreEntries};
 
 use crate::summer::{eu_season_after, us_season_after};
-use definitions::Day;
-use jiff::civil::{Date, date};
+use definitions::{CENTURY_DAYS, Day};
+use jiff::civil::Date;
 use std::alloc::{AllocError, AllocFailed, Global};
 
+/// The first day's date.
+pub const FIRST_DATE: jiff_core::civil::Date = jiff_core::civil::Date {
+    year: 2000,
+    month: 1,
+    day: 1,
+};
+
 /// How many days the table has: those from 2000-01-01 to 2100-01-01.
-pub const TABLE_DAYS: u32 = 36_526;
+pub const TABLE_DAYS: u32 = CENTURY_DAYS + 1;
 
 /// A day of the table.
 #[derive(Clone, Copy, Debug, PartialEq, Eq)]
@@ -27,10 +34,10 @@ pub struct Entry {
 
 /// Makes the table.
 pub fn table(alloc: Global) -> Result<Vec<Entry>, AllocError>
-    ensures { IfOk result (λ entries. (vec_len entries ≡ table_days) × AreEntries entries.items table_days) }
+    ensures { IfOk result (λ entries. (vec_len entries ≡ TABLE_DAYS) × AreEntries entries.items TABLE_DAYS) }
 {
     let mut entries = Vec::with_capacity(alloc, TABLE_DAYS as usize)?;
-    let mut today = date(2000, 1, 1);
+    let mut today = Date::from_plain(FIRST_DATE);
     let mut eu_summer = false;
     let mut us_summer = false;
     for _ in 0..TABLE_DAYS {
@@ -63,7 +70,7 @@ fn day_of(today: Date) -> Day
 
 // The date a day later.
 fn day_after(today: Date) -> Date
-    requires { (d : Day) × IsOn today d × (d.year ≤ 9998) }
+    requires { epoch_day today <ℤ pos 2_932_896 }
     ensures { epoch_day result ≡ epoch_day today +ℤ pos 1 }
 {
     match today.tomorrow() {

@@ -2,19 +2,25 @@
 #![tactic(auto)]
 
 ghost use Rattle.std.specs.Prelude.{◌≡◌, ◌/◌, ◌<◌, ◌≤◌, ℕ, IfSome, IfNone, vec_len};
-ghost use Rattle.definitions.specs.time.Calendar.{century_days, century_minutes, day_at, is_leap_end, is_leap_month, utc_fields};
+ghost use Rattle.definitions.specs.time.Calendar.{century_days, century_minutes, day_at, is_leap_end, is_leap_month, minutes_per_day, utc_fields};
 ghost use Rattle.definitions.specs.time.Summer.{eu_change_within, is_eu_summer, us_code};
 ghost use Rattle.definitions.specs.time.Zones.{local_fields, zone_shift};
-ghost use Rattle.civil.specs.Days.{AreEntries, ArePlausible, IsPlausible, entry_at, table_days};
+ghost use Rattle.civil.specs.Days.{AreEntries, ArePlausible, IsPlausible, entry_at};
 ghost use Rattle.civil.specs.Seasons.{IsNextOneOclock};
+ghost use Rattle.civil.specs.declared.days.TheConstants.{TABLE_DAYS};
 
 mod days;
+mod parse;
 mod summer;
+#[cfg(test)]
+mod tests;
 
 use crate::days::{Entry, TABLE_DAYS, table};
+pub use crate::parse::{parse_day, parse_minute};
 use crate::summer::{is_eu_change_day, us_code_on};
 pub use definitions::{Day, Fields, Zone};
-use std::alloc::Global;
+use definitions::{MINUTES_PER_DAY, MINUTES_PER_HOUR};
+use std::alloc::{AllocError, Global};
 
 /// Why the table of days can't be made.
 #[derive(Clone, Copy, Debug, PartialEq, Eq)]
@@ -23,26 +29,28 @@ pub enum CivilFault {
     NoMemory,
 }
 
+impl From<AllocError> for CivilFault {
+    fn from(_error: AllocError) -> CivilFault {
+        CivilFault::NoMemory
+    }
+}
+
 /// The days from 2000-01-01 to 2100-01-01, and whether summer time is on as each begins.
 #[derive(Drop)]
 pub struct Civil {
     entries: Vec<Entry>,
-    ghost whole: { vec_len entries ≡ table_days },
-    ghost each: { AreEntries entries.items table_days },
+    ghost whole: { vec_len entries ≡ TABLE_DAYS },
+    ghost each: { AreEntries entries.items TABLE_DAYS },
 }
 
-const MINUTES_PER_DAY: u32 = 1440;
-
 // The minute of the day at which European summer time begins and ends: 01:00 UTC.
-const ONE_OCLOCK: u32 = 60;
+const ONE_OCLOCK: u32 = MINUTES_PER_HOUR;
 
 impl Civil {
     /// Makes the table of days.
     pub fn make(alloc: Global) -> Result<Civil, CivilFault> {
-        match table(alloc) {
-            Ok(entries) => Ok(Civil { entries }),
-            Err(_) => Err(CivilFault::NoMemory),
-        }
+        let entries = table(alloc)?;
+        Ok(Civil { entries })
     }
 
     /// The UTC fields of a minute, counted from 2000-01-01T00:00Z.
@@ -56,7 +64,7 @@ impl Civil {
 
     // The same, up to the end of the table.
     fn fields(&self, t: u32) -> Fields
-        requires { t / 1440 < table_days }
+        requires { t / minutes_per_day < TABLE_DAYS }
         ensures value { result ≡ utc_fields t }
         ensures ranges { ArePlausible result }
     {
@@ -67,14 +75,14 @@ impl Civil {
             day: day.day,
             weekday: day.weekday,
             day_of_year: day.day_of_year,
-            hour: (t % MINUTES_PER_DAY / 60) as u8,
-            minute: (t % 60) as u8,
+            hour: (t % MINUTES_PER_DAY / MINUTES_PER_HOUR) as u8,
+            minute: (t % MINUTES_PER_HOUR) as u8,
         }
     }
 
     // The day of this number.
     fn day(&self, n: u32) -> Day
-        requires { n < table_days }
+        requires { n < TABLE_DAYS }
         ensures value { result ≡ day_at n }
         ensures ranges { IsPlausible result }
     {
@@ -83,7 +91,7 @@ impl Civil {
 
     // The entry of the table.
     fn entry(&self, n: u32) -> Entry
-        requires { n < table_days }
+        requires { n < TABLE_DAYS }
         ensures { result ≡ entry_at n }
     {
         self.entries[n as usize]
@@ -132,7 +140,7 @@ impl Civil {
     #[tactic(auto, using(crate::proofs::Seasons::change_in_time, crate::proofs::Seasons::change_too_late))]
     pub fn eu_change_within(&self, t: u32, minutes: u32) -> bool
         requires t { t < century_minutes }
-        requires minutes { minutes ≤ 1440 }
+        requires minutes { minutes ≤ minutes_per_day }
         ensures { result ≡ eu_change_within t minutes }
     {
         let hour = next_one_oclock(t);
@@ -167,7 +175,7 @@ impl Civil {
         ensures { result ≡ is_leap_end t }
     {
         let fields = self.utc(t);
-        t % MINUTES_PER_DAY == 1439
+        t % MINUTES_PER_DAY == MINUTES_PER_DAY - 1
             && (fields.month == 6 && fields.day == 30 || fields.month == 12 && fields.day == 31)
     }
 

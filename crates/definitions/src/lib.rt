@@ -6,6 +6,7 @@
 mod answer;
 mod block;
 mod bounds;
+mod calendar;
 mod day;
 mod dcf77;
 pub mod examples;
@@ -25,6 +26,7 @@ pub use block::{Block, Span};
 pub use bounds::{
     bound_is_not_above, bound_is_one, children_share_the_sequences, items_share_the_sequences,
 };
+pub use calendar::{CENTURY_DAYS, CENTURY_MINUTES, MINUTES_PER_DAY, MINUTES_PER_HOUR};
 pub use day::Day;
 pub use dcf77::DcfFacts;
 pub use fields::Fields;

@@ -1,5 +1,6 @@
 -- The calendar: days one after another from Saturday 2000-01-01, by month lengths and the Gregorian leap rule.
 use Rattle.std.specs.Prelude.{ℕ, zero, suc, ◌+◌, ◌/◌, ◌%◌, Bool, ◌==◌, ◌&&◌, ◌||◌, not, nat_lt, if◌then◌else◌}
+use Rattle.definitions.specs.declared.calendar.TheConstants.{MINUTES_PER_HOUR, MINUTES_PER_DAY, CENTURY_DAYS, CENTURY_MINUTES}
 use Rattle.definitions.specs.declared.day.Day.{Day}
 use Rattle.definitions.specs.declared.fields.Fields.{Fields}
 
@@ -37,18 +38,18 @@ day_at zero = first_day
 day_at (suc n) = next_day (day_at n)
 
 abbrev pub minutes_per_hour : ℕ
-minutes_per_hour = 60
+minutes_per_hour = MINUTES_PER_HOUR
 
 abbrev pub minutes_per_day : ℕ
-minutes_per_day = 1440
+minutes_per_day = MINUTES_PER_DAY
 
 -- the days of the years 2000 to 2099
 abbrev pub century_days : ℕ
-century_days = 36525
+century_days = CENTURY_DAYS
 
 -- the minutes of the years 2000 to 2099
 abbrev pub century_minutes : ℕ
-century_minutes = 52596000
+century_minutes = CENTURY_MINUTES
 
 -- the fields of a minute, counted from 2000-01-01T00:00
 abbrev pub fields_on : Day → ℕ → Fields
