@@ -5,6 +5,7 @@ pub mod CostLaws
 pub mod AnswerLaws
 pub mod DateLaws
 pub mod ParityLaws
+pub mod WeightLaws
 pub mod WaveLaws
 pub mod ListingLaws
 pub mod CheckLaws

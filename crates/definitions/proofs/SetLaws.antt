@@ -81,7 +81,7 @@ free_set station = inr (inl refl)
 in_minute : (station : Station) (s n set : ℕ) → s < n → IsSetOf station set → IsSetOf station (if nat_lt s n then set else no_second)
 in_minute station s n set lt p = subst (λ c. IsSetOf station (if c then set else no_second)) (sym (lt-ltb s n lt)) p
 
-dcf_bit : (f : DcfFacts) (s : ℕ) → IsBit (dcf.dcf_bit f s)
+pub dcf_bit : (f : DcfFacts) (s : ℕ) → IsBit (dcf.dcf_bit f s)
 dcf_bit f s =
     either IsBit (s == 16) _ _ (flag f.change)
     (either IsBit (s == 17) _ _ (flag f.summer)
@@ -99,10 +99,10 @@ dcf_set f s lt =
     (either (IsSetOf Dcf77) (s == (if f.long then 60 else 59)) _ _ (one_set Dcf77 dcf.no_reduction (omega arith))
     (either (IsSetOf Dcf77) (is_within 1 15 s) _ _ (free_set Dcf77) (bit_set Dcf77 (dcf.dcf_bit f s) (dcf_bit f s))))
 
-bit_a : (f : MsfFacts) (s : ℕ) → IsBit (msf.bit_a f s)
+pub bit_a : (f : MsfFacts) (s : ℕ) → IsBit (msf.bit_a f s)
 bit_a f s = either IsBit (is_within 53 58 s) _ _ (flag true) (carried (msf.msf_fields f) s)
 
-bit_b : (f : MsfFacts) (s : ℕ) → IsBit (msf.bit_b f s)
+pub bit_b : (f : MsfFacts) (s : ℕ) → IsBit (msf.bit_b f s)
 bit_b f s =
     either IsBit (s == 53) _ _ (flag f.change)
     (either IsBit (s == 54) _ _ (mod_bit (ones msf.year_weights f.year + 1))
@@ -141,7 +141,7 @@ wwvb_set f s code lt =
     (either (IsSetOf Wwvb) (is_within 36 38 s || is_within 40 43 s) _ _ (free_set Wwvb)
     (bit_set Wwvb (wwvb.wwvb_bit f s) (wwvb_bit f s code))))
 
-jjy_bit : (f : JjyFacts) (s : ℕ) → IsBit (jjy.jjy_bit f s)
+pub jjy_bit : (f : JjyFacts) (s : ℕ) → IsBit (jjy.jjy_bit f s)
 jjy_bit f s =
     either IsBit (s == 36) _ _ (mod_bit (ones jjy.hour_weights f.hour))
     (either IsBit (s == 37) _ _ (mod_bit (ones jjy.minute_weights f.minute))

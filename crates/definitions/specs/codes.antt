@@ -6,3 +6,4 @@ pub mod Wwvb
 pub mod Jjy
 pub mod Allowed
 pub mod Listing
+pub mod Parity

@@ -37,7 +37,7 @@ pub use laws::{
 };
 pub use level::Level;
 pub use msf::MsfFacts;
-pub use parity::{dcf77_groups_are_even, msf_groups_are_odd};
+pub use parity::{dcf77_groups_are_even, jjy_groups_are_even, msf_groups_are_odd, weights_add_up};
 pub use seasons::{
     american_summer_lies_between_its_changes, european_summer_lies_between_its_changes,
 };
