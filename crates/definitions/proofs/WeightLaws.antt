@@ -1,5 +1,5 @@
 -- The weights of a number's ones add up to it.
-use Rattle.std.proofs.Common.{◌≡◌, ℕ, ◌<◌, ◌*◌, List, ◌==◌, sum_by, true, refl, eqb-true}
+use Rattle.std.proofs.Common.{◌≡◌, ℕ, ◌<◌, List, ◌==◌, true, eqb-true}
 use Rattle.definitions.specs.codes.Vocabulary.{weight_of_ones}
 use Rattle.definitions.proofs.CheckLaws.{all_below, below}
 

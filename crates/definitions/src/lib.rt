@@ -32,8 +32,9 @@ pub use dcf77::DcfFacts;
 pub use fields::Fields;
 pub use jjy::JjyFacts;
 pub use laws::{
-    days_differ, dut1_is_told_by_free_seconds, each_second_is_sent, keys_differ, phase_fits_best,
-    waveforms_differ, window_has_one_answer,
+    announcements_show, days_differ, dut1_is_told_by_free_seconds, each_second_is_sent,
+    keys_differ, phase_fits_best, the_least_two_are_the_answer, waveforms_differ,
+    window_has_one_answer,
 };
 pub use level::Level;
 pub use msf::MsfFacts;

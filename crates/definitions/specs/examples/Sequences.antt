@@ -1,5 +1,5 @@
 -- Sequences, windows and blocks for examples.
-use Rattle.std.specs.Prelude.{ℕ, ◌*◌, ◌+◌, true, false, List, [], ◌∷◌, map}
+use Rattle.std.specs.Prelude.{ℕ, true, false, List, [], ◌∷◌, map}
 use Rattle.signal_base.specs.declared.window.Window.{Window}
 use Rattle.definitions.specs.declared.sequence.Sequence.{Sequence}
 use Rattle.definitions.specs.declared.block.Block.{Block}

@@ -1,10 +1,9 @@
 -- Weights add up, in each table for each number that it tells.
-use Rattle.std.proofs.Common.{◌≡◌, ℕ, ◌<◌, ◌==◌, refl, arith}
+use Rattle.std.proofs.Common.{ℕ, ◌<◌, ◌==◌, refl, arith}
 use Rattle.definitions.specs.codes.Dcf77 as dcf
 use Rattle.definitions.specs.codes.Msf as msf
 use Rattle.definitions.specs.codes.Wwvb as wwvb
 use Rattle.definitions.specs.codes.Jjy as jjy
-use Rattle.definitions.specs.codes.Vocabulary.{value_of, weight_of_ones}
 use Rattle.definitions.proofs.CheckLaws.{all_below}
 use Rattle.definitions.proofs.SetLaws.{either}
 use Rattle.definitions.proofs.WeightLaws.{adds_up}
