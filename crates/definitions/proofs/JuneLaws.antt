@@ -53,13 +53,13 @@ not_warned : allowed Wwvb false (218880, 56) ≡ 1
 unfolding day_at season_at
 not_warned = refl
 
-pub told : IsLegal (window_of 4 0 century_minutes) june_announced
-told = (
-  walkable 4 true,
+pub told : (mask : ℕ) → has_station (window_of mask 0 century_minutes).stations Wwvb ≡ true → IsLegal (window_of mask 0 century_minutes) june_announced
+told mask has = (
+  walkable mask true,
   λ e. inr (inr (
     Wwvb,
     56,
-    refl,
+    has,
     omega arith,
     λ same. omega (
       arith,

@@ -23,6 +23,10 @@ window_of mask lo hi = record { stations = record { mask = mask }; start = 0; ph
 abbrev pub june_announced : Sequence
 june_announced = record { first = at (on 2000 6 1) 0 0; second = 0; announced = true }
 
+-- from a second of 2000-12-31T22:59Z on, as it would be with a leap second at the end of the day
+abbrev pub december_announced : ℕ → Sequence
+december_announced second = record { first = at (on 2000 12 31) 22 59; second = second; announced = true }
+
 -- the block of a span from minute lo up to, and without, hi, from the first second on
 abbrev pub block_of : Span → ℕ → ℕ → Block
 block_of span lo hi = record { announced = false; second = 0; span = span; lo = lo; hi = hi }

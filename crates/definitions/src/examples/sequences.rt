@@ -6,7 +6,7 @@ ghost use Rattle.definitions.specs.time.Calendar.{century_minutes};
 ghost use Rattle.definitions.specs.answers.Blocks.{children, items};
 ghost use Rattle.definitions.specs.sequences.Walks.{IsLegal, IsWalkable};
 ghost use Rattle.definitions.specs.examples.Dates.{at, on};
-ghost use Rattle.definitions.specs.examples.Sequences.{block_of, from_place, june_announced, leap_walk, window_of};
+ghost use Rattle.definitions.specs.examples.Sequences.{block_of, december_announced, from_place, june_announced, leap_walk, window_of};
 
 /// The seconds 0, 59 and 60 of a minute with a leap second, and the first of the next two.
 pub fn walk_through_a_leap_second()
@@ -23,10 +23,18 @@ pub fn blocks_of_a_window()
 {}
 
 /// A leap second at the end of June 2000, announced in the month's first minute: WWVB tells it there, and DCF77 not yet,
-/// so it is a hypothesis of WWVB alone.
+/// so it is a hypothesis of WWVB alone, and of both together.
 pub fn announcement_in_june()
     ensures told { IsLegal (window_of 4 0 century_minutes) june_announced }
     ensures not_told { ¬ (IsLegal (window_of 1 0 century_minutes) june_announced) }
+    ensures told_by_one { IsLegal (window_of 5 0 century_minutes) june_announced }
+{}
+
+/// DCF77 warns of a leap second in the hour before it, by second 19 of each minute: 60 seconds from 22:59:19 of 31 December
+/// 2000 on end just before the first of these seconds, and 60 seconds from 22:59:20 on end with it.
+pub fn announcement_at_the_end_of_a_window()
+    ensures not_told { ¬ (IsLegal (window_of 1 0 century_minutes) (december_announced 19)) }
+    ensures told { IsLegal (window_of 1 0 century_minutes) (december_announced 20) }
 {}
 
 /// The last minute that DCF77 can send in the century: a walk of 60 seconds from its first on is walkable, and one from its
@@ -35,4 +43,11 @@ pub fn last_walk_of_dcf77()
     ensures first { IsWalkable (window_of 1 (at (on 2099 12 31) 22 58) (at (on 2099 12 31) 22 59)) (from_place (at (on 2099 12 31) 22 58) 0) }
     ensures second { ¬ (IsWalkable (window_of 1 (at (on 2099 12 31) 22 58) (at (on 2099 12 31) 22 59)) (from_place (at (on 2099 12 31) 22 58) 1)) }
     ensures range { ¬ (IsWalkable (window_of 1 (at (on 2099 12 31) 22 57) (at (on 2099 12 31) 22 58)) (from_place (at (on 2099 12 31) 22 58) 0)) }
+{}
+
+/// Each station of a window has to encode the year: in the last nine hours of UTC's century WWVB can, and JJY can't.
+pub fn last_hours_of_a_bank()
+    ensures wwvb { IsWalkable (window_of 4 0 century_minutes) (from_place (century_minutes - 540) 0) }
+    ensures wwvb_and_jjy { ¬ (IsWalkable (window_of 12 0 century_minutes) (from_place (century_minutes - 540) 0)) }
+    ensures before { IsWalkable (window_of 12 0 century_minutes) (from_place (century_minutes - 541) 0) }
 {}
