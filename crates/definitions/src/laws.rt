@@ -15,8 +15,8 @@ ghost use Rattle.definitions.specs.codes.Listing.{blank, listed};
 ghost use Rattle.definitions.specs.heard.Dut1.{dut1_symbol, dut1_values, is_dut1_second};
 ghost use Rattle.definitions.specs.heard.Receivers.{Receiver};
 ghost use Rattle.definitions.specs.heard.Phase.{agreement, phase_of};
-ghost use Rattle.definitions.specs.heard.Costs.{Costs};
-ghost use Rattle.definitions.specs.answers.Answers.{IsWindowAnswer};
+ghost use Rattle.definitions.specs.heard.Costs.{Costs, sequence_cost};
+ghost use Rattle.definitions.specs.answers.Answers.{IsAdmitted, IsWindowAnswer};
 ghost use Rattle.definitions.specs.answers.FirstTwo.{AreLeastTwo, IsWindowKey, answer_from};
 ghost use Rattle.definitions.specs.sequences.Walks.{IsLegal, IsSequence, IsWalkable, ShowsLeap, unannounced};
 ghost use Rattle.definitions.specs.sequences.Keys.{ceiling_key, cost_of, key_of, sequence_of};
@@ -79,6 +79,14 @@ pub fn dut1_is_told_by_free_seconds()
 /// begins with the leap second.
 pub fn announcements_show()
     ensures { (window : Window) (q : Sequence) → IsLegal window q → q.announced ≡ true → q.second ≢ 60 → IsWalkable window (unannounced q) → ShowsLeap window q }
+{}
+
+/// A window admits its legal sequences that cost no more than the ceiling, those of its very cost too.
+pub fn the_ceiling_is_admitted()
+    ensures within { (window : Window) (costs : Costs) (q : Sequence) → IsLegal window q
+        → IsAdmitted (IsLegal window) (sequence_cost costs window) (sequence_cost costs window q) q }
+    ensures beyond { (window : Window) (costs : Costs) (ceiling : ℕ) (q : Sequence) → ceiling < sequence_cost costs window q
+        → ¬ (IsAdmitted (IsLegal window) (sequence_cost costs window) ceiling q) }
 {}
 
 /// The least two keys of the sequences that a window admits give its answer.

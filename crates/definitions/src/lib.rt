@@ -33,8 +33,8 @@ pub use fields::Fields;
 pub use jjy::JjyFacts;
 pub use laws::{
     announcements_show, days_differ, dut1_is_told_by_free_seconds, each_second_is_sent,
-    keys_differ, phase_fits_best, the_least_two_are_the_answer, waveforms_differ,
-    window_has_one_answer,
+    keys_differ, phase_fits_best, the_ceiling_is_admitted, the_least_two_are_the_answer,
+    waveforms_differ, window_has_one_answer,
 };
 pub use level::Level;
 pub use msf::MsfFacts;

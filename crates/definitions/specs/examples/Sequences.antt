@@ -15,6 +15,10 @@ from_place first second = record { first = first; second = second; announced = f
 abbrev pub leap_walk : List (ℕ × ℕ)
 leap_walk = map (place_at (record { first = at (on 2000 6 30) 23 59; second = 0; announced = true })) (0 ∷ 59 ∷ 60 ∷ 61 ∷ 121 ∷ [])
 
+-- from the leap second at the end of June 2000 on
+abbrev pub leap_second_of_june : Sequence
+leap_second_of_june = record { first = at (on 2000 6 30) 23 59; second = 60; announced = true }
+
 -- 60 seconds of some stations, from minute lo up to, and without, hi
 abbrev pub window_of : ℕ → ℕ → ℕ → Window
 window_of mask lo hi = record { stations = record { mask = mask }; start = 0; phase = 0; seconds = 60; from = lo; to = hi }

@@ -90,6 +90,7 @@ pub fn dut1_heard()
     ensures wwvb_most { dut_heard Wwvb (36 ∷ 38 ∷ 40 ∷ 43 ∷ []) (from_place 720 0) ≡ Tenths (pos 9) }
     ensures wwvb_fewest { dut_heard Wwvb (37 ∷ 40 ∷ 43 ∷ []) (from_place 720 0) ≡ Tenths (negsuc 8) }
     ensures two_days { dut_heard Msf [] (from_place 1439 30) ≡ Free }
+    ensures two_hours { dut_heard Msf [] (from_place 779 30) ≡ Tenths (pos 0) }
     ensures not_sent { dut_heard Jjy [] (from_place 720 0) ≡ Absent }
 {}
 

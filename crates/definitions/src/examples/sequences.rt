@@ -1,12 +1,13 @@
 //! Worked examples of sequences and blocks.
 
-ghost use Rattle.std.specs.Prelude.{◌≡◌, ◌+◌, ◌*◌, ◌-◌, ◌∷◌, [], length};
+ghost use Rattle.std.specs.Prelude.{◌≡◌, ◌+◌, ◌*◌, ◌-◌, ◌∷◌, [], length, true};
 ghost use Rattle.definitions.specs.declared.block.Span.TheVariants.{Year, Day, Hour, Minute};
 ghost use Rattle.definitions.specs.time.Calendar.{century_minutes};
 ghost use Rattle.definitions.specs.answers.Blocks.{children, items};
-ghost use Rattle.definitions.specs.sequences.Walks.{IsLegal, IsWalkable};
+ghost use Rattle.definitions.specs.sequences.Keys.{key_of};
+ghost use Rattle.definitions.specs.sequences.Walks.{IsLegal, IsWalkable, unannounced};
 ghost use Rattle.definitions.specs.examples.Dates.{at, on};
-ghost use Rattle.definitions.specs.examples.Sequences.{block_of, december_announced, from_place, june_announced, leap_walk, window_of};
+ghost use Rattle.definitions.specs.examples.Sequences.{block_of, december_announced, from_place, june_announced, leap_second_of_june, leap_walk, window_of};
 
 /// The seconds 0, 59 and 60 of a minute with a leap second, and the first of the next two.
 pub fn walk_through_a_leap_second()
@@ -50,4 +51,20 @@ pub fn last_hours_of_a_bank()
     ensures wwvb { IsWalkable (window_of 4 0 century_minutes) (from_place (century_minutes - 540) 0) }
     ensures wwvb_and_jjy { ¬ (IsWalkable (window_of 12 0 century_minutes) (from_place (century_minutes - 540) 0)) }
     ensures before { IsWalkable (window_of 12 0 century_minutes) (from_place (century_minutes - 541) 0) }
+{}
+
+/// A sequence begins in a second that its minute has: in second 60 of the last minute of June 2000 where a leap second is
+/// announced there, and in no second 60 where none is.
+pub fn beginning_with_a_leap_second()
+    ensures announced { IsLegal (window_of 8 0 century_minutes) leap_second_of_june }
+    ensures not_announced { ¬ (IsWalkable (window_of 8 0 century_minutes) (unannounced leap_second_of_june)) }
+    ensures elsewhere { ¬ (IsWalkable (window_of 8 0 century_minutes) (record { first = 720; second = 60; announced = true })) }
+{}
+
+/// Keys: by cost, then those that aren't announced, then by the first second, then by the first minute.
+pub fn keys_of_sequences()
+    ensures minute { key_of 0 (from_place 5 0) ≡ 5 }
+    ensures second { key_of 0 (from_place 5 1) ≡ 52_596_005 }
+    ensures announced { key_of 0 (record { first = 7; second = 2; announced = true }) ≡ 3_313_548_007 }
+    ensures cost { key_of 1 (record { first = 7; second = 2; announced = true }) ≡ 11_903_482_599 }
 {}
