@@ -2,6 +2,7 @@
 use Rattle.std.proofs.Common.{◌≡◌, ℕ, ◌+◌, ◌/◌, ◌<◌, ◌≤◌, true, refl, ap, arith}
 use Rattle.signal_base.specs.declared.station.Station.{Station}
 use Rattle.signal_base.specs.declared.station.Station.TheVariants.{Dcf77, Msf, Wwvb, Jjy}
+use Rattle.definitions.specs.declared.sequence.Sequence.{Sequence}
 use Rattle.definitions.specs.time.Calendar.{day_at}
 use Rattle.definitions.specs.time.Summer.{season_at}
 use Rattle.definitions.specs.codes.Allowed.{encoded_year, has_station, CanBeEncoded}
@@ -46,3 +47,8 @@ second is =
 
 pub range : ¬ (IsWalkable (window_of 1 52595937 52595938) (from_place 52595938 0))
 range is = omega (arith, is.before_end)
+
+-- no walk begins in the last minute of the century
+pub last_minute : (lo hi : ℕ) (q : Sequence) → q.first ≡ 52595939 → ¬ (IsWalkable (window_of 1 lo hi) q)
+unfolding place_at
+last_minute lo hi q e is = omega (arith, (is.encoded 0 (omega arith)).1 Dcf77 refl, ap (encoded_year Dcf77) e, next_year)

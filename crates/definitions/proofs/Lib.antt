@@ -20,4 +20,9 @@ pub mod BoundLaws
 pub mod SpanLaws
 pub mod BlockLaws
 pub mod ExistLaws
+pub mod ChildLaws
+pub mod ItemLaws
+pub mod BoundExistLaws
+pub mod MinuteLaws
+pub mod PairLaws
 pub mod EdgeLaws

@@ -24,7 +24,8 @@ mod zone;
 pub use answer::Answer;
 pub use block::{Block, Span};
 pub use bounds::{
-    bound_is_not_above, bound_is_one, children_share_the_sequences, items_share_the_sequences,
+    bound_exists, bound_is_not_above, bound_is_one, children_share_the_sequences,
+    items_share_the_sequences, year_ends_with_its_calendar_year,
 };
 pub use calendar::{CENTURY_DAYS, CENTURY_MINUTES, MINUTES_PER_DAY, MINUTES_PER_HOUR};
 pub use day::Day;

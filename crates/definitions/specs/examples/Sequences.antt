@@ -1,10 +1,11 @@
 -- Sequences, windows and blocks for examples.
-use Rattle.std.specs.Prelude.{ℕ, true, false, List, [], ◌∷◌, map}
+use Rattle.std.specs.Prelude.{ℕ, ◌==◌, true, false, if◌then◌else◌, List, [], ◌∷◌, map}
 use Rattle.signal_base.specs.declared.window.Window.{Window}
 use Rattle.definitions.specs.declared.sequence.Sequence.{Sequence}
 use Rattle.definitions.specs.declared.block.Block.{Block}
 use Rattle.definitions.specs.declared.block.Span.{Span}
 use Rattle.definitions.specs.sequences.Walks.{place_at}
+use Rattle.definitions.specs.heard.Costs.{Costs}
 use Rattle.definitions.specs.examples.Dates.{at, on}
 
 -- the sequence from a second of a minute on, without a leap second
@@ -34,3 +35,11 @@ december_announced second = record { first = at (on 2000 12 31) 22 59; second = 
 -- the block of a span from minute lo up to, and without, hi, from the first second on
 abbrev pub block_of : Span → ℕ → ℕ → Block
 block_of span lo hi = record { announced = false; second = 0; span = span; lo = lo; hi = hi }
+
+-- the same block, its sequences announcing a leap second
+abbrev pub announced_block_of : Span → ℕ → ℕ → Block
+announced_block_of span lo hi = record { announced = true; second = 0; span = span; lo = lo; hi = hi }
+
+-- costs that are the same in every slot: 1 of a 0, 3 of a 1, 7 of any other symbol
+abbrev pub costs_by_symbol : Costs
+costs_by_symbol station k x = if x == 0 then 1 else if x == 1 then 3 else 7
