@@ -12,7 +12,7 @@ use Rattle.signal_base.specs.Mask.{has_bit}
 use Rattle.definitions.specs.declared.sequence.Sequence.{Sequence}
 use Rattle.definitions.specs.declared.block.Block.{Block}
 use Rattle.definitions.specs.declared.block.Span.TheVariants.{Hour}
-use Rattle.definitions.specs.time.Calendar.{day_at}
+use Rattle.definitions.specs.time.Calendar.{day_at, minute_length}
 use Rattle.definitions.specs.time.Summer.{season_at}
 use Rattle.definitions.specs.codes.Allowed.{allowed, has_station, wwvb_facts}
 use Rattle.definitions.specs.codes.Wwvb.{wwvb_second}
@@ -22,8 +22,8 @@ use Rattle.definitions.specs.answers.Blocks.{IsIn, MayCarry, IsUnion, IsBound, u
 use Rattle.definitions.specs.heard.Costs.{Costs}
 use Rattle.definitions.specs.examples.Sequences.{window_of}
 use Rattle.definitions.proofs.KeyLaws.{same_sequence}
-use Rattle.definitions.proofs.PlaceLaws.{within_minute}
-use Rattle.definitions.proofs.MinuteLaws.{from_minute, set, walkable}
+use Rattle.definitions.proofs.PlaceLaws.{within_minute, short_minute}
+use Rattle.definitions.proofs.MinuteLaws.{early, from_minute, set, walkable}
 use Rattle.definitions.proofs.SetLaws.{sent}
 use Rattle.definitions.proofs.BoundExistLaws.{byte_of}
 
@@ -38,7 +38,7 @@ of_or a b x has = elim (cases_eq (bit_at a x) 1) [
 ]
 
 -- the pair of minutes from lo on, well before the end of the first day
-module _ (mask lo : ℕ) (announced : Bool) (early : lo < 1438) where
+module _ (mask lo : ℕ) (announced : Bool) (soon : lo < 1438) where
   abbrev pub pair : Block
   pair = record { announced = announced; second = 0; span = Hour; lo = lo; hi = lo + 2 }
 
@@ -51,11 +51,17 @@ module _ (mask lo : ℕ) (announced : Bool) (early : lo < 1438) where
   abbrev other : Sequence
   other = from_minute announced (lo + 1)
 
+  first_short : minute_length announced lo ≡ 60
+  first_short = short_minute announced lo (λ e. omega (arith, e, soon))
+
+  other_short : minute_length announced (lo + 1) ≡ 60
+  other_short = short_minute announced (lo + 1) (λ e. omega (arith, e, soon))
+
   first_walks : IsWalkable over first
-  first_walks = walkable announced lo (λ e. omega (arith, e, early)) mask lo (lo + 2) (omega (arith, early)) (omega arith) (omega arith)
+  first_walks = walkable announced lo first_short mask lo (lo + 2) (omega arith) (omega arith) (early over.stations lo (omega (arith, soon)))
 
   other_walks : IsWalkable over other
-  other_walks = walkable announced (lo + 1) (λ e. omega (arith, e, early)) mask lo (lo + 2) (omega (arith, early)) (omega arith) (omega arith)
+  other_walks = walkable announced (lo + 1) other_short mask lo (lo + 2) (omega arith) (omega arith) (early over.stations (lo + 1) (omega (arith, soon)))
 
   has_first : IsIn pair first
   has_first = record { announced = refl; second = refl; not_before = omega arith; before_end = omega arith }
@@ -81,8 +87,8 @@ module _ (mask lo : ℕ) (announced : Bool) (early : lo < 1438) where
   -- the union of their sets
   pub pair_union : (station : Station) (k : ℕ) → k < 60 → IsUnion over pair station k (either_set station k)
   pair_union station k lt =
-      subst (IsUnion over pair station k) (ap (λ a. bit_or a (set_at station other k)) (set announced lo (λ e. omega (arith, e, early)) station k lt)
-      ∙ ap (bit_or (allowed station announced (lo, k))) (set announced (lo + 1) (λ e. omega (arith, e, early)) station k lt)) plain
+      subst (IsUnion over pair station k) (ap (λ a. bit_or a (set_at station other k)) (set announced lo first_short station k lt)
+      ∙ ap (bit_or (allowed station announced (lo, k))) (set announced (lo + 1) other_short station k lt)) plain
     where
       carried : (x : ℕ) (q : Sequence) → has_bit (set_at station q k) x ≡ true → (q ≡ first) ⊎ (q ≡ other)
           → (has_bit (set_at station first k) x ≡ true) ⊎ (has_bit (set_at station other k) x ≡ true)
@@ -114,14 +120,14 @@ hidden : (station : Station) (k : ℕ) → has_station (window_of 4 700 702).sta
 hidden Dcf77 k heard lt = absurd cc
 hidden Msf k heard lt = absurd cc
 hidden Wwvb k heard lt =
-    set true 700 (λ e. omega (arith, e)) Wwvb k lt ∙ ap (λ (f : WwvbFacts). wwvb_second f k) same_facts ∙ sym (set false 700 (λ e. omega (arith, e)) Wwvb k lt)
+    set true 700 (short_minute true 700 (λ e. omega (arith, e))) Wwvb k lt ∙ ap (λ (f : WwvbFacts). wwvb_second f k) same_facts ∙ sym (set false 700 refl Wwvb k lt)
 hidden Jjy k heard lt = absurd cc
 
 pub not_shown : ¬ (IsLegal (window_of 4 700 702) (from_minute true 700))
 not_shown legal = elim (legal.1 refl) [
   | inl e ↦ omega (arith, e)
   | inr rest ↦ elim rest [
-    | inl none ↦ none (walkable false 700 (λ e. omega (arith, e)) 4 700 702 (omega arith) (omega arith) (omega arith))
+    | inl none ↦ none (walkable false 700 refl 4 700 702 (omega arith) (omega arith) (early (window_of 4 700 702).stations 700 (omega arith)))
     | inr shows ↦ shows.4 (hidden shows.0 shows.1 shows.2 shows.3)
   ]
 ]

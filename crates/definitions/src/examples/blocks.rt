@@ -1,7 +1,7 @@
 //! Worked examples of blocks, and of their unions, bounds and keys. Where costs are given, a 0 costs 1, a 1 costs 3 and
 //! another symbol 7 in every slot; what they come to was worked out from the stations' tables by a program of its own.
 
-ghost use Rattle.std.specs.Prelude.{◌≡◌, ◌+◌, ◌*◌, ◌^◌, ◌∷◌, [], ◌++◌, false, map, Some, None};
+ghost use Rattle.std.specs.Prelude.{◌≡◌, ◌+◌, ◌*◌, ◌^◌, ◌∷◌, [], ◌++◌, false, length, map, Some, None};
 ghost use Rattle.std.specs.List.{range_with_len};
 ghost use Rattle.signal_base.specs.declared.station.Station.TheVariants.{Wwvb, Jjy};
 ghost use Rattle.definitions.specs.declared.block.Span.TheVariants.{Year, Day, Hour, Minute};
@@ -9,6 +9,7 @@ ghost use Rattle.definitions.specs.time.Calendar.{century_minutes};
 ghost use Rattle.definitions.specs.sequences.Keys.{index_of};
 ghost use Rattle.definitions.specs.answers.Blocks.{IsBlock, IsBound, IsUnion, block_key, children, first_of, items};
 ghost use Rattle.definitions.specs.heard.Costs.{sequence_cost};
+ghost use Rattle.definitions.specs.examples.Dates.{at, on};
 ghost use Rattle.definitions.specs.examples.Sequences.{announced_block_of, block_of, costs_by_symbol, from_place, window_of};
 
 /// The hours of the minutes 700 to 799 are three blocks. Another beginning or end makes none, and a second 60 only where a
@@ -22,6 +23,15 @@ pub fn blocks_of_a_range()
     ensures long { ¬ (IsBlock (window_of 4 700 800) (block_of Hour 720 800)) }
     ensures outside { ¬ (IsBlock (window_of 4 700 800) (block_of Hour 660 720)) }
     ensures second { ¬ (IsBlock (window_of 4 700 800) (record { announced = false; second = 60; span = Hour; lo = 720; hi = 780 })) }
+{}
+
+/// A window of two years has two items for each beginning; a block's children are cut to it.
+pub fn blocks_of_a_window()
+    ensures items { length (items (window_of 8 (at (on 2000 12 31) 23 0) (at (on 2001 1 1) 1 0))) ≡ 242 }
+    ensures year { children (block_of Year (at (on 2099 12 31) 22 58) century_minutes) ≡ block_of Day (at (on 2099 12 31) 22 58) century_minutes ∷ [] }
+    ensures day { children (block_of Day (at (on 2099 12 31) 22 58) century_minutes) ≡ block_of Hour (at (on 2099 12 31) 22 58) (at (on 2099 12 31) 23 0) ∷ block_of Hour (at (on 2099 12 31) 23 0) century_minutes ∷ [] }
+    ensures hour { children (block_of Hour (at (on 2099 12 31) 22 58) (at (on 2099 12 31) 23 0)) ≡ block_of Minute (at (on 2099 12 31) 22 58) (at (on 2099 12 31) 22 59) ∷ block_of Minute (at (on 2099 12 31) 22 59) (at (on 2099 12 31) 23 0) ∷ [] }
+    ensures minute { children (block_of Minute (at (on 2099 12 31) 22 58) (at (on 2099 12 31) 22 59)) ≡ [] }
 {}
 
 /// Within one year the items are one for each index of a first sequence: 60 that aren't announced, and 61 that are.

@@ -1,26 +1,15 @@
-//! Worked examples of sequences and blocks.
+//! Worked examples of sequences.
 
-ghost use Rattle.std.specs.Prelude.{◌≡◌, ◌+◌, ◌*◌, ◌-◌, ◌∷◌, [], length, true};
-ghost use Rattle.definitions.specs.declared.block.Span.TheVariants.{Year, Day, Hour, Minute};
+ghost use Rattle.std.specs.Prelude.{◌≡◌, ◌+◌, ◌*◌, ◌-◌, ◌∷◌, [], true};
 ghost use Rattle.definitions.specs.time.Calendar.{century_minutes};
-ghost use Rattle.definitions.specs.answers.Blocks.{children, items};
 ghost use Rattle.definitions.specs.sequences.Keys.{key_of};
 ghost use Rattle.definitions.specs.sequences.Walks.{IsLegal, IsWalkable, unannounced};
 ghost use Rattle.definitions.specs.examples.Dates.{at, on};
-ghost use Rattle.definitions.specs.examples.Sequences.{block_of, december_announced, from_place, june_announced, leap_second_of_june, leap_walk, window_of};
+ghost use Rattle.definitions.specs.examples.Sequences.{december_announced, from_place, june_announced, leap_second_of_june, leap_walk, window_of};
 
 /// The seconds 0, 59 and 60 of a minute with a leap second, and the first of the next two.
 pub fn walk_through_a_leap_second()
     ensures { leap_walk ≡ (at (on 2000 6 30) 23 59, 0) ∷ (at (on 2000 6 30) 23 59, 59) ∷ (at (on 2000 6 30) 23 59, 60) ∷ (at (on 2000 7 1) 0 0, 0) ∷ (at (on 2000 7 1) 0 1, 0) ∷ [] }
-{}
-
-/// A window of two years has two items for each beginning; a block's children are cut to it.
-pub fn blocks_of_a_window()
-    ensures items { length (items (window_of 8 (at (on 2000 12 31) 23 0) (at (on 2001 1 1) 1 0))) ≡ 242 }
-    ensures year { children (block_of Year (at (on 2099 12 31) 22 58) century_minutes) ≡ block_of Day (at (on 2099 12 31) 22 58) century_minutes ∷ [] }
-    ensures day { children (block_of Day (at (on 2099 12 31) 22 58) century_minutes) ≡ block_of Hour (at (on 2099 12 31) 22 58) (at (on 2099 12 31) 23 0) ∷ block_of Hour (at (on 2099 12 31) 23 0) century_minutes ∷ [] }
-    ensures hour { children (block_of Hour (at (on 2099 12 31) 22 58) (at (on 2099 12 31) 23 0)) ≡ block_of Minute (at (on 2099 12 31) 22 58) (at (on 2099 12 31) 22 59) ∷ block_of Minute (at (on 2099 12 31) 22 59) (at (on 2099 12 31) 23 0) ∷ [] }
-    ensures minute { children (block_of Minute (at (on 2099 12 31) 22 58) (at (on 2099 12 31) 22 59)) ≡ [] }
 {}
 
 /// A leap second at the end of June 2000, announced in the month's first minute: WWVB tells it there, and DCF77 not yet,

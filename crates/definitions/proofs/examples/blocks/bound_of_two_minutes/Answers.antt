@@ -4,8 +4,8 @@ use Rattle.definitions.specs.time.Calendar.{day_at}
 use Rattle.definitions.specs.time.Summer.{season_at}
 use Rattle.definitions.specs.sequences.Walks.{place_at}
 use Rattle.definitions.specs.heard.Costs.{sum_below}
-use Rattle.definitions.specs.examples.Sequences.{costs_by_symbol}
-use Rattle.definitions.proofs.MinuteLaws.{walkable}
+use Rattle.definitions.specs.examples.Sequences.{costs_by_symbol, window_of}
+use Rattle.definitions.proofs.MinuteLaws.{early, walkable}
 use Rattle.definitions.proofs.PairLaws.{pair_bound}
 use Rattle.definitions.proofs.examples.blocks.bound_of_two_minutes.Goals as goal
 
@@ -19,7 +19,7 @@ returns-clause-second c = refl
 
 pub returns-clause-minute : goal.returns-clause-minute
 unfolding day_at season_at place_at sum_below
-returns-clause-minute c = ((walkable false 701 (λ e. omega (arith, e)) 4 700 702 (omega arith) (omega arith) (omega arith), λ e. absurd cc), refl)
+returns-clause-minute c = ((walkable false 701 refl 4 700 702 (omega arith) (omega arith) (early (window_of 4 700 702).stations 701 (omega arith)), λ e. absurd cc), refl)
 
 pub returns-clause-hour : goal.returns-clause-hour
 unfolding day_at season_at sum_below

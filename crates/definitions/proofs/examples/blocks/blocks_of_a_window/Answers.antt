@@ -2,7 +2,7 @@
 use Rattle.std.proofs.Common.{refl}
 use Rattle.definitions.specs.time.Calendar.{day_at}
 use Rattle.definitions.specs.answers.Blocks.{blocks}
-use Rattle.definitions.proofs.examples.sequences.blocks_of_a_window.Goals as goal
+use Rattle.definitions.proofs.examples.blocks.blocks_of_a_window.Goals as goal
 
 pub returns-clause-items : goal.returns-clause-items
 unfolding day_at blocks
