@@ -64,9 +64,10 @@ pub fn bound_of_two_minutes()
     ensures two_stations { IsBound costs_by_symbol (window_of 12 700 702) (block_of Hour 700 702) (Some (112 + 114)) }
 {}
 
-/// In January nothing tells of a leap second in June. Its announcement can be walked, so an hour with it has a bound, and it
-/// isn't legal, so a minute has none.
+/// In January nothing tells of a leap second in June. Its announcement can be walked, so an hour with it has unions and a
+/// bound, and it isn't legal, so a minute has none.
 pub fn bound_of_an_announcement()
+    ensures union { IsUnion (window_of 4 700 702) (announced_block_of Hour 700 702) Wwvb 8 3 }
     ensures hour { IsBound costs_by_symbol (window_of 4 700 702) (announced_block_of Hour 700 702) (Some 112) }
     ensures minute { IsBound costs_by_symbol (window_of 4 700 702) (announced_block_of Minute 700 701) None }
 {}
