@@ -11,9 +11,9 @@ mod name;
 mod refusal;
 
 pub use examples::{
-    feeds, heads_of_reports, listed_minutes, minutes_of_reports, refused_certificates,
-    refused_configurations, refused_logs, refused_words, reports_without_a_decision, sentences,
-    summaries_of_trials,
+    bad_lines, feeds, good_logs, heads_of_reports, lines_of_texts, listed_minutes,
+    minutes_of_reports, refused_certificates, refused_configurations, refused_logs, refused_words,
+    reports_without_a_decision, sentences, summaries_of_trials,
 };
 pub use fault::LineFault;
 pub use limits::{LOG_LIMIT, LONGEST_NAME, MOST_RECORDS, TIME_LIMIT};
