@@ -21,10 +21,10 @@ fn text_of(refusal: &Refusal) -> Text
 {
     let mut text = Text::new();
     match refusal {
-        Refusal::WordsUsage => text.push_str("words: usage"),
+        Refusal::WordsUsage => text.push_str("words: usage\n"),
         Refusal::LogTooLarge { receiver, name } => {
             push_log(&mut text, *receiver, name);
-            text.push_str("too large");
+            text.push_str("too large\n");
         }
         Refusal::LogLine {
             receiver,
@@ -37,9 +37,9 @@ fn text_of(refusal: &Refusal) -> Text
             push_number(&mut text, *line as u64);
             text.push_str(": ");
             text.push_str(words_of(*fault));
+            text.push_str("\n");
         }
     }
-    text.push_str("\n");
     text
 }
 
