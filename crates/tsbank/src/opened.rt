@@ -1,6 +1,7 @@
 //! Files that stay open from one call to the next, so that a file in pieces is opened once.
-ghost use Rattle.std.specs.Prelude.{◌≡◌, ◌+◌, ◌<◌, ◌≤◌, length, IfOk, IfSome};
+ghost use Rattle.std.specs.Prelude.{◌≡◌, ◌+◌, ◌<◌, ◌≤◌, length, IfOk, IfSome, IsTrue, Some};
 ghost use Rattle.std.specs.Io.KnownBytes.{ReadConsumes, WriteAppends};
+ghost use Rattle.tsbank.specs.Opened.{IsOpenedBy};
 
 use crate::machine::{read_some, write_some};
 use std::alloc::Global;
@@ -19,7 +20,11 @@ pub struct Opened<F> {
 
 impl<F> Opened<F> {
     /// A file that has just been opened, which stands at its start.
-    pub fn new(alloc: Global, name: &str, file: F) -> Opened<F> {
+    pub fn new(alloc: Global, name: &str, file: F) -> Opened<F>
+        ensures name { IsOpenedBy result.name name.now }
+        ensures file { result.file ≡ file }
+        ensures place { result.place ≡ Some 0 }
+    {
         Opened {
             name: String::from_str(alloc, name).ok(),
             file,
@@ -28,8 +33,13 @@ impl<F> Opened<F> {
     }
 
     /// Whether the file was opened by this name.
-    pub fn is_named(&self, name: &str) -> bool {
-        self.name.as_ref().is_some_and(|kept| kept.as_str() == name)
+    pub fn is_named(&self, name: &str) -> bool
+        ensures { IsTrue result → IsOpenedBy self.now.name name.now }
+    {
+        match &self.name {
+            Some(kept) => kept.as_str() == name,
+            None => false,
+        }
     }
 }
 
@@ -41,6 +51,7 @@ impl<F: Read + Seek> Opened<F> {
         ensures here { self.old.place ≡ Some at →
             ReadConsumes (F.remaining self.old.file) (F.remaining self.new.file) result into.new }
         ensures next { IfOk result (λ n. IfSome self.new.place (λ next. next ≡ at + n)) }
+        ensures name { self.new.name ≡ self.old.name }
     {
         if self.place != Some(at) {
             self.place = None;
@@ -58,6 +69,7 @@ impl<F: Write> Opened<F> {
         ensures length { IfOk result (λ n. n ≤ length bytes.now) }
         ensures some { IfOk result (λ n. 0 < length bytes.now → 0 < n) }
         ensures bytes { WriteAppends (F.contents self.old.file) (F.contents self.new.file) result bytes.now }
+        ensures name { self.new.name ≡ self.old.name }
     {
         write_some(&mut self.file, bytes)
     }

@@ -1,7 +1,45 @@
 //! The words of the command line, without the program's name.
+use std::alloc::AllocError;
 use std::env::FillError;
+use std::io::ErrorKind;
 use std::rt::Env;
 use std::{env, io};
+
+/// Why the words can't be had.
+#[derive(Clone, Copy, Debug, PartialEq, Eq)]
+pub enum NoWords {
+    /// One of them isn't UTF-8.
+    NotText,
+    /// There is no memory for them.
+    NoMemory,
+}
+
+impl From<io::Error> for NoWords {
+    ghost use Rattle.std.specs.Prelude.{◌≡◌, ◌↔◌};
+    ghost use Rattle.std.specs.IoError.{error_kind};
+    ghost use Rattle.std.specs.declared.io.ErrorKind.TheVariants.{OutOfMemory};
+    ghost use Rattle.tsbank.specs.declared.command_line.NoWords.TheVariants.{NoMemory};
+
+    ghost from_gives = { λ error why. (why ≡ NoMemory) ↔ (error_kind error ≡ OutOfMemory) };
+
+    fn from(error: io::Error) -> NoWords {
+        match error.kind() {
+            ErrorKind::OutOfMemory => NoWords::NoMemory,
+            _ => NoWords::NotText,
+        }
+    }
+}
+
+impl From<AllocError> for NoWords {
+    ghost use Rattle.std.specs.Prelude.{◌≡◌};
+    ghost use Rattle.tsbank.specs.declared.command_line.NoWords.TheVariants.{NoMemory};
+
+    ghost from_gives = { λ _ why. why ≡ NoMemory };
+
+    fn from(_: AllocError) -> NoWords {
+        NoWords::NoMemory
+    }
+}
 
 /// The environment without the first argument, which is the program's name and need not be text.
 #[derive(Drop)]
@@ -24,9 +62,8 @@ impl<R: Env> Env for WithoutName<'_, R> {
     }
 }
 
-/// Copies the words after the program's name. The error is `OutOfMemory` without memory for them, and
-/// `InvalidData` where one of them isn't UTF-8.
-pub fn words<R: Env + AllocGlobal>(rt: &R) -> io::Result<Vec<String>> {
+/// Copies the words after the program's name.
+pub fn words<R: Env + AllocGlobal>(rt: &R) -> Result<Vec<String>, NoWords> {
     let words = env::args(&(WithoutName(rt), rt.alloc()))?;
     Ok(words.collect(rt.alloc())?)
 }
@@ -34,7 +71,6 @@ pub fn words<R: Env + AllocGlobal>(rt: &R) -> io::Result<Vec<String>> {
 #[cfg(test)]
 mod tests {
     use super::*;
-    use std::io::ErrorKind;
     use std::test::Fail;
 
     // A command line of these words, the program's name first.
@@ -78,6 +114,6 @@ mod tests {
     #[test]
     fn refuses_what_is_no_text(rt: HostRuntime) {
         let refused = words(&(CommandLine(&[b"tsbank", b"decode", b"\xff"]), rt.alloc()));
-        assert!(rt; refused.is_err_and(|error| error.kind() == ErrorKind::InvalidData));
+        assert_eq!(rt; refused.err(), Some(NoWords::NotText));
     }
 }
