@@ -1,7 +1,7 @@
 //! The files of the machine. They tell nothing of content, and count the machine's errors.
 use crate::failure::Failure;
 use crate::machine::write_some;
-use crate::opened::Opened;
+use crate::opened::{Opened, take_named};
 use bank_files::{Failed, Files, OUTPUT};
 use std::fs::OpenOptions;
 use std::{fs, io, rt};
@@ -70,10 +70,11 @@ impl<'a, R: rt::Files + Print + AllocGlobal> RealFiles<'a, R> {
         ensures name { IfOk result (λ file. IsOpenedBy file.name name.now) }
         ensures counted { self.new.faults ≡ self.old.faults }
     {
-        match self.reading.take() {
-            Some(file) if file.is_named(name) => Ok(file),
-            _ => Ok(Opened::new(self.rt.alloc(), name, fs::open(self.rt, name)?)),
+        if let Some(file) = take_named(&mut self.reading, name) {
+            return Ok(file);
         }
+        let file = fs::open(self.rt, name)?;
+        Ok(Opened::new(self.rt.alloc(), name, file))
     }
 
     // Reads the file of that name at that place, and keeps it open there.
@@ -95,16 +96,14 @@ impl<'a, R: rt::Files + Print + AllocGlobal> RealFiles<'a, R> {
         ensures name { IfOk result (λ file. IsOpenedBy file.name name.now) }
         ensures counted { self.new.faults ≡ self.old.faults }
     {
-        match self.writing.take() {
-            Some(file) if file.is_named(name) => Ok(file),
-            _ => {
-                let file = OpenOptions::new()
-                    .append(true)
-                    .create(true)
-                    .open(self.rt, name)?;
-                Ok(Opened::new(self.rt.alloc(), name, file))
-            }
+        if let Some(file) = take_named(&mut self.writing, name) {
+            return Ok(file);
         }
+        let file = OpenOptions::new()
+            .append(true)
+            .create(true)
+            .open(self.rt, name)?;
+        Ok(Opened::new(self.rt.alloc(), name, file))
     }
 
     // Writes to the end of the file of that name, and keeps it open.

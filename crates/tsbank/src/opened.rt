@@ -43,6 +43,17 @@ impl<F> Opened<F> {
     }
 }
 
+/// Takes the open file away, and hands it on if it was opened by this name.
+pub fn take_named<F: Drop>(open: &mut Option<Opened<F>>, name: &str) -> Option<Opened<F>>
+    ensures name { IfSome result (λ file. IsOpenedBy file.name name.now) }
+    ensures same { IfSome result (λ file. open.old ≡ Some file) }
+{
+    match open.take() {
+        Some(file) if file.is_named(name) => Some(file),
+        _ => None,
+    }
+}
+
 impl<F: Read + Seek> Opened<F> {
     /// Reads from place `at`, in bytes from the file's start. It seeks only where the file doesn't stand
     /// there already, so what can't seek is read from its start on.
