@@ -1,4 +1,5 @@
 //! The words of the command line, without the program's name.
+use crate::{NO_MEMORY, WORDS_REFUSED};
 use std::alloc::AllocError;
 use std::env::FillError;
 use std::io::ErrorKind;
@@ -12,6 +13,21 @@ pub enum NoWords {
     NotText,
     /// There is no memory for them.
     NoMemory,
+}
+
+impl NoWords {
+    ghost use Rattle.std.specs.Prelude.{◌≡◌};
+    ghost use Rattle.tsbank.specs.CommandLine.{status_without_words};
+
+    /// The status of the run.
+    pub fn status(self) -> u8
+        ensures { result ≡ status_without_words self }
+    {
+        match self {
+            NoWords::NotText => WORDS_REFUSED,
+            NoWords::NoMemory => NO_MEMORY,
+        }
+    }
 }
 
 impl From<io::Error> for NoWords {

@@ -13,9 +13,8 @@ mod opened;
 #[cfg(test)]
 mod tests;
 
-use command_line::NoWords;
 use files::RealFiles;
-use messages::{explain, explain_not_text};
+use messages::{explain, explain_no_words};
 use std::process::ExitCode;
 use std::rt;
 
@@ -36,13 +35,9 @@ fn main(rt: HostRuntime) -> ExitCode {
 pub(crate) fn status<R: rt::Files + rt::Env + Print + Eprint + AllocGlobal>(rt: &R) -> u8 {
     match command_line::words(rt) {
         Ok(words) => run(rt, &words),
-        Err(NoWords::NotText) => {
-            explain_not_text(rt);
-            WORDS_REFUSED
-        }
-        Err(NoWords::NoMemory) => {
-            explain(rt, NO_MEMORY, None);
-            NO_MEMORY
+        Err(why) => {
+            explain_no_words(rt, why);
+            why.status()
         }
     }
 }

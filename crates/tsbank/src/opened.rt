@@ -1,6 +1,7 @@
 //! Files that stay open from one call to the next, so that a file in pieces is opened once.
-ghost use Rattle.std.specs.Prelude.{◌≡◌, ◌+◌, ◌<◌, ◌≤◌, length, IfOk, IfSome, IsTrue, Some};
+ghost use Rattle.std.specs.Prelude.{◌≡◌, ◌≢◌, ◌+◌, ◌<◌, ◌≤◌, length, is_ok, true, IfOk, OnOk, IfSome, IsTrue, Some};
 ghost use Rattle.std.specs.Io.KnownBytes.{ReadConsumes, WriteAppends};
+ghost use Rattle.std.specs.Io.Seek.{MovesTo};
 ghost use Rattle.tsbank.specs.Opened.{IsOpenedBy};
 
 use crate::machine::{read_some, write_some};
@@ -55,8 +56,25 @@ pub fn take_named<F: Drop>(open: &mut Option<Opened<F>>, name: &str) -> Option<O
 }
 
 impl<F: Read + Seek> Opened<F> {
-    /// Reads from place `at`, in bytes from the file's start. It seeks only where the file doesn't stand
-    /// there already, so what can't seek is read from its start on.
+    // Goes to place `at`. It seeks only where the file doesn't stand there already, so what can't seek is read
+    // from its start on.
+    fn go_to(&mut self, at: u64) -> io::Result<()>
+        ensures place { OnOk result (self.new.place ≡ Some at) }
+        ensures stays { self.old.place ≡ Some at → is_ok result ≡ true × (self.new.file ≡ self.old.file) }
+        ensures moves { self.old.place ≢ Some at →
+            MovesTo (F.stream_position self.old.file) (F.stream_position self.new.file) at result }
+        ensures name { self.new.name ≡ self.old.name }
+    {
+        if self.place == Some(at) {
+            return Ok(());
+        }
+        self.place = None;
+        self.file.seek(SeekFrom::Start(at))?;
+        self.place = Some(at);
+        Ok(())
+    }
+
+    /// Reads from place `at`, in bytes from the file's start.
     pub fn read_at(&mut self, at: u64, into: &mut [u8]) -> io::Result<usize>
         ensures length { IfOk result (λ n. n ≤ length into.old) }
         ensures here { self.old.place ≡ Some at →
@@ -64,10 +82,7 @@ impl<F: Read + Seek> Opened<F> {
         ensures next { IfOk result (λ n. IfSome self.new.place (λ next. next ≡ at + n)) }
         ensures name { self.new.name ≡ self.old.name }
     {
-        if self.place != Some(at) {
-            self.place = None;
-            self.file.seek(SeekFrom::Start(at))?;
-        }
+        self.go_to(at)?;
         let count = read_some(&mut self.file, into)?;
         self.place = at.checked_add(count as u64);
         Ok(count)

@@ -1,8 +1,8 @@
 //! Runs of the whole program, over made-up words. The texts are worked out from docs/FORMATS.md.
+use crate::command_line::NoWords;
 use crate::fake::{Fake, holds};
-use crate::messages::explain;
+use crate::messages::{explain, explain_no_words};
 use crate::status;
-use std::io;
 use std::test::Fail;
 
 // More than standard output gets in any of these runs.
@@ -48,6 +48,14 @@ fn refuses_a_word_that_is_no_text(rt: HostRuntime) -> Result<(), Fail> {
     let text = format!(in rt.alloc(); "tsbank: a word isn't UTF-8\n{USAGE}")?;
     assert!(rt; holds(&fake.error, text.as_str()));
     Ok(())
+}
+
+#[test]
+fn ends_without_memory_for_its_words(rt: HostRuntime) {
+    let fake = Fake::new(&rt, &[], AMPLE);
+    explain_no_words(&fake, NoWords::NoMemory);
+    assert!(rt; holds(&fake.error, "tsbank: out of memory\n"));
+    assert_eq!(rt; NoWords::NoMemory.status(), 7);
 }
 
 #[test]
