@@ -23,7 +23,7 @@ pub struct RealFiles<'a, R: rt::Files + Print + AllocGlobal> {
 }
 
 impl<'a, R: rt::Files + Print + AllocGlobal> RealFiles<'a, R> {
-    ghost use Rattle.std.specs.Prelude.{◌≡◌, ◌+◌, ◌<◌, ◌≤◌, length, IfOk, IfErr, IfSome, IsSomeAnd, OnErr, None, is_ok, if◌then◌else◌, string_bytes};
+    ghost use Rattle.std.specs.Prelude.{◌≡◌, ◌+◌, ◌<◌, ◌≤◌, length, IfOk, IfErr, IfSome, IsSomeAnd, OnOk, OnErr, None, is_ok, if◌then◌else◌, string_bytes};
     ghost use Rattle.bank_files.specs.Fault.{HasFault, raised};
     ghost use Rattle.tsbank.specs.Opened.{IsOpenedBy};
 
@@ -51,6 +51,7 @@ impl<'a, R: rt::Files + Print + AllocGlobal> RealFiles<'a, R> {
         ensures counted { self.new.faults
             ≡ (if is_ok answer then self.old.faults else raised self.old.faults) }
         ensures cause { OnErr result (HasFault self.old.faults self.new.faults) }
+        ensures same { OnOk result (self.new.faults ≡ self.old.faults) }
         ensures no_less { self.old.faults ≤ self.new.faults }
         ensures failure { IfErr answer (λ error. IfSome self.new.failure (λ failure.
             (string_bytes failure.name ≡ name.now) × (failure.error ≡ error))) }
@@ -134,14 +135,9 @@ impl<'a, R: rt::Files + Print + AllocGlobal> RealFiles<'a, R> {
 }
 
 impl<'a, R: rt::Files + Print + AllocGlobal> Files for RealFiles<'a, R> {
-    ghost use Rattle.bank_files.specs.Told.{Untold};
-    ghost use Rattle.tsbank.specs.RealFiles.{untold_is_there};
+    ghost use Rattle.tsbank.specs.RealFiles.{untold, untold_is_there};
 
-    ghost told = { λ _ _. Untold };
-
-    ghost read_faults = { λ files _. files.faults };
-
-    ghost write_faults = { λ files _. files.faults };
+    ghost view = { λ files. untold files.faults };
 
     ghost output_is_there = { λ _. untold_is_there };
 

@@ -16,7 +16,7 @@ mod tests;
 use files::RealFiles;
 use messages::{explain, explain_no_words};
 use std::process::ExitCode;
-use std::rt;
+use std::{fs, rt};
 
 /// The status of a run whose words aren't in order.
 pub(crate) const WORDS_REFUSED: u8 = 3;
@@ -28,7 +28,14 @@ pub(crate) const FILE_FAILED: u8 = 6;
 pub(crate) const NO_MEMORY: u8 = 7;
 
 fn main(rt: HostRuntime) -> ExitCode {
+    let _held = (hold(&rt), hold(&rt), hold(&rt));
     ExitCode::from(status(&rt))
+}
+
+// Opens a file that takes nothing, so that its number is taken. Where a standard stream was closed, a file that
+// is opened later would get the stream's number, and what is printed.
+fn hold<R: rt::Files>(rt: &R) -> Option<R::File> {
+    fs::open(rt, "/dev/null").ok()
 }
 
 // The status that the run ends with. Where the words can't be had, nothing is printed.
