@@ -16,6 +16,7 @@ use Rattle.definitions.specs.time.Summer.{season_at, us_begins, us_ends, us_code
 use Rattle.definitions.specs.codes.Allowed.{IsSetOf, allowed, dcf_facts, msf_facts, wwvb_facts, jjy_facts}
 use Rattle.definitions.specs.codes.Dcf77 as dcf
 use Rattle.definitions.specs.codes.Msf as msf
+use Rattle.definitions.specs.codes.MarkedCode as marked
 use Rattle.definitions.specs.codes.Wwvb as wwvb
 use Rattle.definitions.specs.codes.Jjy as jjy
 
@@ -143,8 +144,8 @@ wwvb_set f s code lt =
 
 pub jjy_bit : (f : JjyFacts) (s : ℕ) → IsBit (jjy.jjy_bit f s)
 jjy_bit f s =
-    either IsBit (s == 36) _ _ (mod_bit (ones jjy.hour_weights f.hour))
-    (either IsBit (s == 37) _ _ (mod_bit (ones jjy.minute_weights f.minute))
+    either IsBit (s == 36) _ _ (mod_bit (ones marked.hour_weights f.hour))
+    (either IsBit (s == 37) _ _ (mod_bit (ones marked.minute_weights f.minute))
     (either IsBit (is_within 53 54 s) _ _ (flag f.leap) (carried (jjy.jjy_fields f) s)))
 
 jjy_set : (f : JjyFacts) (s : ℕ) → s < (if f.long then 61 else 60) → IsSetOf Jjy (jjy.jjy_second f s)

@@ -2,6 +2,7 @@
 pub mod Vocabulary
 pub mod Dcf77
 pub mod Msf
+pub mod MarkedCode
 pub mod Wwvb
 pub mod Jjy
 pub mod Allowed
