@@ -138,7 +138,7 @@ wwvb_bit f s lt =
 wwvb_set : (f : WwvbFacts) (s : ℕ) → f.us_code < 4 → s < (if f.long then 61 else 60) → IsSetOf Wwvb (wwvb.wwvb_second f s)
 wwvb_set f s code lt =
     in_minute Wwvb s (if f.long then 61 else 60) _ lt
-    (either (IsSetOf Wwvb) (wwvb.is_marked s) _ _ (one_set Wwvb wwvb.marker (omega arith))
+    (either (IsSetOf Wwvb) (wwvb.is_marked s) _ _ (one_set Wwvb marked.marker (omega arith))
     (either (IsSetOf Wwvb) (is_within 36 38 s || is_within 40 43 s) _ _ (free_set Wwvb)
     (bit_set Wwvb (wwvb.wwvb_bit f s) (wwvb_bit f s code))))
 
@@ -151,7 +151,7 @@ jjy_bit f s =
 jjy_set : (f : JjyFacts) (s : ℕ) → s < (if f.long then 61 else 60) → IsSetOf Jjy (jjy.jjy_second f s)
 jjy_set f s lt =
     in_minute Jjy s (if f.long then 61 else 60) _ lt
-    (either (IsSetOf Jjy) (jjy.is_marked f s) _ _ (one_set Jjy jjy.marker (omega arith))
+    (either (IsSetOf Jjy) (jjy.is_marked f s) _ _ (one_set Jjy marked.marker (omega arith))
     (either (IsSetOf Jjy) (jjy.is_call_minute f && is_within 40 48 s) _ _ (inl refl)
     (either (IsSetOf Jjy) (jjy.is_call_minute f && is_within 50 55 s) _ _ (free_set Jjy)
     (bit_set Jjy (jjy.jjy_bit f s) (jjy_bit f s)))))
