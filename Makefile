@@ -20,12 +20,14 @@ IN_CRATE = test -n "$$CRATE" && test -d "crates/$$CRATE" || { echo "which crate?
 help: ## lists these targets
 	@sed -n 's/^\([a-z]*\):.*## \(.*\)/make \1|\2/p' Makefile | awk -F'|' '{ printf "%-15s %s\n", $$1, $$2 }'
 
-run: ## decodes the sample log; where no proved program stands, by a quick run that proves nothing (under a minute)
+run: ## decodes the sample log: by build/tsbank, or in about a minute by an unproved run where that is missing or old
 	@if $(FRESH); then \
 		build/tsbank decode 2024-06-10 sample/jjy-2024-06-10.log; \
 	else \
-		echo "make run: no proved program of these sources stands (make build makes it), so this is the unproved one" >&2; \
-		cd crates/tsbank && rt try --data sample.log=../../sample/jjy-2024-06-10.log -- decode 2024-06-10 sample.log; \
+		echo "make run: no proved program of these sources stands (make build makes it); this quick run proves nothing" >&2; \
+		install -d build && cd crates/tsbank && \
+		rt try --seconds 600 --data sample.log=../../sample/jjy-2024-06-10.log -- decode 2024-06-10 sample.log \
+			2> ../../build/quick-run.txt || { cat ../../build/quick-run.txt >&2; exit 1; }; \
 	fi
 
 build: ## proves the program's crates and leaves build/tsbank (minutes at first)
