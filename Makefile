@@ -36,7 +36,7 @@ build: ## proves the program's crates and leaves build/tsbank (minutes at first)
 	install -m 755 crates/tsbank/out/tsbank build/tsbank
 
 install: ## puts the program into PREFIX/bin (PREFIX is /usr/local), and builds it first where need be
-	$(FRESH) || $(MAKE) build
+	@$(FRESH) || $(MAKE) build
 	install -d "$$DESTDIR$$PREFIX/bin"
 	install -m 755 build/tsbank "$$DESTDIR$$PREFIX/bin/tsbank"
 
@@ -44,7 +44,7 @@ test: toolchain ## the gate: proves all, tries the edits, runs the tests and the
 	.ci/run
 
 toolchain: ## compares README's line of the toolchain with the one at hand
-	@grep -qxF "    $$(rt version)" README.md || { echo "README.md doesn't name this toolchain: $$(rt version)" >&2; exit 1; }
+	@grep -qF "$$(rt version)" README.md || { echo "README.md names another toolchain than this: $$(rt version)" >&2; exit 1; }
 
 check: ## proves one crate: CRATE=NAME
 	@$(IN_CRATE) && rt check
@@ -62,7 +62,7 @@ fmt: ## lays out the files of every crate
 	@for crate in crates/*/; do (cd "$$crate" && rt fmt) || exit 1; done
 
 bench: ## measures the program: speed, memory, and how often its answers are wrong
-	$(FRESH) || $(MAKE) build
+	@$(FRESH) || $(MAKE) build
 	bench/run
 	bench/wrong-answers
 
