@@ -1,12 +1,70 @@
-# make run decodes the sample log by the proved program; make test runs the merge gate.
-.PHONY: run test
+# What can be done here. `make` alone lists it.
 
-# rt proves and builds the program where something has changed, and runs it once; what counts is its status below.
-run:
-	mkdir -p build
-	cd crates/tsbank && rt run -- decode 2024-06-10 '$(CURDIR)/sample/jjy-2024-06-10.log' > /dev/null
-	cp -f crates/tsbank/out/tsbank build/tsbank
-	build/tsbank decode 2024-06-10 sample/jjy-2024-06-10.log
+# Where `make install` puts the program: DESTDIR stands before PREFIX, as for packages.
+PREFIX ?= /usr/local
+DESTDIR ?=
+# A crate of crates.txt, for the targets that work on one: make check CRATE=pulse_log
+CRATE ?=
+export PREFIX DESTDIR CRATE
 
-test:
+# Whether build/tsbank stands and is no older than any source.
+FRESH = test -x build/tsbank && test -z "$$(find crates.txt crates -name out -prune -o -type f \
+	\( -name '*.rt' -o -name '*.antt' -o -name crates.txt \) -newer build/tsbank -print)"
+
+# Goes to the crate that was named.
+IN_CRATE = test -n "$$CRATE" && test -d "crates/$$CRATE" || { echo "which crate? make $@ CRATE=pulse_log" >&2; exit 2; }; \
+	cd "crates/$$CRATE"
+
+.PHONY: help run build install test check try edits plant fmt bench clean toolchain
+
+help: ## lists these targets
+	@sed -n 's/^\([a-z]*\):.*## \(.*\)/make \1|\2/p' Makefile | awk -F'|' '{ printf "%-15s %s\n", $$1, $$2 }'
+
+run: ## decodes the sample log: by build/tsbank, or in about a minute by an unproved run where that is missing or old
+	@if $(FRESH); then \
+		build/tsbank decode 2024-06-10 sample/jjy-2024-06-10.log; \
+	else \
+		echo "make run: no proved program of these sources stands (make build makes it); this quick run proves nothing" >&2; \
+		install -d build && cd crates/tsbank && \
+		rt try --seconds 600 --data sample.log=../../sample/jjy-2024-06-10.log -- decode 2024-06-10 sample.log \
+			2> ../../build/quick-run.txt || { cat ../../build/quick-run.txt >&2; exit 1; }; \
+	fi
+
+build: ## proves the program's crates and leaves build/tsbank (minutes at first)
+	cd crates/tsbank && rt run -- decode 2024-06-10 ../../sample/jjy-2024-06-10.log > /dev/null
+	install -d build
+	install -m 755 crates/tsbank/out/tsbank build/tsbank
+
+install: ## puts the program into PREFIX/bin (PREFIX is /usr/local), and builds it first where need be
+	@$(FRESH) || $(MAKE) build
+	install -d "$$DESTDIR$$PREFIX/bin"
+	install -m 755 build/tsbank "$$DESTDIR$$PREFIX/bin/tsbank"
+
+test: toolchain ## the gate: proves all, tries the edits, runs the tests and the program
 	.ci/run
+
+toolchain: ## compares README's line of the toolchain with the one at hand
+	@grep -qF "$$(rt version)" README.md || { echo "README.md names another toolchain than this: $$(rt version)" >&2; exit 1; }
+
+check: ## proves one crate: CRATE=NAME
+	@$(IN_CRATE) && rt check
+
+try: ## runs one crate's tests unproved, in seconds: CRATE=NAME
+	@$(IN_CRATE) && rt try --test
+
+edits: ## tries the wrong bodies of one crate, each of which must be refused: CRATE=NAME
+	@$(IN_CRATE) && cd ../.. && rt must-fail "$$CRATE"
+
+plant: ## lists wrong bodies that one crate's contracts let through: CRATE=NAME
+	@$(IN_CRATE) && rt plant
+
+fmt: ## lays out the files of every crate
+	@for crate in crates/*/; do (cd "$$crate" && rt fmt) || exit 1; done
+
+bench: ## measures the program: speed, memory, and how often its answers are wrong
+	@$(FRESH) || $(MAKE) build
+	bench/run
+	bench/wrong-answers
+
+clean: ## removes what was built and what checks kept (some gigabytes)
+	rm -rf crates/*/out build
