@@ -16,12 +16,12 @@ use Rattle.definitions.specs.sequences.Walks.{set_at}
 use Rattle.definitions.specs.heard.Costs.{bank_costs, set_cost}
 use Rattle.definitions.specs.answers.Answers.{IsAnswer}
 use Rattle.definitions.specs.answers.FirstTwo.{AreLeastTwo, IsKey, answer_from}
-use Rattle.due.specs.Owed.{IsOfDay, bank_of, day_cost, day_window}
+use Rattle.due.specs.Days.{IsOfDay, bank_of, day_cost, day_window}
 use Rattle.due.proofs.DayLaws.{of_day}
 use Rattle.definitions.proofs.CostLaws.{set_cost_same, sum_below_same}
 use Rattle.definitions.proofs.EndLaws.{answer_is}
 use Rattle.symbol_cost.specs.Grid.{Grid, HasCosts, IsPriced, cost_at}
-use Rattle.texts.specs.Writing.{IsReportable}
+use Rattle.texts.specs.Reportable.{IsReportable}
 use Rattle.bank.specs.Plain.{IsPlain, row_cost}
 use Rattle.bank.proofs.KeyLaws.{keep_least}
 use Rattle.bank.proofs.StationLaws.{cost_of_jjy}
