@@ -72,5 +72,5 @@ day_answer day within log grid has first second least =
 -- its sequences can be shown
 pub reportable : (day : ℕ) → day < century_days → (cost : Sequence → ℕ) (answer : Answer) → IsAnswer (IsOfDay day) cost answer → IsReportable (day_window day) answer
 reportable day within cost Nothing is = tt
-reportable day within cost (Decided c q next) is = (omega arith, of_day day q within is.0.is_admitted, is.0.is_admitted.0)
+reportable day within cost (Decided c q next) is = (omega arith, omega arith, of_day day q within is.0.is_admitted, is.0.is_admitted.0)
 reportable day within cost (Undecided c q r) is = (of_day day q within is.0.are_admitted.0, of_day day r within is.0.are_admitted.1)
