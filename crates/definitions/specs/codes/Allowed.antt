@@ -41,6 +41,7 @@ zone_of Jjy = Japan
 abbrev pub encoded_fields : Station → ℕ → Fields
 encoded_fields station t = zone_fields (zone_of station) (encoded_minute station t)
 
+-- the year of these fields
 abbrev pub encoded_year : Station → ℕ → ℕ
 encoded_year station t = (encoded_fields station t).year
 

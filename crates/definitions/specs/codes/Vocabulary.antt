@@ -25,7 +25,7 @@ weights_from second [] = []
 weights_from second (w ∷ ws) = (second, w) ∷ weights_from (second + 1) ws
 
 -- A number is written digit by digit: the weights 1 to 8 carry the units, 10 to 80 the tens, 100 and 200 the
--- hundreds, each digit in binary.
+-- hundreds, each digit in binary: BCD.
 -- the bit of the number's digits that has this weight
 abbrev pub digit_bit : ℕ → ℕ → ℕ
 digit_bit value weight =

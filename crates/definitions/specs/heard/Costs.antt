@@ -44,7 +44,7 @@ slot_cost table receptions station begin k x =
 abbrev pub Costs : Type 0
 Costs = Station → ℕ → ℕ → ℕ
 
--- those of a bank whose first slot begins at this millisecond
+-- those of a bank whose first slot begins at this millisecond of the log: the window's start and the phase together
 abbrev pub bank_costs : CostTable → List Receiver → ℕ → Costs
 bank_costs table bank begin station = slot_cost table (heard_of station bank) station begin
 

@@ -38,7 +38,7 @@ abbrev pub wwvb_sign : ℤ → ℕ → ℕ
 wwvb_sign (pos n) s = if s == 37 then 0 else 1
 wwvb_sign (negsuc n) s = if s == 37 then 1 else 0
 
--- and the tenths in binary behind it
+-- WWVB: the sign, and the tenths in binary in the seconds 40 to 43
 abbrev pub wwvb_dut1 : ℤ → ℕ → ℕ
 wwvb_dut1 d s =
     if is_within 36 38 s then wwvb_sign d s

@@ -19,7 +19,7 @@ abbrev pub level_at : Records → ℕ → Level
 level_at log m =
     if list_any (λ r. nat_lt m r.0) log then last_level (filter (λ r. nat_le r.0 m) log) else Unknown
 
--- one more millisecond of this level: its count where all so far is known
+-- how many of some milliseconds are low, with one more of this level; none where one of them is unknown
 abbrev pub count_level : Level → Option ℕ → Option ℕ
 count_level level None = None
 count_level Low (Some n) = Some (n + 1)

@@ -24,7 +24,8 @@ season_at begins ends (suc n) =
     let s = season_at begins ends n in
     (next_day s.0, if begins s.0 then true else if ends s.0 then false else s.1)
 
--- Europe: from the last Sunday of March to the last Sunday of October, at 01:00 UTC. The rule is kept to 2099.
+-- Europe: from the last Sunday of March to the last Sunday of October, at 01:00 UTC (Directive 2000/84/EC). The rule is
+-- kept to 2099.
 abbrev pub eu_season : ℕ → Bool
 eu_season n = (season_at (is_last_sunday 3) (is_last_sunday 10) n).1
 
@@ -47,14 +48,14 @@ eu_change_within t zero = false
 eu_change_within t (suc n) = is_eu_change (t + suc n) || eu_change_within t n
 
 -- The United States: to 2006 from the first Sunday of April to the last of October, from 2007 on from the second
--- Sunday of March to the first of November. The rule is kept to 2099.
+-- Sunday of March to the first of November (Energy Policy Act of 2005). The rule is kept to 2099.
 abbrev pub us_begins : Day → Bool
 us_begins d = if nat_lt d.year 2007 then is_first_sunday 4 d else is_second_sunday 3 d
 
 abbrev pub us_ends : Day → Bool
 us_ends d = if nat_lt d.year 2007 then is_last_sunday 10 d else is_first_sunday 11 d
 
--- WWVB's two bits by the UTC day: 2 as summer time begins on it, 3 in summer time, 1 as it ends on it, 0 otherwise
+-- WWVB's two bits by the UTC day (NIST Special Publication 432): 2 as summer time begins on it, 3 in summer time, 1 as it ends on it, 0 otherwise
 abbrev pub us_code_on : Day × Bool → ℕ
 us_code_on s = if us_begins s.0 then 2 else if us_ends s.0 then 1 else if s.1 then 3 else 0
 

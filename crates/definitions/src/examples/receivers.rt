@@ -11,6 +11,7 @@ ghost use Rattle.definitions.specs.heard.Dut1.{dut1_values};
 ghost use Rattle.definitions.specs.heard.Logs.{level_at};
 ghost use Rattle.definitions.specs.heard.Phase.{phase_of, start_edges};
 ghost use Rattle.definitions.specs.heard.Costs.{bank_costs, sequence_cost, set_cost, station_cost};
+ghost use Rattle.definitions.specs.codes.Allowed.{stations_of};
 ghost use Rattle.definitions.specs.codes.Vocabulary.{free};
 ghost use Rattle.definitions.specs.examples.Receivers.{at_odds, costs_in, dut_heard, each_change, heard, ones_heard, rises_at, two_pulses};
 ghost use Rattle.definitions.specs.examples.Sequences.{from_place, window_of};
@@ -108,6 +109,12 @@ pub fn values_of_dut1()
     ensures wwvb { dut1_values Wwvb ≡ map negsuc (8 ∷ 7 ∷ 6 ∷ 5 ∷ 4 ∷ 3 ∷ 2 ∷ 1 ∷ 0 ∷ []) ++ map pos (range_with_len 0 10) }
     ensures dcf77 { dut1_values Dcf77 ≡ [] }
     ensures jjy { dut1_values Jjy ≡ [] }
+{}
+
+/// The stations of a bank, in their order, by the bits of its mask.
+pub fn stations_are_listed()
+    ensures all { stations_of (record { mask = 15 }) ≡ Dcf77 ∷ Msf ∷ Wwvb ∷ Jjy ∷ [] }
+    ensures some { stations_of (record { mask = 6 }) ≡ Msf ∷ Wwvb ∷ [] }
 {}
 
 /// At one for each second, a minute costs 60 for each station, and at JJY 9 less where it isn't scored.
