@@ -6,6 +6,8 @@ mod page;
 mod pieces;
 mod refusal;
 mod report;
+#[cfg(test)]
+mod tests;
 
 pub use formats::Refusal;
 pub use refusal::write_refusal;
