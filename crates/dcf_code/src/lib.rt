@@ -52,7 +52,9 @@ pub fn telegram(facts: &DcfFacts) -> [u8; 61]
     array::from_fn(|second| set_of(facts, second as u8))
 }
 
-fn set_of(facts: &DcfFacts, second: u8) -> u8
+/// The set of symbols that a second may carry, empty from the end of the minute on.
+pub fn set_of(facts: &DcfFacts, second: u8) -> u8
+    requires { AreInRange facts.now }
     ensures { result ≡ dcf_second facts.now second }
 {
     if second >= seconds_of(facts.long) {

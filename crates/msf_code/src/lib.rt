@@ -51,9 +51,12 @@ pub fn telegram(facts: &MsfFacts) -> [u8; 61]
     array::from_fn(|second| set_of(facts, second as u8))
 }
 
-// A minute of 61 seconds has one more after second 16, with both bits 0; its later seconds carry what comes a second
-// earlier in the code.
-fn set_of(facts: &MsfFacts, second: u8) -> u8
+/// The set of symbols that a second may carry, empty from the end of the minute on.
+///
+/// A minute of 61 seconds has one more after second 16, with both bits 0; its later seconds carry what comes a second
+/// earlier in the code.
+pub fn set_of(facts: &MsfFacts, second: u8) -> u8
+    requires { AreInRange facts.now }
     ensures { result ≡ msf_second facts.now second }
 {
     if second >= seconds_of(facts.long) {

@@ -20,10 +20,10 @@ module _ (stations : Stations) (t : ℕ) where
   -- one station that can't refutes all
   pub one_refutes : (station : Station) (test : Bool) → test ≡ false → (IsTrue test ↔ SilentOrEncodes station) → IsTrue false ↔ CanBeEncoded stations t
   one_refutes station test off means =
-    (λ no. cc, λ all. subst IsTrue off (means.1 (all.1 station)))
+      (λ no. cc, λ all. subst IsTrue off (means.1 (all.1 station)))
 
   -- all where the first three can, and the fourth is tested
   pub all_but_tested : (last : Bool) → t < century_minutes → SilentOrEncodes Dcf77 → SilentOrEncodes Msf → SilentOrEncodes Wwvb
       → (IsTrue last ↔ SilentOrEncodes Jjy) → IsTrue last ↔ CanBeEncoded stations t
   all_but_tested last century dcf77 msf wwvb means =
-    (λ on. (century, each_station SilentOrEncodes dcf77 msf wwvb (means.0 on)), λ all. means.1 (all.1 Jjy))
+      (λ on. (century, each_station SilentOrEncodes dcf77 msf wwvb (means.0 on)), λ all. means.1 (all.1 Jjy))

@@ -40,7 +40,9 @@ fn encodes(civil: &Civil, station: Station, t: u32) -> bool
     requires { t < century_minutes }
     ensures { result ≡ nat_lt (encoded_year station t) 2100 }
 {
-    civil.local(zone_of(station), encoded_minute(station, t)).is_some()
+    civil
+        .local(zone_of(station), encoded_minute(station, t))
+        .is_some()
 }
 
 // The zone in whose time the station sends.

@@ -3,12 +3,12 @@
 
 mod encoded;
 mod keys;
-mod legal;
+mod legality;
 mod telegrams;
 mod walks;
 
 pub use definitions::{Answer, Sequence};
 pub use keys::{GREATEST_COST, answer_of, ceiling_key, cost_of, index, key, sequence_of};
-pub use legal::walkable;
-pub use telegrams::{minute_length, telegram};
-pub use walks::{at, next_place};
+pub use legality::{legal, walkable};
+pub use telegrams::{minute_length, set_in, telegram};
+pub use walks::{allowed, at, next_place};

@@ -1,8 +1,9 @@
 //! What a minute sends.
 
-ghost use Rattle.std.specs.Prelude.{◌≡◌, ◌<◌};
+ghost use Rattle.std.specs.Prelude.{◌≡◌, ◌<◌, ◌≤◌};
 ghost use Rattle.definitions.specs.time.Calendar.{century_minutes, minute_length};
-ghost use Rattle.definitions.specs.codes.Allowed.{telegram_of};
+ghost use Rattle.definitions.specs.codes.Allowed.{allowed, encoded_year, telegram_of};
+ghost use Rattle.sequence.specs.Sets.{encoded_set};
 
 mod dcf;
 mod jjy;
@@ -10,11 +11,11 @@ mod msf;
 mod wwvb;
 
 use civil::Civil;
-use dcf::dcf_telegram;
-use jjy::jjy_telegram;
-use msf::msf_telegram;
+use dcf::{dcf_set, dcf_telegram};
+use jjy::{jjy_set, jjy_telegram};
+use msf::{msf_set, msf_telegram};
 use signal_base::Station;
-use wwvb::wwvb_telegram;
+use wwvb::{wwvb_set, wwvb_telegram};
 
 /// How many seconds a minute has, 60 or 61; `t` is below 52,596,000.
 pub fn minute_length(civil: &Civil, t: u32, announced: bool) -> u8
@@ -39,5 +40,30 @@ pub fn telegram(civil: &Civil, station: Station, t: u32, announced: bool) -> Opt
         Station::Msf => msf_telegram(civil, t, announced),
         Station::Wwvb => wwvb_telegram(civil, t, announced),
         Station::Jjy => jjy_telegram(civil, t, announced),
+    }
+}
+
+/// The set of symbols that the station may carry in a second, given as minute and second, of a minute that it can encode.
+pub fn set_in(civil: &Civil, station: Station, announced: bool, place: (u32, u8)) -> u8
+    requires century { place.0 < century_minutes }
+    requires encoded { encoded_year station place.0 ≤ 2099 }
+    ensures { result ≡ allowed station announced place }
+{
+    match encoded_set(civil, station, announced, place) {
+        Some(set) => set,
+        None => unreachable!(),
+    }
+}
+
+// The same, or none where the station can't encode the minute.
+fn encoded_set(civil: &Civil, station: Station, announced: bool, place: (u32, u8)) -> Option<u8>
+    requires { place.0 < century_minutes }
+    ensures { result ≡ encoded_set station announced place }
+{
+    match station {
+        Station::Dcf77 => dcf_set(civil, announced, place),
+        Station::Msf => msf_set(civil, announced, place),
+        Station::Wwvb => wwvb_set(civil, announced, place),
+        Station::Jjy => jjy_set(civil, announced, place),
     }
 }

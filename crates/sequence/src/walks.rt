@@ -2,11 +2,13 @@
 
 ghost use Rattle.std.specs.Prelude.{◌≡◌, ◌<◌, ◌≤◌, None, Some, if◌then◌else◌, nat_lt};
 ghost use Rattle.definitions.specs.time.Calendar.{century_minutes};
-ghost use Rattle.definitions.specs.sequences.Walks.{IsSequence, next_place, place_at};
+ghost use Rattle.definitions.specs.sequences.Walks.{IsSequence, next_place, place_at, set_at};
+ghost use Rattle.definitions.specs.codes.Allowed.{encoded_year};
 
-use crate::minute_length;
+use crate::{minute_length, set_in};
 use civil::Civil;
 use definitions::{CENTURY_MINUTES, Sequence};
+use signal_base::Station;
 
 /// The second after a second, both as minute and second; the minute is below 52,596,000.
 pub fn next_place(civil: &Civil, announced: bool, place: (u32, u8)) -> (u32, u8)
@@ -34,4 +36,18 @@ pub fn at(civil: &Civil, q: &Sequence, slot: u16) -> Option<(u32, u8)>
         }
     }
     Some(place)
+}
+
+/// The set of symbols that the station may carry in a slot of the walk, where that lies in a minute that the station can
+/// encode.
+pub fn allowed(civil: &Civil, station: Station, q: &Sequence, slot: u16) -> u8
+    requires sequence { IsSequence q.now }
+    requires century { (place_at q.now slot).0 < century_minutes }
+    requires encoded { encoded_year station (place_at q.now slot).0 ≤ 2099 }
+    ensures { result ≡ set_at station q.now slot }
+{
+    match at(civil, q, slot) {
+        Some(place) => set_in(civil, station, q.announced, place),
+        None => unreachable!(),
+    }
 }

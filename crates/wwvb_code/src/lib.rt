@@ -33,8 +33,9 @@ pub fn telegram(facts: &WwvbFacts) -> [u8; 61]
     array::from_fn(|second| set_of(facts, second as u8))
 }
 
-fn set_of(facts: &WwvbFacts, second: u8) -> u8
-    requires { facts.now.us_code < 4 }
+/// The set of symbols that a second may carry, empty from the end of the minute on.
+pub fn set_of(facts: &WwvbFacts, second: u8) -> u8
+    requires { AreInRange facts.now }
     ensures { result ≡ wwvb_second facts.now second }
 {
     if second >= seconds_of(facts.long) {

@@ -5,9 +5,10 @@ ghost use Rattle.signal_base.specs.declared.station.Station.TheVariants.{Dcf77};
 ghost use Rattle.definitions.specs.time.Calendar.{century_minutes};
 ghost use Rattle.definitions.specs.codes.Allowed.{dcf_facts, encoded_year, telegram_of};
 ghost use Rattle.definitions.specs.codes.Dcf77.{AreInRange};
+ghost use Rattle.sequence.specs.Sets.{encoded_set};
 
 use civil::{Civil, Zone};
-use dcf_code::{DcfFacts, telegram};
+use dcf_code::{DcfFacts, set_of, telegram};
 
 /// The telegram of DCF77, or none where the year that it would encode is 2100.
 pub fn dcf_telegram(civil: &Civil, t: u32, announced: bool) -> Option<[u8; 61]>
@@ -16,6 +17,16 @@ pub fn dcf_telegram(civil: &Civil, t: u32, announced: bool) -> Option<[u8; 61]>
 {
     let facts = dcf_facts(civil, t, announced)?;
     Some(telegram(&facts))
+}
+
+/// The set of symbols that a second of the minute may carry at DCF77, or none where the year that it would encode is
+/// 2100.
+pub fn dcf_set(civil: &Civil, announced: bool, place: (u32, u8)) -> Option<u8>
+    requires { place.0 < century_minutes }
+    ensures { result ≡ encoded_set Dcf77 announced place }
+{
+    let facts = dcf_facts(civil, place.0, announced)?;
+    Some(set_of(&facts, place.1))
 }
 
 // The facts of the next minute in Central Europe, and what the minute announces.

@@ -5,9 +5,10 @@ ghost use Rattle.signal_base.specs.declared.station.Station.TheVariants.{Jjy};
 ghost use Rattle.definitions.specs.time.Calendar.{century_minutes};
 ghost use Rattle.definitions.specs.codes.Allowed.{jjy_facts, encoded_year, telegram_of};
 ghost use Rattle.definitions.specs.codes.Jjy.{AreInRange};
+ghost use Rattle.sequence.specs.Sets.{encoded_set};
 
 use civil::{Civil, Zone};
-use jjy_code::{JjyFacts, telegram};
+use jjy_code::{JjyFacts, set_of, telegram};
 
 /// The telegram of JJY, or none where the year that it would encode is 2100.
 pub fn jjy_telegram(civil: &Civil, t: u32, announced: bool) -> Option<[u8; 61]>
@@ -16,6 +17,16 @@ pub fn jjy_telegram(civil: &Civil, t: u32, announced: bool) -> Option<[u8; 61]>
 {
     let facts = jjy_facts(civil, t, announced)?;
     Some(telegram(&facts))
+}
+
+/// The set of symbols that a second of the minute may carry at JJY, or none where the year that it would encode is
+/// 2100.
+pub fn jjy_set(civil: &Civil, announced: bool, place: (u32, u8)) -> Option<u8>
+    requires { place.0 < century_minutes }
+    ensures { result ≡ encoded_set Jjy announced place }
+{
+    let facts = jjy_facts(civil, place.0, announced)?;
+    Some(set_of(&facts, place.1))
 }
 
 // The facts of the minute in Japan, and what the minute announces.

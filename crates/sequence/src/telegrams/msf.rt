@@ -5,9 +5,10 @@ ghost use Rattle.signal_base.specs.declared.station.Station.TheVariants.{Msf};
 ghost use Rattle.definitions.specs.time.Calendar.{century_minutes};
 ghost use Rattle.definitions.specs.codes.Allowed.{msf_facts, encoded_year, telegram_of};
 ghost use Rattle.definitions.specs.codes.Msf.{AreInRange};
+ghost use Rattle.sequence.specs.Sets.{encoded_set};
 
 use civil::{Civil, Zone};
-use msf_code::{MsfFacts, telegram};
+use msf_code::{MsfFacts, set_of, telegram};
 
 /// The telegram of MSF, or none where the year that it would encode is 2100.
 pub fn msf_telegram(civil: &Civil, t: u32, announced: bool) -> Option<[u8; 61]>
@@ -16,6 +17,16 @@ pub fn msf_telegram(civil: &Civil, t: u32, announced: bool) -> Option<[u8; 61]>
 {
     let facts = msf_facts(civil, t, announced)?;
     Some(telegram(&facts))
+}
+
+/// The set of symbols that a second of the minute may carry at MSF, or none where the year that it would encode is
+/// 2100.
+pub fn msf_set(civil: &Civil, announced: bool, place: (u32, u8)) -> Option<u8>
+    requires { place.0 < century_minutes }
+    ensures { result ≡ encoded_set Msf announced place }
+{
+    let facts = msf_facts(civil, place.0, announced)?;
+    Some(set_of(&facts, place.1))
 }
 
 // The facts of the next minute in the United Kingdom, and what the minute announces.

@@ -5,9 +5,10 @@ ghost use Rattle.signal_base.specs.declared.station.Station.TheVariants.{Wwvb};
 ghost use Rattle.definitions.specs.time.Calendar.{century_minutes};
 ghost use Rattle.definitions.specs.codes.Allowed.{wwvb_facts, encoded_year, telegram_of};
 ghost use Rattle.definitions.specs.codes.Wwvb.{AreInRange};
+ghost use Rattle.sequence.specs.Sets.{encoded_set};
 
 use civil::{Civil, Zone};
-use wwvb_code::{WwvbFacts, telegram};
+use wwvb_code::{WwvbFacts, set_of, telegram};
 
 /// The telegram of WWVB, or none where the year that it would encode is 2100.
 pub fn wwvb_telegram(civil: &Civil, t: u32, announced: bool) -> Option<[u8; 61]>
@@ -16,6 +17,16 @@ pub fn wwvb_telegram(civil: &Civil, t: u32, announced: bool) -> Option<[u8; 61]>
 {
     let facts = wwvb_facts(civil, t, announced)?;
     Some(telegram(&facts))
+}
+
+/// The set of symbols that a second of the minute may carry at WWVB, or none where the year that it would encode is
+/// 2100.
+pub fn wwvb_set(civil: &Civil, announced: bool, place: (u32, u8)) -> Option<u8>
+    requires { place.0 < century_minutes }
+    ensures { result ≡ encoded_set Wwvb announced place }
+{
+    let facts = wwvb_facts(civil, place.0, announced)?;
+    Some(set_of(&facts, place.1))
 }
 
 // The facts of the minute in UTC, and what the minute announces.

@@ -1,7 +1,7 @@
 use Rattle.std.proofs.Common.{◌≡◌, ℕ, ◌<◌, ◌≤◌}
 use Rattle.definitions.specs.codes.Allowed.{CanBeEncoded}
 use Rattle.definitions.specs.sequences.Walks.{place_at}
-use Rattle.sequence.proofs.legal.walks_through_encoded.Given as goal
+use Rattle.sequence.proofs.legality.walks_through_encoded.Given as goal
 
 abbrev pub invariant-loop : goal.invariant-loop
 invariant-loop l = record {
