@@ -15,8 +15,8 @@ pub const TEXT_ROOM: usize = 2_048;
 pub type Text = ArrayString<TEXT_ROOM>;
 
 /// Adds a number in decimal digits, at most 20.
-pub fn push_number(text: &mut Text, n: u64)
-    requires { array_string_len text.old + 20 ≤ TEXT_ROOM }
+pub fn push_number<const ROOM: usize>(text: &mut ArrayString<ROOM>, n: u64)
+    requires { array_string_len text.old + 20 ≤ ROOM }
     ensures bytes { text.new.bytes ≡ text.old.bytes ++ decimal n }
     ensures len { array_string_len text.new ≤ array_string_len text.old + 20 }
 {

@@ -1,11 +1,10 @@
 -- There is at most one answer.
-use Rattle.std.proofs.Common.{◌≡◌, ◌≢◌, ℕ, ◌<◌, ◌≤◌, ◌⊎◌, inl, inr, Bool, true, false, Option, Some, None, MatchOption, refl, sym, ap, ◌∙◌, subst, ◌&&◌, if◌then◌else◌, arith}
+use Rattle.std.proofs.Common.{◌≡◌, ◌≢◌, ℕ, ◌<◌, ◌≤◌, ◌⊎◌, inl, inr, Bool, true, false, Option, Some, None, MatchOption, refl, sym, ap, ◌∙◌, ◌&&◌, if◌then◌else◌, arith}
 use Rattle.std.proofs.lemmas.Bool.{cases_eq}
 use Rattle.definitions.specs.declared.sequence.Sequence.{Sequence}
 use Rattle.definitions.specs.declared.answer.Answer.{Answer}
 use Rattle.definitions.specs.declared.answer.Answer.TheVariants.{Nothing, Decided, Undecided}
-use Rattle.definitions.specs.time.Calendar.{century_days, century_minutes, minute_length, is_leap_end}
-use Rattle.definitions.specs.heard.Logs.{Records}
+use Rattle.definitions.specs.time.Calendar.{century_minutes, is_leap_end}
 use Rattle.signal_base.specs.declared.window.Window.{Window}
 use Rattle.definitions.specs.sequences.Walks.{IsSequence, IsWalkable, IsLegal}
 use Rattle.definitions.specs.sequences.Keys.{key_of}

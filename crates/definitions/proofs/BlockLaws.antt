@@ -8,8 +8,8 @@ use Rattle.definitions.specs.declared.block.Block.{Block}
 use Rattle.definitions.specs.declared.block.Span.{Span}
 use Rattle.definitions.specs.declared.block.Span.TheVariants.{Year, Day, Hour, Minute}
 use Rattle.definitions.specs.time.Calendar.{century_minutes}
-use Rattle.definitions.specs.answers.Blocks.{span_end, block_from, blocks, items, children, children_by, IsBlock, IsIn, IsInNone, IsInOne}
-use Rattle.definitions.proofs.SpanLaws.{span_after, same_span, shorter, within_longer, Reaches, century_reaches, year_reaches, day_reaches, hour_reaches}
+use Rattle.definitions.specs.answers.Blocks.{span_end, block_from, blocks, items, shorter, children, children_by, IsBlock, IsIn, IsInNone, IsInOne}
+use Rattle.definitions.proofs.SpanLaws.{span_after, same_span, within_longer, Reaches, century_reaches, year_reaches, day_reaches, hour_reaches}
 
 -- lists put together
 none_then : (xs ys : List Block) (q : Sequence) → IsInNone xs q → IsInNone ys q → IsInNone (xs ++ ys) q
@@ -142,13 +142,13 @@ pub items_share : (window : Window) (q : Sequence) → window.to ≤ century_min
 items_share window q end from to lt = by_kind window q end from to q.announced refl lt
 
 module _ (window : Window) (b : Block) (end : window.to ≤ century_minutes) (is : IsBlock window b) where
-  in_century : b.hi ≤ century_minutes
+  pub in_century : b.hi ≤ century_minutes
   in_century = omega (arith, is.ends, end)
 
-  ends_in : (s : Span) → b.span ≡ s → b.hi ≤ span_end s b.lo
+  pub ends_in : (s : Span) → b.span ≡ s → b.hi ≤ span_end s b.lo
   ends_in s e = omega (arith, is.ends, ap (λ s. span_end s b.lo) e)
 
-  begins_in : b.lo < century_minutes
+  pub begins_in : b.lo < century_minutes
   begins_in = omega (arith, is.not_empty, in_century)
 
   -- each sequence of a longer span is in one child
@@ -171,7 +171,7 @@ Begins window s lo = (t : ℕ) → window.from ≤ t → t < lo → span_end s t
 abbrev Cuts : Window → Span → ℕ → ℕ → Type 0
 Cuts window s lo hi = (t : ℕ) → lo ≤ t → t < hi → min (span_end s t) hi ≡ min (span_end s t) window.to
 
-module _ (window : Window) (announced : Bool) (second : ℕ) (s : Span) (hi : ℕ) (end : hi ≤ century_minutes) where
+module _ (window : Window) (announced : Bool) (second : ℕ) (s : Span) (hi : ℕ) (few : second < (if announced then 61 else 60)) (end : hi ≤ century_minutes) where
   begins_next : (lo : ℕ) → Begins window s lo → lo < hi → span_end s lo < hi → Begins window s (span_end s lo)
   begins_next lo begins lt more t from before = elim (cases_order t lo) [
     | inl e ↦ at (omega (arith, e))
@@ -198,7 +198,7 @@ module _ (window : Window) (announced : Bool) (second : ℕ) (s : Span) (hi : �
       by_test true e rest =
           let lt = ltb-true lo hi e in
           let after = span_after s lo (omega (arith, lt, end)) in (
-            record { not_empty = omega (arith, lt, after); not_before = from; begins = begins lt; ends = cuts lo (omega arith) lt },
+            record { second = few; not_empty = omega (arith, lt, after); not_before = from; begins = begins lt; ends = cuts lo (omega arith) lt },
             rest (omega (arith, from, after)) (begins_next lo (begins lt) lt) (λ t le before. cuts t (omega (arith, le, after)) before),
           )
       by_test false e rest = tt
@@ -207,24 +207,32 @@ all_then : (P : Block → Type 0) (xs ys : List Block) → AllByRecursion P xs �
 all_then P [] ys a b = b
 all_then P (x ∷ xs) ys a b = (a.0, all_then P xs ys a.1 b)
 
-all_seconds : (P : Block → Type 0) (f : ℕ → List Block) → ((p : ℕ) → AllByRecursion P (f p)) → (a n : ℕ) → AllByRecursion P (flat_map f (range_with_len a n))
-all_seconds P f each a zero = tt
-all_seconds P f each a (suc n) = all_then P (f a) (flat_map f (range_with_len (a + 1) n)) (each a) (all_seconds P f each (a + 1) n)
+all_seconds : (P : Block → Type 0) (f : ℕ → List Block) (a n : ℕ) → ((p : ℕ) → p < a + n → AllByRecursion P (f p)) → AllByRecursion P (flat_map f (range_with_len a n))
+all_seconds P f a zero each = tt
+all_seconds P f a (suc n) each =
+    all_then P (f a) (flat_map f (range_with_len (a + 1) n)) (each a (omega arith)) (all_seconds P f (a + 1) n (λ p lt. each p (omega arith)))
+
+-- what holds of the years of each first second holds of the items
+pub all_items : (P : Block → Type 0) (window : Window)
+    → ((announced : Bool) (p : ℕ) → p < (if announced then 61 else 60) → AllByRecursion P (blocks announced p Year 100 window.from window.to))
+    → AllByRecursion P (items window)
+all_items P window each =
+    all_then P (flat_map (λ p. blocks false p Year 100 window.from window.to) (range_with_len 0 60))
+    (flat_map (λ p. blocks true p Year 100 window.from window.to) (range_with_len 0 61))
+    (all_seconds P (λ p. blocks false p Year 100 window.from window.to) 0 60 (λ p lt. each false p (omega arith)))
+    (all_seconds P (λ p. blocks true p Year 100 window.from window.to) 0 61 (λ p lt. each true p (omega arith)))
 
 -- the items of a window are blocks of it
 pub items_are_blocks : (window : Window) → window.to ≤ century_minutes → AllByRecursion (IsBlock window) (items window)
 items_are_blocks window end =
-    let years = λ (announced : Bool) (p : ℕ). are_blocks window announced p Year window.to end 100 window.from (omega arith)
-    (λ _ t from before. absurd (omega (arith, from, before))) (λ t _ _. refl) in
-    all_then (IsBlock window) (flat_map (λ p. blocks false p Year 100 window.from window.to) (range_with_len 0 60))
-    (flat_map (λ p. blocks true p Year 100 window.from window.to) (range_with_len 0 61))
-    (all_seconds (IsBlock window) (λ p. blocks false p Year 100 window.from window.to) (years false) 0 60)
-    (all_seconds (IsBlock window) (λ p. blocks true p Year 100 window.from window.to) (years true) 0 61)
+    all_items (IsBlock window) window
+    (λ announced p few. are_blocks window announced p Year window.to few end 100 window.from (omega arith)
+    (λ _ t from before. absurd (omega (arith, from, before))) (λ t _ _. refl))
 
 module _ (window : Window) (b : Block) (end : window.to ≤ century_minutes) (is : IsBlock window b) where
   child_blocks : (n : ℕ) (s : Span) → b.span ≡ s → AllByRecursion (IsBlock window) (blocks b.announced b.second (shorter s) n b.lo b.hi)
   child_blocks n s e =
-      are_blocks window b.announced b.second (shorter s) b.hi (in_century window b end is) n b.lo is.not_before
+      are_blocks window b.announced b.second (shorter s) b.hi is.second (in_century window b end is) n b.lo is.not_before
       (λ _ t from before. omega (arith, within_longer s t, ap (λ s. span_end s t) e, is.begins t from before))
       (λ t le before.
       let outer = same_span s b.lo t (omega (arith, before, in_century window b end is)) le (omega (arith, before, ends_in window b end is s e)) in

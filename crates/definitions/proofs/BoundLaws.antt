@@ -12,7 +12,7 @@ use Rattle.definitions.specs.sequences.Keys.{index_of, key_of}
 use Rattle.definitions.specs.sequences.Walks.{place_at, set_at, IsLegal, IsWalkable}
 use Rattle.definitions.specs.heard.Dut1.{has_dut1, is_dut1_second, dut1_values, dut1_symbol}
 use Rattle.definitions.specs.heard.Costs.{Costs, sum_below, least, set_cost, lies_in_one_day, cost_outside_dut1, dut1_cost, least_dut1_cost, station_cost, sequence_cost}
-use Rattle.definitions.specs.answers.Blocks.{IsBlock, IsIn, IsUnion, first_of, union_cost, IsUnionBound, IsMinuteBound, IsBound, IsBoundBy, block_key, span_end}
+use Rattle.definitions.specs.answers.Blocks.{IsBlock, IsIn, IsUnion, first_of, union_cost, IsCostOfUnions, IsUnionBound, IsMinuteBound, IsBound, IsBoundBy, block_key, span_end}
 use Rattle.definitions.proofs.KeyLaws.{same_sequence}
 use Rattle.definitions.proofs.PlaceLaws.{within_minute}
 use Rattle.definitions.proofs.SetLaws.{sent}
@@ -126,17 +126,17 @@ module _ (costs : Costs) (window : Window) (b : Block) where
       (sent station q.announced (place_at q k).0 (place_at q k).1 (within_minute q walkable.second k)) union.byte
       (λ x bit. union.each x (q, is, walkable, bit))
 
-  union_bound_le : (n : ℕ) (q : Sequence) → IsUnionBound costs window b (Some n) → IsIn b q → IsWalkable window q → n ≤ sequence_cost costs window q
+  union_bound_le : (n : ℕ) (q : Sequence) → IsCostOfUnions costs window b n → IsIn b q → IsWalkable window q → n ≤ sequence_cost costs window q
   union_bound_le n q bound is walkable =
-      let unions = bound.1 in
+      let unions = bound.unions in
       let le = sum_le window
       (λ station. sum_below window.seconds (λ k. set_cost station (costs station k) (unions station k)))
       (λ station. station_cost station (costs station) window.seconds q)
       (λ station heard.
       let one = total_le window.seconds (λ k. set_cost station (costs station k) (unions station k)) (λ k. set_cost station (costs station k) (set_at station q k))
-      (λ k lt. union_le q is walkable station k (unions station k) (bound.2 station k heard lt)) in
+      (λ k lt. union_le q is walkable station k (unions station k) (bound.each station k heard lt)) in
       omega (arith, one, sets_cost_no_more station (costs station) window.seconds q)) in
-      omega (arith, le, bound.3)
+      omega (arith, le, bound.cost)
 
   -- a minute has one sequence
   of_minute : (q : Sequence) → IsBlock window b → b.span ≡ Minute → IsIn b q → q ≡ first_of b
@@ -145,15 +145,15 @@ module _ (costs : Costs) (window : Window) (b : Block) where
       same_sequence q (first_of b) (omega (arith, end, block.ends, is.not_before, is.before_end)) is.second is.announced
 
   bound_le : (n : ℕ) (q : Sequence) → IsBlock window b → IsIn b q → IsLegal window q → (s : Span) → b.span ≡ s → IsBoundBy s costs window b (Some n) → n ≤ sequence_cost costs window q
-  bound_le n q block is legal Year e bound = union_bound_le n q bound is legal.0
-  bound_le n q block is legal Day e bound = union_bound_le n q bound is legal.0
-  bound_le n q block is legal Hour e bound = union_bound_le n q bound is legal.0
+  bound_le n q block is legal Year e bound = union_bound_le n q bound.1 is legal.0
+  bound_le n q block is legal Day e bound = union_bound_le n q bound.1 is legal.0
+  bound_le n q block is legal Hour e bound = union_bound_le n q bound.1 is legal.0
   bound_le n q block is legal Minute e bound = omega (arith, bound.1, ap (sequence_cost costs window) (of_minute q block e is))
 
   none_legal : (q : Sequence) → IsBlock window b → IsIn b q → IsLegal window q → (s : Span) → b.span ≡ s → IsBoundBy s costs window b None → ⊥
-  none_legal q block is legal Year e bound = bound q is legal.0
-  none_legal q block is legal Day e bound = bound q is legal.0
-  none_legal q block is legal Hour e bound = bound q is legal.0
+  none_legal q block is legal Year e bound = bound (q, is, legal.0)
+  none_legal q block is legal Day e bound = bound (q, is, legal.0)
+  none_legal q block is legal Hour e bound = bound (q, is, legal.0)
   none_legal q block is legal Minute e bound = bound (subst (IsLegal window) (of_minute q block e is) legal)
 
   first_index : (q : Sequence) → IsIn b q → index_of (first_of b) ≤ index_of q
@@ -187,10 +187,12 @@ module _ (costs : Costs) (window : Window) (b : Block) where
 
   union_bounds_one : (m n : Option ℕ) → IsUnionBound costs window b m → IsUnionBound costs window b n → m ≡ n
   union_bounds_one None None x y = refl
-  union_bounds_one None (Some n) x y = absurd (x y.0.0 y.0.1 y.0.2)
-  union_bounds_one (Some m) None x y = absurd (y x.0.0 x.0.1 x.0.2)
+  union_bounds_one None (Some n) x y = absurd (x y.0)
+  union_bounds_one (Some m) None x y = absurd (y x.0)
   union_bounds_one (Some m) (Some n) x y =
-      let same : m ≡ n = omega (arith, x.3, y.3, unions_le x.1 y.1 x.2 y.2, unions_le y.1 x.1 y.2 x.2) in
+      let le = unions_le x.1.unions y.1.unions x.1.each y.1.each in
+      let ge = unions_le y.1.unions x.1.unions y.1.each x.1.each in
+      let same : m ≡ n = omega (arith, x.1.cost, y.1.cost, le, ge) in
       ap Some same
 
   minute_bounds_one : (m n : Option ℕ) → IsMinuteBound costs window b m → IsMinuteBound costs window b n → m ≡ n

@@ -1,6 +1,6 @@
 -- What a computed check tells: of each number below a bound, and of each place of two walks.
-use Rattle.std.proofs.Common.{◌≡◌, ℕ, zero, suc, ◌<◌, inl, inr, Bool, true, ◌&&◌, refl, sym, ap, ◌∙◌, subst, arith}
-use Rattle.std.proofs.lemmas.Bool.{and_parts, cases_order}
+use Rattle.std.proofs.Common.{◌≡◌, ℕ, zero, suc, ◌<◌, inl, inr, Bool, true, false, ◌&&◌, ◌||◌, refl, sym, ap, subst, arith}
+use Rattle.std.proofs.lemmas.Bool.{and_parts, or_cases, cases_order}
 use Rattle.definitions.specs.declared.sequence.Sequence.{Sequence}
 use Rattle.definitions.specs.sequences.Walks.{next_place, place_at}
 
@@ -19,6 +19,16 @@ below p (suc n) all k lt = elim (cases_order k n) [
     | inr more ↦ absurd (omega arith)
   ]
 ]
+
+-- some number below n passes
+unfoldable pub any_below : (ℕ → Bool) → ℕ → Bool
+any_below p zero = false
+any_below p (suc n) = any_below p n || p n
+
+pub found : (p : ℕ → Bool) (n : ℕ) → any_below p n ≡ true → (k : ℕ) × (p k ≡ true)
+unfolding any_below
+found p zero none = absurd cc
+found p (suc n) some = elim (or_cases (any_below p n) (p n) some) [ inl before ↦ found p n before | inr here ↦ (n, here) ]
 
 -- two walks side by side, and whether all their places so far pass
 module _ (q r : Sequence) (test : ℕ × ℕ → ℕ × ℕ → Bool) where

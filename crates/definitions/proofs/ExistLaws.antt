@@ -250,4 +250,4 @@ pub decided_has_answer : (admitted : Sequence → Type 0) (cost : Sequence → �
 decided_has_answer admitted cost is_sequence decide =
     answer_exists admitted cost is_sequence decide (greatest (λ n. cost (sequence_at n)) index_end)
     (λ q a. let e : cost (sequence_at (index_of q)) ≡ cost q = ap cost (sequence_at-index_of q (is_sequence q a)) in
-      omega (arith, e, greatest-above (λ n. cost (sequence_at n)) index_end (index_of q) (index_bound q (is_sequence q a))))
+    omega (arith, e, greatest-above (λ n. cost (sequence_at n)) index_end (index_of q) (index_bound q (is_sequence q a))))

@@ -5,6 +5,7 @@ pub mod CostLaws
 pub mod AnswerLaws
 pub mod DateLaws
 pub mod ParityLaws
+pub mod WeightLaws
 pub mod WaveLaws
 pub mod ListingLaws
 pub mod CheckLaws
@@ -19,4 +20,9 @@ pub mod BoundLaws
 pub mod SpanLaws
 pub mod BlockLaws
 pub mod ExistLaws
+pub mod ChildLaws
+pub mod ItemLaws
+pub mod BoundExistLaws
+pub mod MinuteLaws
+pub mod PairLaws
 pub mod EdgeLaws

@@ -1,5 +1,5 @@
 -- The characters of a minute by its facts, so that the facts are computed once; and that none is a blank.
-use Rattle.std.proofs.Common.{◌≡◌, ◌≢◌, ℕ, ◌<◌, inl, inr, Bool, true, false, not, ◌==◌, refl, subst, sym, arith}
+use Rattle.std.proofs.Common.{◌≡◌, ◌≢◌, ℕ, inl, inr, Bool, true, not, ◌==◌, refl, subst, sym}
 use Rattle.std.proofs.lemmas.Bool.{eq-eqb}
 use Rattle.signal_base.specs.declared.station.Station.{Station}
 use Rattle.signal_base.specs.Waveform.{symbol_count}
@@ -10,7 +10,7 @@ use Rattle.definitions.specs.codes.Msf.{msf_second}
 use Rattle.definitions.specs.codes.Wwvb.{wwvb_second}
 use Rattle.definitions.specs.codes.Jjy.{jjy_second}
 use Rattle.definitions.specs.codes.Listing.{blank, characters, characters_of, listed}
-use Rattle.definitions.specs.codes.Vocabulary.{free, only, unscored}
+use Rattle.definitions.specs.codes.Vocabulary.{only}
 use Rattle.definitions.proofs.CheckLaws.{all_below, below}
 
 pub dcf_characters : (announced : Bool) (t : ℕ) → characters Dcf77 announced t ≡ characters_of Dcf77 announced t (dcf_second (dcf_facts announced t))

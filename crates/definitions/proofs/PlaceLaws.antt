@@ -1,6 +1,6 @@
 -- Where a walk is: within its minutes, and by sixties where there is no leap second.
-use Rattle.std.proofs.Common.{◌≡◌, ℕ, zero, suc, ◌+◌, ◌/◌, ◌%◌, ◌<◌, Bool, true, false, ◌&&◌, nat_lt, if◌then◌else◌, refl, ap, ◌∙◌, arith}
-use Rattle.std.proofs.lemmas.Bool.{ltb-true, ltb-false}
+use Rattle.std.proofs.Common.{◌≡◌, ◌≢◌, ℕ, zero, suc, ◌+◌, ◌/◌, ◌%◌, ◌<◌, Bool, true, false, ◌&&◌, nat_lt, if◌then◌else◌, refl, ap, ◌∙◌, arith}
+use Rattle.std.proofs.lemmas.Bool.{lt-ltb, ltb-true, ltb-false, ne_eqb}
 use Rattle.definitions.specs.declared.sequence.Sequence.{Sequence}
 use Rattle.definitions.specs.time.Calendar.{minute_length, is_leap_end}
 use Rattle.definitions.specs.sequences.Walks.{next_place, place_at}
@@ -46,3 +46,17 @@ pub within_minute : (q : Sequence) → q.second < minute_length q.announced q.fi
 unfolding place_at
 within_minute q lt zero = lt
 within_minute q lt (suc k) = next_within q.announced (place_at q k) (nat_lt ((place_at q k).1 + 1) (minute_length q.announced (place_at q k).0)) refl
+
+-- a walk stays in its first minute as long as this has seconds
+pub stays_in_minute : (q : Sequence) (k : ℕ) → q.second + k < minute_length q.announced q.first → place_at q k ≡ (q.first, q.second + k)
+unfolding place_at
+stays_in_minute q zero lt = same_place _ _ _ _ (omega arith) (omega arith)
+stays_in_minute q (suc k) lt =
+    let more : q.second + k + 1 < minute_length q.announced q.first = omega (arith, lt) in
+    ap (next_place q.announced) (stays_in_minute q k (omega (arith, lt)))
+    ∙ rw (lt-ltb (q.second + k + 1) (minute_length q.announced q.first) more) (same_place _ _ _ _ refl (omega arith))
+
+-- only the last minute of a day can have a second 60
+pub short_minute : (announced : Bool) (t : ℕ) → t % 1440 ≢ 1439 → minute_length announced t ≡ 60
+short_minute true t early = rw (ne_eqb (t % 1440) 1439 early) refl
+short_minute false t early = refl

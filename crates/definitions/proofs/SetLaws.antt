@@ -1,5 +1,5 @@
 -- Each second that a minute has may carry something.
-use Rattle.std.proofs.Common.{ℕ, zero, suc, ◌^◌, ◌+◌, ◌*◌, ◌/◌, ◌%◌, ◌-◌, ◌<◌, ◌≤◌, ◌≡◌, ◌⊎◌, inl, inr, Bool, true, false, ◌&&◌, ◌||◌, ◌==◌, nat_lt, if◌then◌else◌, List, [], ◌∷◌, Option, Some, None, refl, sym, ap, subst, arith}
+use Rattle.std.proofs.Common.{ℕ, ◌^◌, ◌+◌, ◌*◌, ◌/◌, ◌%◌, ◌-◌, ◌<◌, ◌≤◌, ◌≡◌, ◌⊎◌, inl, inr, Bool, true, false, ◌&&◌, ◌||◌, ◌==◌, nat_lt, if◌then◌else◌, List, [], ◌∷◌, Option, Some, None, refl, sym, ap, subst, arith}
 use Rattle.std.specs.Option.{option_map_or}
 use Rattle.std.proofs.lemmas.Bool.{lt-ltb, le-ltb}
 use Rattle.std.proofs.lemmas.Nat.{pow_pos, pow_below}
@@ -16,6 +16,7 @@ use Rattle.definitions.specs.time.Summer.{season_at, us_begins, us_ends, us_code
 use Rattle.definitions.specs.codes.Allowed.{IsSetOf, allowed, dcf_facts, msf_facts, wwvb_facts, jjy_facts}
 use Rattle.definitions.specs.codes.Dcf77 as dcf
 use Rattle.definitions.specs.codes.Msf as msf
+use Rattle.definitions.specs.codes.MarkedCode as marked
 use Rattle.definitions.specs.codes.Wwvb as wwvb
 use Rattle.definitions.specs.codes.Jjy as jjy
 
@@ -81,7 +82,7 @@ free_set station = inr (inl refl)
 in_minute : (station : Station) (s n set : ℕ) → s < n → IsSetOf station set → IsSetOf station (if nat_lt s n then set else no_second)
 in_minute station s n set lt p = subst (λ c. IsSetOf station (if c then set else no_second)) (sym (lt-ltb s n lt)) p
 
-dcf_bit : (f : DcfFacts) (s : ℕ) → IsBit (dcf.dcf_bit f s)
+pub dcf_bit : (f : DcfFacts) (s : ℕ) → IsBit (dcf.dcf_bit f s)
 dcf_bit f s =
     either IsBit (s == 16) _ _ (flag f.change)
     (either IsBit (s == 17) _ _ (flag f.summer)
@@ -99,10 +100,10 @@ dcf_set f s lt =
     (either (IsSetOf Dcf77) (s == (if f.long then 60 else 59)) _ _ (one_set Dcf77 dcf.no_reduction (omega arith))
     (either (IsSetOf Dcf77) (is_within 1 15 s) _ _ (free_set Dcf77) (bit_set Dcf77 (dcf.dcf_bit f s) (dcf_bit f s))))
 
-bit_a : (f : MsfFacts) (s : ℕ) → IsBit (msf.bit_a f s)
+pub bit_a : (f : MsfFacts) (s : ℕ) → IsBit (msf.bit_a f s)
 bit_a f s = either IsBit (is_within 53 58 s) _ _ (flag true) (carried (msf.msf_fields f) s)
 
-bit_b : (f : MsfFacts) (s : ℕ) → IsBit (msf.bit_b f s)
+pub bit_b : (f : MsfFacts) (s : ℕ) → IsBit (msf.bit_b f s)
 bit_b f s =
     either IsBit (s == 53) _ _ (flag f.change)
     (either IsBit (s == 54) _ _ (mod_bit (ones msf.year_weights f.year + 1))
@@ -137,20 +138,20 @@ wwvb_bit f s lt =
 wwvb_set : (f : WwvbFacts) (s : ℕ) → f.us_code < 4 → s < (if f.long then 61 else 60) → IsSetOf Wwvb (wwvb.wwvb_second f s)
 wwvb_set f s code lt =
     in_minute Wwvb s (if f.long then 61 else 60) _ lt
-    (either (IsSetOf Wwvb) (wwvb.is_marked s) _ _ (one_set Wwvb wwvb.marker (omega arith))
+    (either (IsSetOf Wwvb) (wwvb.is_marked s) _ _ (one_set Wwvb marked.marker (omega arith))
     (either (IsSetOf Wwvb) (is_within 36 38 s || is_within 40 43 s) _ _ (free_set Wwvb)
     (bit_set Wwvb (wwvb.wwvb_bit f s) (wwvb_bit f s code))))
 
-jjy_bit : (f : JjyFacts) (s : ℕ) → IsBit (jjy.jjy_bit f s)
+pub jjy_bit : (f : JjyFacts) (s : ℕ) → IsBit (jjy.jjy_bit f s)
 jjy_bit f s =
-    either IsBit (s == 36) _ _ (mod_bit (ones jjy.hour_weights f.hour))
-    (either IsBit (s == 37) _ _ (mod_bit (ones jjy.minute_weights f.minute))
+    either IsBit (s == 36) _ _ (mod_bit (ones marked.hour_weights f.hour))
+    (either IsBit (s == 37) _ _ (mod_bit (ones marked.minute_weights f.minute))
     (either IsBit (is_within 53 54 s) _ _ (flag f.leap) (carried (jjy.jjy_fields f) s)))
 
 jjy_set : (f : JjyFacts) (s : ℕ) → s < (if f.long then 61 else 60) → IsSetOf Jjy (jjy.jjy_second f s)
 jjy_set f s lt =
     in_minute Jjy s (if f.long then 61 else 60) _ lt
-    (either (IsSetOf Jjy) (jjy.is_marked f s) _ _ (one_set Jjy jjy.marker (omega arith))
+    (either (IsSetOf Jjy) (jjy.is_marked f s) _ _ (one_set Jjy marked.marker (omega arith))
     (either (IsSetOf Jjy) (jjy.is_call_minute f && is_within 40 48 s) _ _ (inl refl)
     (either (IsSetOf Jjy) (jjy.is_call_minute f && is_within 50 55 s) _ _ (free_set Jjy)
     (bit_set Jjy (jjy.jjy_bit f s) (jjy_bit f s)))))

@@ -3,8 +3,8 @@ use Rattle.std.proofs.Common.{◌≡◌, ℕ, zero, suc, ◌+◌, ◌-◌, ◌*�
 use Rattle.std.proofs.lemmas.Bool.{cases_order}
 use Rattle.definitions.specs.declared.block.Span.{Span}
 use Rattle.definitions.specs.declared.block.Span.TheVariants.{Year, Day, Hour, Minute}
-use Rattle.definitions.specs.time.Calendar.{day_at, century_minutes}
-use Rattle.definitions.specs.answers.Blocks.{span_end}
+use Rattle.definitions.specs.time.Calendar.{day_at, century_minutes, utc_fields}
+use Rattle.definitions.specs.answers.Blocks.{span_end, shorter}
 use Rattle.definitions.proofs.CenturyLaws.{year_begin, known, year_of}
 
 -- the number of the year of a minute, from 2000 on
@@ -16,6 +16,10 @@ year_ends t lt = ap (λ n. n * 1440) (known (t / 1440) (omega arith)).year_end
 
 year_bounds : (t : ℕ) → t < century_minutes → (year_begin (year_number t) ≤ t / 1440) × (t / 1440 < year_begin (year_number t + 1))
 year_bounds t lt = let k = known (t / 1440) (omega arith) in (k.after, k.before)
+
+-- a minute of the century lies in one of its years
+pub in_year : (t : ℕ) → t < century_minutes → (day_at (t / 1440)).year ≤ 2099
+in_year t lt = omega (arith, year_bounds t lt)
 
 number_of_year : (i t : ℕ) → t < century_minutes → year_begin i ≤ t / 1440 → t / 1440 < year_begin (i + 1) → year_number t ≡ i
 number_of_year i t lt a b = omega (arith, year_of i (t / 1440) (omega arith) a b)
@@ -39,12 +43,17 @@ same_span Day lo t lt le before = omega arith
 same_span Hour lo t lt le before = omega arith
 same_span Minute lo t lt le before = omega arith
 
--- the spans of a longer one
-abbrev pub shorter : Span → Span
-shorter Year = Day
-shorter Day = Hour
-shorter Hour = Minute
-shorter Minute = Minute
+-- a year's span ends where the calendar's next year begins
+pub year_lasts : (t u : ℕ) → t ≤ u → u < span_end Year t → u < century_minutes → (utc_fields u).year ≡ (utc_fields t).year
+year_lasts t u le before lt =
+    let early : t < century_minutes = omega (arith, le, lt) in
+    let same = number_of_year (year_number t) u lt (omega (arith, year_bounds t early, le)) (omega (arith, year_ends t early, before)) in
+    omega (arith, same, (known (t / 1440) (omega (arith, early))).early, (known (u / 1440) (omega (arith, lt))).early)
+
+pub year_passes : (t u : ℕ) → span_end Year t ≤ u → u < century_minutes → (utc_fields t).year < (utc_fields u).year
+year_passes t u after lt =
+    let early : t < century_minutes = omega (arith, after, lt) in
+    omega (arith, year_ends t early, year_bounds u lt, after, (known (t / 1440) (omega (arith, early))).early)
 
 -- a shorter span ends within the longer one
 pub within_longer : (s : Span) (t : ℕ) → span_end (shorter s) t ≤ span_end s t

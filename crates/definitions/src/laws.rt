@@ -1,6 +1,7 @@
 //! What follows from the definitions: that a key, an answer, a date and words each speak of one thing.
 
-ghost use Rattle.std.specs.Prelude.{ℕ, ◌≡◌, ◌≢◌, ◌<◌, ◌≤◌, Bool, true, List, ℤ};
+ghost use Rattle.std.specs.Prelude.{ℕ, ◌≡◌, ◌≢◌, ◌<◌, ◌≤◌, Bool, true, List, Option, ℤ};
+ghost use Rattle.std.specs.List.{Contains};
 ghost use Rattle.signal_base.specs.declared.station.Station.{Station};
 ghost use Rattle.signal_base.specs.declared.window.Window.{Window};
 ghost use Rattle.signal_base.specs.Mask.{has_bit};
@@ -11,12 +12,13 @@ ghost use Rattle.definitions.specs.time.Calendar.{day_at, century_days, century_
 ghost use Rattle.definitions.specs.codes.Vocabulary.{free, no_second};
 ghost use Rattle.definitions.specs.codes.Allowed.{IsSetOf, allowed};
 ghost use Rattle.definitions.specs.codes.Listing.{blank, listed};
-ghost use Rattle.definitions.specs.heard.Dut1.{dut1_symbol, is_dut1_second};
+ghost use Rattle.definitions.specs.heard.Dut1.{dut1_symbol, dut1_values, is_dut1_second};
 ghost use Rattle.definitions.specs.heard.Receivers.{Receiver};
 ghost use Rattle.definitions.specs.heard.Phase.{agreement, phase_of};
-ghost use Rattle.definitions.specs.heard.Costs.{Costs};
-ghost use Rattle.definitions.specs.answers.Answers.{IsWindowAnswer};
-ghost use Rattle.definitions.specs.sequences.Walks.{IsSequence};
+ghost use Rattle.definitions.specs.heard.Costs.{Costs, sequence_cost};
+ghost use Rattle.definitions.specs.answers.Answers.{IsAdmitted, IsWindowAnswer};
+ghost use Rattle.definitions.specs.answers.FirstTwo.{AreLeastTwo, IsWindowKey, answer_from};
+ghost use Rattle.definitions.specs.sequences.Walks.{IsLegal, IsSequence, IsWalkable, ShowsLeap, unannounced};
 ghost use Rattle.definitions.specs.sequences.Keys.{ceiling_key, cost_of, key_of, sequence_of};
 ghost use Rattle.definitions.specs.time.Spelling.{day_text};
 
@@ -64,8 +66,31 @@ pub fn each_second_is_sent()
     ensures ends { (station : Station) (announced : Bool) (t s : ℕ) → minute_length announced t ≤ s → allowed station announced (t, s) ≡ no_second }
 {}
 
-/// The seconds that tell DUT1 may carry a 0 or a 1, and each value of it is told by these.
+/// The seconds that tell DUT1 may carry a 0 or a 1, each value of it is told by these, and different values differ in some
+/// such second.
 pub fn dut1_is_told_by_free_seconds()
     ensures sets { (station : Station) (announced : Bool) (t s : ℕ) → is_dut1_second station s ≡ true → allowed station announced (t, s) ≡ free }
     ensures symbols { (station : Station) (d : ℤ) (s : ℕ) → has_bit free (dut1_symbol station d s) ≡ true }
+    ensures differ { (station : Station) (c d : ℤ) → Contains (dut1_values station) c → Contains (dut1_values station) d → c ≢ d
+        → (s : ℕ) × (is_dut1_second station s ≡ true) × (dut1_symbol station c s ≢ dut1_symbol station d s) }
+{}
+
+/// A legal sequence that is announced, and would be walkable without the announcement, shows it in some slot, unless it
+/// begins with the leap second.
+pub fn announcements_show()
+    ensures { (window : Window) (q : Sequence) → IsLegal window q → q.announced ≡ true → q.second ≢ 60 → IsWalkable window (unannounced q) → ShowsLeap window q }
+{}
+
+/// A window admits its legal sequences that cost no more than the ceiling, those of its very cost too.
+pub fn the_ceiling_is_admitted()
+    ensures within { (window : Window) (costs : Costs) (q : Sequence) → IsLegal window q
+        → IsAdmitted (IsLegal window) (sequence_cost costs window) (sequence_cost costs window q) q }
+    ensures beyond { (window : Window) (costs : Costs) (ceiling : ℕ) (q : Sequence) → ceiling < sequence_cost costs window q
+        → ¬ (IsAdmitted (IsLegal window) (sequence_cost costs window) ceiling q) }
+{}
+
+/// The least two keys of the sequences that a window admits give its answer.
+pub fn the_least_two_are_the_answer()
+    ensures { (window : Window) (costs : Costs) (ceiling : ℕ) (first second : Option ℕ) → window.to ≤ century_minutes
+        → AreLeastTwo (IsWindowKey window costs ceiling) first second → IsWindowAnswer window costs ceiling (answer_from first second) }
 {}

@@ -24,7 +24,8 @@ mod zone;
 pub use answer::Answer;
 pub use block::{Block, Span};
 pub use bounds::{
-    bound_is_not_above, bound_is_one, children_share_the_sequences, items_share_the_sequences,
+    bound_exists, bound_is_not_above, bound_is_one, children_share_the_sequences,
+    items_share_the_sequences, year_ends_with_its_calendar_year,
 };
 pub use calendar::{CENTURY_DAYS, CENTURY_MINUTES, MINUTES_PER_DAY, MINUTES_PER_HOUR};
 pub use day::Day;
@@ -32,12 +33,13 @@ pub use dcf77::DcfFacts;
 pub use fields::Fields;
 pub use jjy::JjyFacts;
 pub use laws::{
-    days_differ, dut1_is_told_by_free_seconds, each_second_is_sent, keys_differ, phase_fits_best,
+    announcements_show, days_differ, dut1_is_told_by_free_seconds, each_second_is_sent,
+    keys_differ, phase_fits_best, the_ceiling_is_admitted, the_least_two_are_the_answer,
     waveforms_differ, window_has_one_answer,
 };
 pub use level::Level;
 pub use msf::MsfFacts;
-pub use parity::{dcf77_groups_are_even, msf_groups_are_odd};
+pub use parity::{dcf77_groups_are_even, jjy_groups_are_even, msf_groups_are_odd, weights_add_up};
 pub use seasons::{
     american_summer_lies_between_its_changes, european_summer_lies_between_its_changes,
 };

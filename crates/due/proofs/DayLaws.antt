@@ -6,7 +6,7 @@ use Rattle.definitions.specs.declared.sequence.Sequence.{Sequence}
 use Rattle.definitions.specs.declared.answer.Answer.{Answer}
 use Rattle.definitions.specs.declared.answer.Answer.TheVariants.{Nothing}
 use Rattle.definitions.specs.time.Calendar.{day_at, century_days, minutes_per_day, minute_length}
-use Rattle.definitions.specs.codes.Allowed.{encoded_year, is_heard, IsSent}
+use Rattle.definitions.specs.codes.Allowed.{encoded_year, has_station, CanBeEncoded}
 use Rattle.definitions.specs.heard.Logs.{Records}
 use Rattle.definitions.specs.sequences.Walks.{place_at, IsSequence, IsWalkable}
 use Rattle.definitions.proofs.AnswerLaws.{answer_is_one}
@@ -47,10 +47,10 @@ year_of_century n h =
     omega (arith, years_rise n (36524 - n), ap (λ m. (day_at m).year) there, last_year)
 
 -- the first two minutes of a day of the century are sent by JJY, where it is nine in the morning
-sent : (day t : ℕ) → day < century_days → day * minutes_per_day ≤ t → t < day * minutes_per_day + 2 → IsSent jjy_alone t
+sent : (day t : ℕ) → day < century_days → day * minutes_per_day ≤ t → t < day * minutes_per_day + 2 → CanBeEncoded jjy_alone t
 sent day t century low high = (omega arith, years)
   where
-    years : (station : Station) → is_heard jjy_alone station ≡ true → encoded_year station t ≤ 2099
+    years : (station : Station) → has_station jjy_alone station ≡ true → encoded_year station t ≤ 2099
     years Dcf77 h = cc
     years Msf h = cc
     years Wwvb h = cc
@@ -69,7 +69,7 @@ midnight-of_day day century = (walkable, refl)
       not_before = omega arith;
       before_end = omega arith;
       second = omega arith;
-      sent = λ k h. subst (λ (p : ℕ × ℕ). IsSent jjy_alone p.0) (sym (place_at-plain (midnight day) k refl (omega arith)))
+      encoded = λ k h. subst (λ (p : ℕ × ℕ). CanBeEncoded jjy_alone p.0) (sym (place_at-plain (midnight day) k refl (omega arith)))
           (sent day (day * minutes_per_day + (0 + k) / 60) century (omega arith) (omega arith));
     }
 

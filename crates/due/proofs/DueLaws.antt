@@ -1,19 +1,22 @@
 -- Something is due for all words and contents, and only one thing.
-use Rattle.std.proofs.Common.{◌≡◌, ℕ, ◌<◌, ◌⊎◌, inl, inr, List, [], ◌∷◌, refl, sym, ◌∙◌, ap, subst}
+use Rattle.std.proofs.Common.{◌≡◌, ◌≢◌, ℕ, ◌<◌, ◌⊎◌, inl, inr, List, [], ◌∷◌, refl, sym, ◌∙◌, ap, subst}
 use Rattle.definitions.specs.declared.answer.Answer.{Answer}
 use Rattle.definitions.specs.time.Calendar.{century_days}
 use Rattle.definitions.specs.heard.Logs.{Records}
 use Rattle.formats.specs.declared.refusal.Refusal.{Refusal}
-use Rattle.formats.specs.declared.refusal.Refusal.TheVariants.{WordsUsage}
+use Rattle.formats.specs.declared.refusal.Refusal.TheVariants.{WordsUsage, LogTooLarge, LogLine}
+use Rattle.definitions.specs.declared.answer.Answer.TheVariants as answers
+use Rattle.due.specs.declared.status.Status.TheVariants as statuses
 use Rattle.due.specs.declared.due.Due.{Due}
 use Rattle.due.specs.declared.due.Due.TheVariants.{Refused, Report}
 use Rattle.due.specs.Words.{IsDecode}
 use Rattle.due.specs.LogFiles.{LogFile, AreGood, IsFirstBad}
 use Rattle.due.specs.Days.{day_logs, day_window, no_duts, IsDayAnswer}
-use Rattle.due.specs.Rules.{IsDue, Bad_words, Bad_log, Answered}
+use Rattle.due.specs.Dues.{answer_status, refusal_status, status_of}
+use Rattle.due.specs.Rules.{IsDue, Bad_words, Bad_log, Answered, IsRead, Reads_log}
 use Rattle.due.proofs.WordLaws.{words_are_one, decide_words}
 use Rattle.due.proofs.LogFileLaws.{all_good_once, first_bad_once, all_good_none_bad, all_judged, AreJudged}
-use Rattle.due.proofs.DayLaws.{day_answer_is_one, day_has_answer}
+use Rattle.due.proofs.DayLaws.{day_answer_is_one, day_has_answer, day_is_answered}
 
 module _ (contents : List ℕ → List ℕ) where
   -- what is due for a day and a log
@@ -77,3 +80,29 @@ something_is_due words contents =
       | inl h ↦ some_due_for contents words h.0 h.1 h.2 (all_judged contents (day_logs h.1))
       | inr none ↦ (Refused WordsUsage, Bad_words (λ day log is. none (day, log, is)) refl)
     ]
+
+-- a day has an answer, so it isn't due that there is none
+answered : (day : ℕ) (records : Records) (answer : Answer) → day < century_days → IsDayAnswer day records answer → answer_status answer ≢ statuses.Nothing
+answered day records (answers.Decided cost q next) century is e = cc
+answered day records (answers.Undecided cost q r) century is e = cc
+answered day records answers.Nothing century is e =
+    let (a, of, some) = day_is_answered day records century in some (day_answer_is_one day records a answers.Nothing century of is)
+
+refused : (refusal : Refusal) → refusal_status refusal ≢ statuses.Nothing
+refused WordsUsage e = cc
+refused (LogTooLarge receiver name) e = cc
+refused (LogLine receiver name line fault) e = cc
+
+pub nothing_is_never_due : (words : List (List ℕ)) (contents : List ℕ → List ℕ) (due : Due) → IsDue words contents due → status_of due ≢ statuses.Nothing
+nothing_is_never_due words contents due (Bad_words none is) e = refused WordsUsage (ap status_of (sym is) ∙ e)
+nothing_is_never_due words contents due (Bad_log day log of refusal bad is) e = refused refusal (ap status_of (sym is) ∙ e)
+nothing_is_never_due words contents due (Answered day log of records good answer found is) e =
+    answered day records answer of.of_century found (ap status_of (sym is) ∙ e)
+
+-- the log is read, and nothing else
+pub log_is_read : (words : List (List ℕ)) (contents : List ℕ → List ℕ) (day : ℕ) (log : List ℕ) → IsDecode words day log → IsRead words contents log
+log_is_read words contents day log is = Reads_log day log is (inl refl)
+
+pub only_log_is_read : (words : List (List ℕ)) (contents : List ℕ → List ℕ) (day : ℕ) (log file : List ℕ) → IsDecode words day log → IsRead words contents file → file ≡ log
+only_log_is_read words contents day log file is (Reads_log other named also (inl e)) = e ∙ sym (words_are_one words day other log named is also).1
+only_log_is_read words contents day log file is (Reads_log other named also (inr more)) = absurd more.2

@@ -4,3 +4,4 @@ pub mod Days
 pub mod Status
 pub mod Dues
 pub mod Rules
+pub mod Examples

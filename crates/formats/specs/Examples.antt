@@ -1,8 +1,21 @@
 -- What examples of texts are about.
+use Rattle.std.specs.Prelude.{ℕ, true}
+pub use Rattle.std.specs.Fmt.{digits}
 use Rattle.signal_base.specs.declared.station.Station.{Station}
 use Rattle.signal_base.specs.declared.dut.Dut.{Dut}
 use Rattle.signal_base.specs.declared.dut.StationDut.{StationDut}
+use Rattle.signal_base.specs.declared.window.Window.{Window}
+use Rattle.definitions.specs.declared.sequence.Sequence.{Sequence}
+use Rattle.definitions.specs.examples.Sequences.{window_of}
 
 -- what a station tells of DUT1
 abbrev pub dut_told : Station → Dut → StationDut
 dut_told station dut = record { station = station; dut = dut }
+
+-- a sequence with a leap second
+abbrev pub announced_from : ℕ → ℕ → Sequence
+announced_from first second = record { first = first; second = second; announced = true }
+
+-- 60 seconds of JJY, from a millisecond and a phase on
+abbrev pub minute_from : ℕ → ℕ → Window
+minute_from start phase = record (window_of 8 0 60) { start = start; phase = phase }

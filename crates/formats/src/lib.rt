@@ -1,20 +1,22 @@
 //! The bytes of every text that the program reads or writes: log lines, reports, listings, the feed, trials and refusals.
-//! The definitions stand in `specs/`; here are worked examples, which the checker computes from the definitions alone.
+//! The definitions stand in `specs/`; here are the plain types that they speak of, a law of the grammar, and worked
+//! examples.
 #![tactic(auto)]
 
+mod examples;
 mod fault;
 mod limits;
 mod log_law;
 mod name;
 mod refusal;
-mod spelled;
 
+pub use examples::{
+    bad_lines, feeds, good_logs, heads_of_reports, lines_of_texts, listed_minutes,
+    minutes_of_reports, refused_certificates, refused_configurations, refused_logs, refused_words,
+    reports_without_a_decision, sentences, summaries_of_trials,
+};
 pub use fault::LineFault;
 pub use limits::{LOG_LIMIT, LONGEST_NAME, MOST_RECORDS, TIME_LIMIT};
 pub use log_law::log_has_one_outcome;
 pub use name::Name;
 pub use refusal::Refusal;
-pub use spelled::{
-    feed_in_spring, refused_certificates, refused_configurations, refused_logs, refused_words,
-    reports, trial_of_msf,
-};

@@ -3,13 +3,11 @@
 ghost use Rattle.std.specs.Prelude.{◌≡◌, ◌%◌, ◌^◌, ◌<◌, ◌≤◌};
 ghost use Rattle.std.specs.Option.{ForSome};
 ghost use Rattle.definitions.specs.sequences.Walks.{IsSequence};
-ghost use Rattle.definitions.specs.sequences.Keys.{cost_of, index_end, index_of, key_of, sequence_of};
+ghost use Rattle.definitions.specs.sequences.Keys.{ceiling_key, cost_of, index_end, index_of, key_of, sequence_of};
 ghost use Rattle.definitions.specs.answers.FirstTwo.{answer_from};
+ghost use Rattle.sequence.specs.declared.keys.TheConstants.{GREATEST_COST};
 
-use definitions::{Answer, Sequence};
-
-// The minutes of the years 2000 to 2099.
-const CENTURY_MINUTES: u64 = 52_596_000;
+use definitions::{Answer, CENTURY_MINUTES, Sequence};
 
 /// The greatest cost.
 pub const GREATEST_COST: u32 = 1_920_000_000;
@@ -21,16 +19,25 @@ pub fn index(q: &Sequence) -> u64
     ensures { result ≡ index_of q.now }
 {
     let announced = if q.announced { 61 } else { 0 };
-    (announced + q.second as u64) * CENTURY_MINUTES + q.first as u64
+    (announced + q.second as u64) * CENTURY_MINUTES as u64 + q.first as u64
 }
 
 /// The place of a sequence in the order of all: `cost * 2^33 + index`. The cost is at most 1,920,000,000.
 pub fn key(cost: u32, q: &Sequence) -> u64
     requires sequence { IsSequence q.now }
-    requires cost { cost ≤ 1_920_000_000 }
+    requires cost { cost ≤ GREATEST_COST }
     ensures { result ≡ key_of cost q.now }
 {
     cost as u64 * (1 << 33) + index(q)
+}
+
+/// The key that no sequence of a cost up to the ceiling is above, and each sequence beyond it is; the ceiling is at most
+/// 1,920,000,000.
+pub fn ceiling_key(ceiling: u32) -> u64
+    requires { ceiling ≤ GREATEST_COST }
+    ensures { result ≡ ceiling_key ceiling }
+{
+    ceiling as u64 * (1 << 33) + ((1 << 33) - 1)
 }
 
 /// The sequence of a key.
@@ -39,9 +46,9 @@ pub fn sequence_of(key: u64) -> Sequence
     ensures { result ≡ sequence_of key }
 {
     let index = key % (1 << 33);
-    let seconds = index / CENTURY_MINUTES;
+    let seconds = index / CENTURY_MINUTES as u64;
     Sequence {
-        first: (index % CENTURY_MINUTES) as u32,
+        first: (index % CENTURY_MINUTES as u64) as u32,
         second: (seconds % 61) as u8,
         announced: seconds >= 61,
     }

@@ -1,106 +1,82 @@
-//! Pieces of text: numbers, minutes and sequences, and how they are written.
+//! Pieces of lines: dates, minutes and sequences, and how they are written.
 
-ghost use Rattle.std.specs.Prelude.{◌≡◌, ◌+◌, ◌<◌, ◌≤◌, ◌++◌, ◌∷◌, [], length};
-ghost use Rattle.std.specs.Fmt.{decimal};
+ghost use Rattle.std.specs.Prelude.{◌≡◌, ◌+◌, ◌<◌, ◌≤◌, ◌++◌, ◌∷◌, []};
 ghost use Rattle.arrayvec.specs.ArrayString.{array_string_len};
 ghost use Rattle.definitions.specs.time.Calendar.{century_minutes};
+ghost use Rattle.definitions.specs.time.Spelling.{date_text, digit_zero, fields_text, minute_text, two_digits};
 ghost use Rattle.definitions.specs.sequences.Walks.{IsSequence};
-ghost use Rattle.texts.specs.Writing.{Writes};
-ghost use Rattle.definitions.specs.time.Spelling.{date_text, minute_text, two_digits};
 ghost use Rattle.formats.specs.Bytes.{sequence_text};
 
-use arrayvec::ArrayString;
-use bank_files::{Failed, Files, OUTPUT, write_all};
-use civil::Civil;
-use itoa::Buffer;
+use crate::page::{LINE_ROOM, Line};
+use bank_files::push_number;
+use civil::{Civil, Fields};
 use sequence::Sequence;
 
-/// The most bytes of a piece.
-pub const ROOM: usize = 512;
-
-/// A piece of text.
-pub type Text = ArrayString<ROOM>;
-
-/// Adds a number in decimal digits, at most 20.
-pub fn push_number(text: &mut Text, n: u64)
-    requires { array_string_len text.old + 20 ≤ ROOM }
-    ensures bytes { text.new.bytes ≡ text.old.bytes ++ decimal n }
-    ensures len { array_string_len text.new ≤ array_string_len text.old + 20 }
-{
-    let mut buffer = Buffer::new();
-    text.push_str(buffer.format(n));
-}
-
 /// Adds the last two digits of a number.
-pub fn push_two_digits(text: &mut Text, n: u16)
-    requires { array_string_len text.old + 2 ≤ ROOM }
-    ensures bytes { text.new.bytes ≡ text.old.bytes ++ two_digits n }
-    ensures len { array_string_len text.new ≡ array_string_len text.old + 2 }
+pub fn push_two_digits(line: &mut Line, n: u16)
+    requires { array_string_len line.old + 2 ≤ LINE_ROOM }
+    ensures bytes { line.new.bytes ≡ line.old.bytes ++ two_digits n }
+    ensures len { array_string_len line.new ≡ array_string_len line.old + 2 }
 {
-    push_digit(text, n / 10 % 10);
-    push_digit(text, n % 10);
+    push_digit(line, n / 10 % 10);
+    push_digit(line, n % 10);
 }
 
-fn push_digit(text: &mut Text, digit: u16)
+fn push_digit(line: &mut Line, digit: u16)
     requires digit { digit < 10 }
-    requires room { array_string_len text.old + 1 ≤ ROOM }
-    ensures bytes { text.new.bytes ≡ text.old.bytes ++ (48 + digit) ∷ [] }
-    ensures len { array_string_len text.new ≡ array_string_len text.old + 1 }
+    requires room { array_string_len line.old < LINE_ROOM }
+    ensures bytes { line.new.bytes ≡ line.old.bytes ++ (digit_zero + digit) ∷ [] }
+    ensures len { array_string_len line.new ≡ array_string_len line.old + 1 }
 {
-    text.push((b'0' + digit as u8) as char);
+    line.push((b'0' + digit as u8) as char);
 }
 
 /// Adds a date, as `2024-06-10`.
-pub fn push_date(text: &mut Text, year: u16, month: u8, day: u8)
-    requires { array_string_len text.old + 10 ≤ ROOM }
-    ensures bytes { text.new.bytes ≡ text.old.bytes ++ date_text year month day }
-    ensures len { array_string_len text.new ≡ array_string_len text.old + 10 }
+pub fn push_date(line: &mut Line, year: u16, month: u8, day: u8)
+    requires { array_string_len line.old + 10 ≤ LINE_ROOM }
+    ensures bytes { line.new.bytes ≡ line.old.bytes ++ date_text year month day }
+    ensures len { array_string_len line.new ≡ array_string_len line.old + 10 }
 {
-    push_two_digits(text, year / 100);
-    push_two_digits(text, year);
-    text.push_str("-");
-    push_two_digits(text, month as u16);
-    text.push_str("-");
-    push_two_digits(text, day as u16);
+    push_two_digits(line, year / 100);
+    push_two_digits(line, year);
+    line.push_str("-");
+    push_two_digits(line, month as u16);
+    line.push_str("-");
+    push_two_digits(line, day as u16);
 }
 
 /// Adds a minute in UTC, as `2024-06-10T06:16Z`.
-pub fn push_minute(text: &mut Text, civil: &Civil, t: u32)
+pub fn push_minute(line: &mut Line, civil: &Civil, t: u32)
     requires century { t < century_minutes }
-    requires room { array_string_len text.old + 17 ≤ ROOM }
-    ensures bytes { text.new.bytes ≡ text.old.bytes ++ minute_text t }
-    ensures len { array_string_len text.new ≡ array_string_len text.old + 17 }
+    requires room { array_string_len line.old + 17 ≤ LINE_ROOM }
+    ensures bytes { line.new.bytes ≡ line.old.bytes ++ minute_text t }
+    ensures len { array_string_len line.new ≡ array_string_len line.old + 17 }
 {
-    let fields = civil.utc(t);
-    push_date(text, fields.year, fields.month, fields.day);
-    text.push_str("T");
-    push_two_digits(text, fields.hour as u16);
-    text.push_str(":");
-    push_two_digits(text, fields.minute as u16);
-    text.push_str("Z");
+    push_fields(line, &civil.utc(t));
+}
+
+fn push_fields(line: &mut Line, fields: &Fields)
+    requires { array_string_len line.old + 17 ≤ LINE_ROOM }
+    ensures bytes { line.new.bytes ≡ line.old.bytes ++ fields_text fields.now }
+    ensures len { array_string_len line.new ≡ array_string_len line.old + 17 }
+{
+    push_date(line, fields.year, fields.month, fields.day);
+    line.push_str("T");
+    push_two_digits(line, fields.hour as u16);
+    line.push_str(":");
+    push_two_digits(line, fields.minute as u16);
+    line.push_str("Z");
 }
 
 /// Adds a sequence: its first minute, its first second, and whether a leap second is announced.
-pub fn push_sequence(text: &mut Text, civil: &Civil, q: &Sequence)
+pub fn push_sequence(line: &mut Line, civil: &Civil, q: &Sequence)
     requires sequence { IsSequence q.now }
-    requires room { array_string_len text.old + 42 ≤ ROOM }
-    ensures bytes { text.new.bytes ≡ text.old.bytes ++ sequence_text q.now }
-    ensures len { array_string_len text.new ≤ array_string_len text.old + 42 }
+    requires room { array_string_len line.old + 42 ≤ LINE_ROOM }
+    ensures bytes { line.new.bytes ≡ line.old.bytes ++ sequence_text q.now }
+    ensures len { array_string_len line.new ≤ array_string_len line.old + 42 }
 {
-    push_minute(text, civil, q.first);
-    text.push_str(" ");
-    push_number(text, q.second as u64);
-    text.push_str(" ");
-    if q.announced {
-        text.push_str("yes");
-    } else {
-        text.push_str("no");
-    }
-}
-
-/// Writes a piece of text to standard output.
-pub fn write_text<F: Files>(files: &mut F, text: &Text) -> Result<(), Failed>
-    ensures { Writes F.told F.read_faults F.write_faults files.old files.new text.now.bytes result }
-{
-    write_all(files, OUTPUT, text.as_str().as_bytes())
+    push_minute(line, civil, q.first);
+    line.push_str(" ");
+    push_number(line, q.second as u64);
+    line.push_str(if q.announced { " yes" } else { " no" });
 }

@@ -1,6 +1,8 @@
 //! Files that stay open from one call to the next, so that a file in pieces is opened once.
-ghost use Rattle.std.specs.Prelude.{◌≡◌, ◌+◌, ◌<◌, ◌≤◌, length, IfOk, IfSome};
+ghost use Rattle.std.specs.Prelude.{◌≡◌, ◌≢◌, ◌+◌, ◌<◌, ◌≤◌, length, is_ok, true, IfOk, OnOk, IfSome, IsTrue, Some};
 ghost use Rattle.std.specs.Io.KnownBytes.{ReadConsumes, WriteAppends};
+ghost use Rattle.std.specs.Io.Seek.{MovesTo};
+ghost use Rattle.tsbank.specs.Opened.{IsOpenedBy};
 
 use crate::machine::{read_some, write_some};
 use std::alloc::Global;
@@ -19,7 +21,11 @@ pub struct Opened<F> {
 
 impl<F> Opened<F> {
     /// A file that has just been opened, which stands at its start.
-    pub fn new(alloc: Global, name: &str, file: F) -> Opened<F> {
+    pub fn new(alloc: Global, name: &str, file: F) -> Opened<F>
+        ensures name { IsOpenedBy result.name name.now }
+        ensures file { result.file ≡ file }
+        ensures place { result.place ≡ Some 0 }
+    {
         Opened {
             name: String::from_str(alloc, name).ok(),
             file,
@@ -28,24 +34,55 @@ impl<F> Opened<F> {
     }
 
     /// Whether the file was opened by this name.
-    pub fn is_named(&self, name: &str) -> bool {
-        self.name.as_ref().is_some_and(|kept| kept.as_str() == name)
+    pub fn is_named(&self, name: &str) -> bool
+        ensures { IsTrue result → IsOpenedBy self.now.name name.now }
+    {
+        match &self.name {
+            Some(kept) => kept.as_str() == name,
+            None => false,
+        }
+    }
+}
+
+/// Takes the open file away, and hands it on if it was opened by this name.
+pub fn take_named<F: Drop>(open: &mut Option<Opened<F>>, name: &str) -> Option<Opened<F>>
+    ensures name { IfSome result (λ file. IsOpenedBy file.name name.now) }
+    ensures same { IfSome result (λ file. open.old ≡ Some file) }
+{
+    match open.take() {
+        Some(file) if file.is_named(name) => Some(file),
+        _ => None,
     }
 }
 
 impl<F: Read + Seek> Opened<F> {
-    /// Reads from place `at`, in bytes from the file's start. It seeks only where the file doesn't stand
-    /// there already, so what can't seek is read from its start on.
+    // Goes to place `at`. It seeks only where the file doesn't stand there already, so what can't seek is read
+    // from its start on.
+    fn go_to(&mut self, at: u64) -> io::Result<()>
+        ensures place { OnOk result (self.new.place ≡ Some at) }
+        ensures stays { self.old.place ≡ Some at → is_ok result ≡ true × (self.new.file ≡ self.old.file) }
+        ensures moves { self.old.place ≢ Some at →
+            MovesTo (F.stream_position self.old.file) (F.stream_position self.new.file) at result }
+        ensures name { self.new.name ≡ self.old.name }
+    {
+        if self.place == Some(at) {
+            return Ok(());
+        }
+        self.place = None;
+        self.file.seek(SeekFrom::Start(at))?;
+        self.place = Some(at);
+        Ok(())
+    }
+
+    /// Reads from place `at`, in bytes from the file's start.
     pub fn read_at(&mut self, at: u64, into: &mut [u8]) -> io::Result<usize>
         ensures length { IfOk result (λ n. n ≤ length into.old) }
         ensures here { self.old.place ≡ Some at →
             ReadConsumes (F.remaining self.old.file) (F.remaining self.new.file) result into.new }
         ensures next { IfOk result (λ n. IfSome self.new.place (λ next. next ≡ at + n)) }
+        ensures name { self.new.name ≡ self.old.name }
     {
-        if self.place != Some(at) {
-            self.place = None;
-            self.file.seek(SeekFrom::Start(at))?;
-        }
+        self.go_to(at)?;
         let count = read_some(&mut self.file, into)?;
         self.place = at.checked_add(count as u64);
         Ok(count)
@@ -58,6 +95,7 @@ impl<F: Write> Opened<F> {
         ensures length { IfOk result (λ n. n ≤ length bytes.now) }
         ensures some { IfOk result (λ n. 0 < length bytes.now → 0 < n) }
         ensures bytes { WriteAppends (F.contents self.old.file) (F.contents self.new.file) result bytes.now }
+        ensures name { self.new.name ≡ self.old.name }
     {
         write_some(&mut self.file, bytes)
     }

@@ -38,11 +38,19 @@ blocks announced second span (suc n) lo hi =
     then block_from announced second span lo hi ∷ blocks announced second span n (span_end span lo) hi
     else []
 
--- The items of a window: its years, for each first second, without a leap second and with it.
+-- The items of a window: its years, for each first second, without a leap second and with it. A second 60 comes by
+-- a leap second alone.
 abbrev pub items : Window → List Block
 items window =
     flat_map (λ p. blocks false p Year 100 window.from window.to) (range_with_len 0 60)
     ++ flat_map (λ p. blocks true p Year 100 window.from window.to) (range_with_len 0 61)
+
+-- the next shorter span; a minute has none
+abbrev pub shorter : Span → Span
+shorter Year = Day
+shorter Day = Hour
+shorter Hour = Minute
+shorter Minute = Minute
 
 -- the children of a block: the days of a year, the hours of a day, the minutes of an hour
 abbrev pub children_by : Span → Block → List Block
@@ -54,8 +62,10 @@ children_by Minute b = []
 abbrev pub children : Block → List Block
 children b = children_by b.span b
 
--- a block of a window: what lies of one year, day, hour or minute in the window's range
+-- A block of a window: what lies of one year, day, hour or minute in the window's range, from a second on that a
+-- minute can have.
 pub record IsBlock (window : Window) (b : Block) : Type 0 where
+  pub second : b.second < (if b.announced then 61 else 60)
   pub not_empty : b.lo < b.hi
   pub not_before : window.from ≤ b.lo
   pub begins : (t : ℕ) → window.from ≤ t → t < b.lo → span_end b.span t ≤ b.lo
@@ -76,6 +86,11 @@ IsInNone (b ∷ bs) q = ¬ (IsIn b q) × IsInNone bs q
 abbrev pub IsInOne : List Block → Sequence → Type 0
 IsInOne [] q = ⊥
 IsInOne (b ∷ bs) q = (IsIn b q × IsInNone bs q) ⊎ (¬ (IsIn b q) × IsInOne bs q)
+
+-- the blocks share the minutes from lo up to, and without, hi: each begins where the one before it ends
+abbrev pub CoverInOrder : ℕ → ℕ → List Block → Type 0
+CoverInOrder lo hi [] = lo ≡ hi
+CoverInOrder lo hi (b ∷ bs) = (b.lo ≡ lo) × CoverInOrder b.hi hi bs
 
 -- the first sequence of a block
 abbrev pub first_of : Block → Sequence
@@ -104,15 +119,21 @@ abbrev pub IsMinuteBound : Costs → Window → Block → Option ℕ → Type 0
 IsMinuteBound costs window b None = ¬ (IsLegal window (first_of b))
 IsMinuteBound costs window b (Some n) = IsLegal window (first_of b) × (n ≡ sequence_cost costs window (first_of b))
 
+-- some sequence of the block is walkable
+abbrev pub HasWalk : Window → Block → Type 0
+HasWalk window b = (q : Sequence) × IsIn b q × IsWalkable window q
+
+-- the number is what the unions cost, one for each station of the window in each slot
+pub record IsCostOfUnions (costs : Costs) (window : Window) (b : Block) (n : ℕ) : Type 0 where
+  pub unions : Station → ℕ → ℕ
+  pub each : (station : Station) (k : ℕ) → has_station window.stations station ≡ true → k < window.seconds
+      → IsUnion window b station k (unions station k)
+  pub cost : n ≡ union_cost costs window unions
+
 -- of a longer span: what the unions cost, where some sequence is walkable
 abbrev pub IsUnionBound : Costs → Window → Block → Option ℕ → Type 0
-IsUnionBound costs window b None = (q : Sequence) → IsIn b q → ¬ (IsWalkable window q)
-IsUnionBound costs window b (Some n) =
-    ((q : Sequence) × IsIn b q × IsWalkable window q)
-    × (unions : Station → ℕ → ℕ)
-    × ((station : Station) (k : ℕ) → has_station window.stations station ≡ true → k < window.seconds
-    → IsUnion window b station k (unions station k))
-    × (n ≡ union_cost costs window unions)
+IsUnionBound costs window b None = ¬ (HasWalk window b)
+IsUnionBound costs window b (Some n) = HasWalk window b × IsCostOfUnions costs window b n
 
 abbrev pub IsBoundBy : Span → Costs → Window → Block → Option ℕ → Type 0
 IsBoundBy Minute costs window b bound = IsMinuteBound costs window b bound

@@ -1,7 +1,16 @@
 -- DCF77: what each second of a minute may carry (PTB's description of the time code).
-use Rattle.std.specs.Prelude.{ℕ, ◌+◌, ◌%◌, ◌==◌, nat_lt, if◌then◌else◌, List, [], ◌∷◌}
+use Rattle.std.specs.Prelude.{ℕ, ◌<◌, ◌≤◌, ◌+◌, ◌%◌, ◌==◌, nat_lt, if◌then◌else◌, List, [], ◌∷◌}
 use Rattle.definitions.specs.declared.dcf77.DcfFacts.{DcfFacts}
 use Rattle.definitions.specs.codes.Vocabulary.{only, free, no_second, Field, weights_from, carried_bit, ones, is_within}
+
+-- each fact is in its range
+pub record AreInRange (f : DcfFacts) : Type 0 where
+  pub minute : f.minute < 60
+  pub hour : f.hour < 24
+  pub day : (1 ≤ f.day) × (f.day ≤ 31)
+  pub weekday : f.weekday < 7
+  pub month : (1 ≤ f.month) × (f.month ≤ 12)
+  pub year : f.year < 100
 
 -- the second without a reduction of the carrier
 abbrev pub no_reduction : ℕ

@@ -1,23 +1,16 @@
 -- JJY: what each second of a minute may carry (NICT's description of the standard time code).
-use Rattle.std.specs.Prelude.{ℕ, ◌%◌, Bool, ◌==◌, ◌&&◌, ◌||◌, nat_lt, if◌then◌else◌, List, [], ◌∷◌, ◌++◌}
+use Rattle.std.specs.Prelude.{ℕ, ◌<◌, ◌≤◌, ◌%◌, Bool, ◌==◌, ◌&&◌, ◌||◌, nat_lt, if◌then◌else◌, List, [], ◌∷◌}
 use Rattle.definitions.specs.declared.jjy.JjyFacts.{JjyFacts}
+use Rattle.definitions.specs.codes.MarkedCode.{marker, minute_weights, hour_weights, day_weights}
 use Rattle.definitions.specs.codes.Vocabulary.{only, free, unscored, no_second, Field, weights_from, carried_bit, ones, is_one_of, is_within}
 
--- the symbol that marks seconds
-abbrev pub marker : ℕ
-marker = 2
-
-abbrev pub minute_weights : List (ℕ × ℕ)
-minute_weights = weights_from 1 (40 ∷ 20 ∷ 10 ∷ []) ++ weights_from 5 (8 ∷ 4 ∷ 2 ∷ 1 ∷ [])
-
-abbrev pub hour_weights : List (ℕ × ℕ)
-hour_weights = weights_from 12 (20 ∷ 10 ∷ []) ++ weights_from 15 (8 ∷ 4 ∷ 2 ∷ 1 ∷ [])
-
--- the day of the year, from 1
-abbrev pub day_weights : List (ℕ × ℕ)
-day_weights =
-    weights_from 22 (200 ∷ 100 ∷ []) ++ weights_from 25 (80 ∷ 40 ∷ 20 ∷ 10 ∷ [])
-    ++ weights_from 30 (8 ∷ 4 ∷ 2 ∷ 1 ∷ [])
+-- each fact is in its range
+pub record AreInRange (f : JjyFacts) : Type 0 where
+  pub minute : f.minute < 60
+  pub hour : f.hour < 24
+  pub day_of_year : (1 ≤ f.day_of_year) × (f.day_of_year ≤ 366)
+  pub year : f.year < 100
+  pub weekday : f.weekday < 7
 
 -- the last two digits of the year
 abbrev pub year_weights : List (ℕ × ℕ)

@@ -1,5 +1,5 @@
 -- The words that the telegrams share: sets of symbols, weights of seconds, decimal fields and parity.
-use Rattle.std.specs.Prelude.{ℕ, ◌+◌, ◌/◌, ◌%◌, ◌^◌, Bool, false, ◌==◌, ◌&&◌, ◌||◌, nat_lt, nat_le, if◌then◌else◌, List, [], ◌∷◌, sum_by, Option, option_map, find}
+use Rattle.std.specs.Prelude.{ℕ, ◌+◌, ◌*◌, ◌/◌, ◌%◌, ◌^◌, Bool, false, ◌==◌, ◌&&◌, ◌||◌, nat_lt, nat_le, if◌then◌else◌, List, [], ◌∷◌, sum_by, Option, option_map, find}
 use Rattle.std.specs.Option.{option_map_or}
 
 -- A set of symbols is a mask in which bit x stands for symbol x.
@@ -45,6 +45,13 @@ Field = List (ℕ × ℕ) × ℕ
 abbrev pub carried_bit : List Field → ℕ → ℕ
 carried_bit [] second = 0
 carried_bit (f ∷ fs) second = option_map_or (digit_bit f.1) (weight_of f.0 second) (carried_bit fs second)
+
+-- the number that a field tells, and the sum of the weights of its ones
+abbrev pub value_of : Field → ℕ
+value_of field = field.1
+
+abbrev pub weight_of_ones : Field → ℕ
+weight_of_ones field = sum_by (λ w. w.1 * digit_bit field.1 w.1) field.0
 
 -- how many ones a field has
 abbrev pub ones : List (ℕ × ℕ) → ℕ → ℕ

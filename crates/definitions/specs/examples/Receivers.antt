@@ -5,7 +5,7 @@ use Rattle.signal_base.specs.declared.station.Station.{Station}
 use Rattle.signal_base.specs.declared.station.Station.TheVariants.{Dcf77, Msf, Jjy}
 use Rattle.signal_base.specs.declared.dut.Dut.{Dut}
 use Rattle.signal_base.specs.Table.{difference_table}
-use Rattle.definitions.specs.declared.level.Level.TheVariants.{High, Low}
+use Rattle.definitions.specs.declared.level.Level.TheVariants.{High, Low, Unknown}
 use Rattle.definitions.specs.declared.sequence.Sequence.{Sequence}
 use Rattle.definitions.specs.codes.Vocabulary.{is_one_of, is_within}
 use Rattle.definitions.specs.heard.Logs.{Records}
@@ -33,6 +33,11 @@ costs_in bank station k symbols = map (bank_costs difference_table bank 0 statio
 -- JJY, whose seconds begin as the carrier rises, heard to rise at these times by a receiver that is this late
 abbrev pub rises_at : ℕ → List ℕ → List Receiver
 rises_at delay times = heard Jjy delay 1 (flat_map (λ t. (t - 1, Low) ∷ (t, High) ∷ []) times ++ (9000, High) ∷ []) ∷ []
+
+-- a log that changes from each level to each other, and stays low once
+abbrev pub each_change : Records
+each_change =
+    (100, Low) ∷ (200, High) ∷ (300, Low) ∷ (400, Unknown) ∷ (500, High) ∷ (600, Unknown) ∷ (700, Low) ∷ (800, Low) ∷ []
 
 -- costs by which of the slots from first to last these heard a 1 and the others a 0, at 100 for a symbol that differs
 abbrev pub ones_heard : ℕ → ℕ → List ℕ → ℕ → ℕ → ℕ

@@ -43,7 +43,8 @@ ShowsLeap window q =
     × (set_at station q k ≢ set_at station (unannounced q) k)
 
 -- Walkable; and a leap second is announced only where the window tells: it begins with that second, or the
--- sequence wouldn't be walkable without it, or some station's sets would differ.
+-- sequence wouldn't be walkable without it, or some station's sets would differ. The first case is implied by
+-- the second: without a leap second no minute has a second 60.
 abbrev pub IsLegal : Window → Sequence → Type 0
 IsLegal window q =
     IsWalkable window q

@@ -1,16 +1,18 @@
 //! Worked examples of what receivers heard.
 
-ghost use Rattle.std.specs.Prelude.{◌≡◌, ◌-◌, ◌∷◌, [], map, pos, negsuc};
+ghost use Rattle.std.specs.Prelude.{◌≡◌, ◌-◌, ◌∷◌, ◌++◌, [], map, pos, negsuc};
+ghost use Rattle.std.specs.List.{range_with_len};
 ghost use Rattle.signal_base.specs.declared.station.Station.TheVariants.{Dcf77, Msf, Wwvb, Jjy};
 ghost use Rattle.signal_base.specs.declared.dut.Dut.TheVariants.{Absent, Free, Tied, Tenths};
 ghost use Rattle.signal_base.specs.Table.{difference_table};
 ghost use Rattle.definitions.specs.time.Calendar.{century_minutes};
 ghost use Rattle.definitions.specs.declared.level.Level.TheVariants.{High, Low, Unknown};
+ghost use Rattle.definitions.specs.heard.Dut1.{dut1_values};
 ghost use Rattle.definitions.specs.heard.Logs.{level_at};
-ghost use Rattle.definitions.specs.heard.Phase.{phase_of};
+ghost use Rattle.definitions.specs.heard.Phase.{phase_of, start_edges};
 ghost use Rattle.definitions.specs.heard.Costs.{bank_costs, sequence_cost, set_cost, station_cost};
 ghost use Rattle.definitions.specs.codes.Vocabulary.{free};
-ghost use Rattle.definitions.specs.examples.Receivers.{at_odds, costs_in, dut_heard, heard, ones_heard, rises_at, two_pulses};
+ghost use Rattle.definitions.specs.examples.Receivers.{at_odds, costs_in, dut_heard, each_change, heard, ones_heard, rises_at, two_pulses};
 ghost use Rattle.definitions.specs.examples.Sequences.{from_place, window_of};
 
 /// The levels before the first record, from it on, and from the last record on.
@@ -44,10 +46,19 @@ pub fn receivers_at_odds()
     ensures set { set_cost Msf (bank_costs difference_table at_odds 0 Msf 0) free ≡ 100 }
 {}
 
-/// A phase is that of the seconds as they were heard, a delay of the receiver aside.
+/// A second begins as the carrier falls, and at JJY as it rises; beside a level that isn't known nothing begins.
+pub fn edges_that_begin_a_second()
+    ensures dcf77 { start_edges Dcf77 each_change ≡ 300 ∷ [] }
+    ensures msf { start_edges Msf each_change ≡ 300 ∷ [] }
+    ensures wwvb { start_edges Wwvb each_change ≡ 300 ∷ [] }
+    ensures jjy { start_edges Jjy each_change ≡ 200 ∷ [] }
+{}
+
+/// A phase is that of the seconds as they were heard, a delay of the receiver aside; two receivers are heard together.
 pub fn phase_of_rises()
     ensures plain { phase_of 0 3 (rises_at 0 (237 ∷ 1237 ∷ 2237 ∷ [])) ≡ 237 }
     ensures delayed { phase_of 0 3 (rises_at 237 (237 ∷ 1237 ∷ 2237 ∷ [])) ≡ 0 }
+    ensures together { phase_of 0 3 (rises_at 0 (237 ∷ []) ++ rises_at 0 (1260 ∷ 2260 ∷ [])) ≡ 260 }
 {}
 
 /// Which edges a phase is of: those that fall at DCF77, and in a window of so many seconds, from its first millisecond
@@ -79,13 +90,24 @@ pub fn dut1_heard()
     ensures wwvb_most { dut_heard Wwvb (36 ∷ 38 ∷ 40 ∷ 43 ∷ []) (from_place 720 0) ≡ Tenths (pos 9) }
     ensures wwvb_fewest { dut_heard Wwvb (37 ∷ 40 ∷ 43 ∷ []) (from_place 720 0) ≡ Tenths (negsuc 8) }
     ensures two_days { dut_heard Msf [] (from_place 1439 30) ≡ Free }
+    ensures two_hours { dut_heard Msf [] (from_place 779 30) ≡ Tenths (pos 0) }
     ensures not_sent { dut_heard Jjy [] (from_place 720 0) ≡ Absent }
 {}
 
-/// Two ones behind second 8 of MSF fit a value of DUT1; the second of them alone fits none, and costs what it differs.
+/// Two ones behind second 8 of MSF fit a value of DUT1; the second of them alone fits none, and costs what it differs. From
+/// 23:59:30 on, over the end of a UTC day, it costs nothing.
 pub fn dut1_costs()
     ensures fits { station_cost Msf (ones_heard 1 16 (9 ∷ 10 ∷ [])) 60 (from_place 720 0) ≡ 0 }
     ensures differs { station_cost Msf (ones_heard 1 16 (10 ∷ [])) 60 (from_place 720 0) ≡ 100 }
+    ensures two_days { station_cost Msf (ones_heard 31 46 (40 ∷ [])) 60 (from_place 1439 30) ≡ 0 }
+{}
+
+/// The values of DUT1 that a station can tell, in tenths: -8 to 8 at MSF, -9 to 9 at WWVB.
+pub fn values_of_dut1()
+    ensures msf { dut1_values Msf ≡ map negsuc (7 ∷ 6 ∷ 5 ∷ 4 ∷ 3 ∷ 2 ∷ 1 ∷ 0 ∷ []) ++ map pos (range_with_len 0 9) }
+    ensures wwvb { dut1_values Wwvb ≡ map negsuc (8 ∷ 7 ∷ 6 ∷ 5 ∷ 4 ∷ 3 ∷ 2 ∷ 1 ∷ 0 ∷ []) ++ map pos (range_with_len 0 10) }
+    ensures dcf77 { dut1_values Dcf77 ≡ [] }
+    ensures jjy { dut1_values Jjy ≡ [] }
 {}
 
 /// At one for each second, a minute costs 60 for each station, and at JJY 9 less where it isn't scored.

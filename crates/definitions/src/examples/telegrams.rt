@@ -1,13 +1,21 @@
 //! Worked examples of telegrams, computed from the definitions alone. A minute is named by its date, hour and minute, in
 //! UTC.
 
-ghost use Rattle.std.specs.Prelude.{◌≡◌, ◌+◌, ◌*◌, ◌∷◌, ◌++◌, [], codes, map, true, false};
+ghost use Rattle.std.specs.Prelude.{◌≡◌, ◌+◌, ◌*◌, ◌∷◌, ◌++◌, [], codes, filter, map, true, false};
 ghost use Rattle.signal_base.specs.declared.station.Station.TheVariants.{Dcf77, Msf, Wwvb, Jjy};
+ghost use Rattle.signal_base.specs.Mask.{has_bit};
 ghost use Rattle.definitions.specs.codes.Allowed.{allowed, dcf_facts, msf_facts, wwvb_facts, jjy_facts};
 ghost use Rattle.definitions.specs.codes.Msf.{msf_second};
-ghost use Rattle.definitions.specs.codes.Vocabulary.{free, only, unscored};
+ghost use Rattle.definitions.specs.codes.Vocabulary.{free, no_second, only, unscored};
 ghost use Rattle.definitions.specs.codes.Listing.{characters};
 ghost use Rattle.definitions.specs.examples.Dates.{at, on};
+
+/// The symbols of a set: of one symbol, of 0 and 1 alike, and of a second that the minute doesn't have.
+pub fn symbols_of_a_set()
+    ensures one { map (λ x. filter (has_bit (only x)) (0 ∷ 1 ∷ 2 ∷ 3 ∷ 4 ∷ [])) (0 ∷ 2 ∷ 4 ∷ []) ≡ (0 ∷ []) ∷ (2 ∷ []) ∷ (4 ∷ []) ∷ [] }
+    ensures two { filter (has_bit free) (0 ∷ 1 ∷ 2 ∷ 3 ∷ 4 ∷ []) ≡ 0 ∷ 1 ∷ [] }
+    ensures none { filter (has_bit no_second) (0 ∷ 1 ∷ 2 ∷ 3 ∷ 4 ∷ []) ≡ [] }
+{}
 
 /// DCF77 at 2016-12-31T23:59Z, the minute with the leap second: 01:00 on Sunday 2017-01-01 follows.
 pub fn dcf77_with_a_leap_second()

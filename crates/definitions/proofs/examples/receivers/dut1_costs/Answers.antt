@@ -13,3 +13,7 @@ returns-clause-fits c = refl
 pub returns-clause-differs : goal.returns-clause-differs
 unfolding day_at season_at eu_change_within place_at sum_below
 returns-clause-differs c = refl
+
+pub returns-clause-two_days : goal.returns-clause-two_days
+unfolding day_at season_at eu_change_within place_at sum_below
+returns-clause-two_days c = refl

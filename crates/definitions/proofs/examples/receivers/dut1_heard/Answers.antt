@@ -48,3 +48,7 @@ returns-clause-two_days c = refl
 pub returns-clause-not_sent : goal.returns-clause-not_sent
 unfolding day_at place_at sum_below
 returns-clause-not_sent c = refl
+
+pub returns-clause-two_hours : goal.returns-clause-two_hours
+unfolding day_at place_at sum_below
+returns-clause-two_hours c = refl

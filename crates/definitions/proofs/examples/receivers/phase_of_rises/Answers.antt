@@ -10,3 +10,7 @@ returns-clause-plain c = refl
 pub returns-clause-delayed : goal.returns-clause-delayed
 unfolding first_maximum
 returns-clause-delayed c = refl
+
+pub returns-clause-together : goal.returns-clause-together
+unfolding first_maximum
+returns-clause-together c = refl

@@ -1,5 +1,5 @@
 -- DCF77 at 2024-03-31T00:59Z, the minute before summer time.
-use Rattle.std.proofs.Common.{◌+◌, ◌*◌, false, refl, ◌∙◌}
+use Rattle.std.proofs.Common.{false, refl, ◌∙◌}
 use Rattle.definitions.specs.time.Calendar.{day_at}
 use Rattle.definitions.specs.time.Summer.{season_at, eu_change_within}
 use Rattle.definitions.specs.examples.Dates.{at, on}

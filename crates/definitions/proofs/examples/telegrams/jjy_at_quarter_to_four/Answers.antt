@@ -1,5 +1,5 @@
 -- JJY at 2024-06-10T06:45Z, in Japan 15:45.
-use Rattle.std.proofs.Common.{◌+◌, ◌*◌, false, refl, ◌∙◌}
+use Rattle.std.proofs.Common.{false, refl, ◌∙◌}
 use Rattle.definitions.specs.time.Calendar.{day_at}
 use Rattle.definitions.specs.examples.Dates.{at, on}
 use Rattle.definitions.proofs.ListingLaws.{jjy_characters}

@@ -1,5 +1,5 @@
 -- MSF at 2024-07-15T12:00Z, in summer time.
-use Rattle.std.proofs.Common.{◌+◌, ◌*◌, false, refl, ◌∙◌}
+use Rattle.std.proofs.Common.{false, refl, ◌∙◌}
 use Rattle.definitions.specs.time.Calendar.{day_at}
 use Rattle.definitions.specs.time.Summer.{season_at, eu_change_within}
 use Rattle.definitions.specs.examples.Dates.{at, on}

@@ -1,5 +1,5 @@
 -- MSF at 2016-12-31T23:59Z, the minute with the leap second.
-use Rattle.std.proofs.Common.{◌+◌, ◌*◌, true, refl, ◌∙◌}
+use Rattle.std.proofs.Common.{true, refl, ◌∙◌}
 use Rattle.definitions.specs.time.Calendar.{day_at}
 use Rattle.definitions.specs.time.Summer.{season_at, eu_change_within}
 use Rattle.definitions.specs.examples.Dates.{at, on}

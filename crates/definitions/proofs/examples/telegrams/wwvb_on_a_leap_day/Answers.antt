@@ -1,5 +1,5 @@
 -- WWVB at 2024-02-29T12:34Z.
-use Rattle.std.proofs.Common.{◌+◌, ◌*◌, false, refl, ◌∙◌}
+use Rattle.std.proofs.Common.{false, refl, ◌∙◌}
 use Rattle.definitions.specs.time.Calendar.{day_at}
 use Rattle.definitions.specs.time.Summer.{season_at}
 use Rattle.definitions.specs.examples.Dates.{at, on}

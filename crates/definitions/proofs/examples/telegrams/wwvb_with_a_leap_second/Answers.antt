@@ -1,5 +1,5 @@
 -- WWVB at 2016-12-31T23:59Z.
-use Rattle.std.proofs.Common.{◌+◌, ◌*◌, true, refl, ◌∙◌}
+use Rattle.std.proofs.Common.{true, refl, ◌∙◌}
 use Rattle.definitions.specs.time.Calendar.{day_at}
 use Rattle.definitions.specs.time.Summer.{season_at}
 use Rattle.definitions.specs.examples.Dates.{at, on}

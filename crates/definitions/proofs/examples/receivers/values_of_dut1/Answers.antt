@@ -1,0 +1,15 @@
+-- Values of DUT1.
+use Rattle.std.proofs.Common.{refl}
+use Rattle.definitions.proofs.examples.receivers.values_of_dut1.Goals as goal
+
+pub returns-clause-msf : goal.returns-clause-msf
+returns-clause-msf c = refl
+
+pub returns-clause-wwvb : goal.returns-clause-wwvb
+returns-clause-wwvb c = refl
+
+pub returns-clause-dcf77 : goal.returns-clause-dcf77
+returns-clause-dcf77 c = refl
+
+pub returns-clause-jjy : goal.returns-clause-jjy
+returns-clause-jjy c = refl

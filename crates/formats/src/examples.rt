@@ -1,0 +1,13 @@
+//! Worked examples of texts, which the checker computes from the definitions alone.
+
+mod listings;
+mod logs;
+mod refusals;
+mod reports;
+
+pub use listings::{feeds, listed_minutes, sentences};
+pub use logs::{bad_lines, good_logs, lines_of_texts};
+pub use refusals::{refused_certificates, refused_configurations, refused_logs, refused_words};
+pub use reports::{
+    heads_of_reports, minutes_of_reports, reports_without_a_decision, summaries_of_trials,
+};

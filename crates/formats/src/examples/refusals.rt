@@ -1,0 +1,48 @@
+//! The line of each refusal, spelled out.
+#![tactic(auto, unfolding(crate::specs::Examples::digits))]
+
+ghost use Rattle.std.specs.Prelude.{◌≡◌, codes, Some, None};
+ghost use Rattle.formats.specs.Bytes.{line};
+ghost use Rattle.formats.specs.declared.fault.LineFault.TheVariants.{Shape, NotRising, TooManyRecords};
+ghost use Rattle.formats.specs.declared.refusal.Refusal.TheVariants.{WordsUsage, LogTooLarge, LogLine};
+ghost use Rattle.formats.specs.Refusals.ConfigurationFault.{TooLarge, NotToml, MissingKey, WrongKind, OutOfRange, UnknownKey};
+ghost use Rattle.formats.specs.Refusals.CertificateFault.{BadLine, NotAbove, OtherWindow, TooLarge as CertificateTooLarge, TooManySteps, Uncovered, WrongBound, WrongEnds};
+ghost use Rattle.formats.specs.Refusals.{bad_word_line, certificate_fault_line, configuration_fault_line, empty_range_line, refusal_text};
+
+/// Words.
+pub fn refused_words()
+    ensures usage { refusal_text WordsUsage ≡ line (codes "words: usage") }
+    ensures value { bad_word_line (codes "--seconds") ≡ line (codes "words: bad --seconds") }
+    ensures range { empty_range_line ≡ line (codes "words: --to is before --from") }
+{}
+
+/// Configurations.
+pub fn refused_configurations()
+    ensures large { configuration_fault_line TooLarge ≡ line (codes "configuration: too large") }
+    ensures toml { configuration_fault_line NotToml ≡ line (codes "configuration: not toml") }
+    ensures missing { configuration_fault_line (MissingKey None (codes "station")) ≡ line (codes "configuration: missing station") }
+    ensures kind { configuration_fault_line (WrongKind None (codes "low")) ≡ line (codes "configuration: wrong kind low") }
+    ensures range { configuration_fault_line (OutOfRange (Some 2) (codes "weight")) ≡ line (codes "configuration: out of range receiver 2 weight") }
+    ensures other { configuration_fault_line UnknownKey ≡ line (codes "configuration: unknown key") }
+{}
+
+/// Logs.
+pub fn refused_logs()
+    ensures large { refusal_text (LogTooLarge 2 (codes "roof")) ≡ line (codes "log 2 roof: too large") }
+    ensures shape { refusal_text (LogLine 1 (codes "a") 4 Shape) ≡ line (codes "log 1 a: line 4: shape") }
+    ensures rising { refusal_text (LogLine 1 (codes "a") 2 NotRising) ≡ line (codes "log 1 a: line 2: not rising") }
+    ensures many { refusal_text (LogLine 1 (codes "a") 200001 TooManyRecords) ≡ line (codes "log 1 a: line 200001: too many records") }
+{}
+
+/// Certificates.
+pub fn refused_certificates()
+    ensures large { certificate_fault_line CertificateTooLarge ≡ line (codes "certificate: too large") }
+    ensures shape { certificate_fault_line (BadLine 143) ≡ line (codes "certificate: line 143: shape") }
+    ensures many { certificate_fault_line (TooManySteps 2000012) ≡ line (codes "certificate: line 2000012: too many steps") }
+    ensures window { certificate_fault_line OtherWindow ≡ line (codes "certificate: other window") }
+    ensures uncovered { certificate_fault_line (Uncovered 131) ≡ line (codes "certificate: uncovered at step 131") }
+    ensures bound { certificate_fault_line (WrongBound 1) ≡ line (codes "certificate: wrong bound at step 1") }
+    ensures above { certificate_fault_line (NotAbove 1) ≡ line (codes "certificate: not above at step 1") }
+    ensures ends { certificate_fault_line (WrongEnds (Some 52_595_938)) ≡ line (codes "certificate: wrong ends 52595938") }
+    ensures no_end { certificate_fault_line (WrongEnds None) ≡ line (codes "certificate: wrong ends -") }
+{}
