@@ -16,12 +16,12 @@ use Rattle.definitions.specs.sequences.Walks.{set_at}
 use Rattle.definitions.specs.heard.Costs.{bank_costs, set_cost}
 use Rattle.definitions.specs.answers.Answers.{IsAnswer}
 use Rattle.definitions.specs.answers.FirstTwo.{AreLeastTwo, IsKey, answer_from}
-use Rattle.due.specs.Owed.{IsOfDay, bank_of, day_cost, day_window}
+use Rattle.due.specs.Days.{IsOfDay, bank_of, day_cost, day_window}
 use Rattle.due.proofs.DayLaws.{of_day}
 use Rattle.definitions.proofs.CostLaws.{set_cost_same, sum_below_same}
 use Rattle.definitions.proofs.EndLaws.{answer_is}
 use Rattle.symbol_cost.specs.Grid.{Grid, HasCosts, IsPriced, cost_at}
-use Rattle.texts.specs.Writing.{IsReportable}
+use Rattle.texts.specs.Reportable.{IsReportable}
 use Rattle.bank.specs.Plain.{IsPlain, row_cost}
 use Rattle.bank.proofs.KeyLaws.{keep_least}
 use Rattle.bank.proofs.StationLaws.{cost_of_jjy}
@@ -72,5 +72,5 @@ day_answer day within log grid has first second least =
 -- its sequences can be shown
 pub reportable : (day : ℕ) → day < century_days → (cost : Sequence → ℕ) (answer : Answer) → IsAnswer (IsOfDay day) cost answer → IsReportable (day_window day) answer
 reportable day within cost Nothing is = tt
-reportable day within cost (Decided c q next) is = (omega arith, of_day day q within is.0.is_admitted, is.0.is_admitted.0)
+reportable day within cost (Decided c q next) is = (omega arith, omega arith, of_day day q within is.0.is_admitted, is.0.is_admitted.0)
 reportable day within cost (Undecided c q r) is = (of_day day q within is.0.are_admitted.0, of_day day r within is.0.are_admitted.1)

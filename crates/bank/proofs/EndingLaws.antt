@@ -1,65 +1,113 @@
--- How the ends of the parts of a run are the end of the whole.
-use Rattle.std.proofs.Common.{◌≡◌, ◌≢◌, ℕ, ◌≤◌, inl, inr, ⊎_elim, List, [], ◌∷◌, length, Result, Ok, Err, subst}
-use Rattle.bank_files.specs.Told.{Told, Holds, Tells, AppendsFront, appended, output_name}
-use Rattle.bank_files.specs.Files.{KeepsCounts, KeepsAll}
-use Rattle.bank_files.proofs.Lasting.{HasFault-from}
-use Rattle.due.specs.Owed.{IsDecode, IsFileWord, OwesForLog, Bad_words, Decodes, Refused, log_limit}
-use Rattle.formats.specs.LogLines as lines
-use Rattle.pulse_log.specs.declared.fault.LogFault.{LogFault}
-use Rattle.pulse_log.specs.declared.fault.LogFault.TheVariants.{Shape, NotRising, TooManyRecords}
-use Rattle.pulse_log.specs.declared.fault.LogFault.TheVariants as faults
-use Rattle.pulse_log.specs.Reading.{IsFaultOf}
-use Rattle.formats.specs.Refusals.{usage_line}
-use Rattle.bank.specs.declared.stop.Stop.{Stop}
+-- How the parts of a run make its end.
+use Rattle.std.proofs.Common.{◌≡◌, ◌≢◌, ℕ, ◌+◌, ◌<◌, ◌≤◌, inl, inr, List, [], ◌∷◌, length, replicate, Result, Ok, Err, refl, sym, ap, ◌∙◌, subst, arith}
+use Rattle.std.proofs.lemmas.List.{length-replicate}
+use Rattle.definitions.specs.time.Spelling.{dash}
+use Rattle.bank_files.specs.Told.{Told, Untold, Missing, Holds, Finds, output_name}
+use Rattle.bank_files.specs.Seen.{Seen, SameCounts, ReadFails, OnlyReads, Writes}
+use Rattle.bank_files.proofs.Chaining.{Writes-after_reads}
+use Rattle.formats.specs.declared.limits.TheConstants.{LOG_LIMIT}
+use Rattle.formats.specs.declared.refusal.Refusal.TheVariants.{WordsUsage}
+use Rattle.due.specs.declared.due.Due.{Due}
+use Rattle.due.specs.declared.due.Due.TheVariants.{Refused}
+use Rattle.due.specs.declared.status.Status.TheVariants.{BadWords}
+use Rattle.due.specs.Dues.{status_of, text_of}
+use Rattle.due.specs.Days.{receiver_name}
+use Rattle.due.specs.LogFiles.{IsBad, IsGood}
+use Rattle.due.specs.Rules.{IsDue, IsRead, Bad_words, Bad_log, Answered, Reads_log}
+use Rattle.due.specs.Words.{IsDecode, IsFileWord}
+use Rattle.due.proofs.DueLaws.{due_is_one, log_is_read, only_log_is_read}
 use Rattle.bank.specs.declared.stop.Stop.TheVariants.{Failed, NoMemory}
-use Rattle.bank.specs.RunEnds.{EndsWith, EndsForLog, EndsForWords, IsOneOf, IsOwedFor}
+use Rattle.bank.specs.Ending.{Agrees, AreTold, Ends, IsTold, PrintsNothing, TellsDue}
+use Rattle.bank.specs.Finding.{IsDueForLog, IsFound}
 
 -- a word that names a file isn't standard output
 pub not_output : (word : List ℕ) → IsFileWord word → word ≢ output_name
 not_output [] is e = is
-not_output (b ∷ bs) is e = is (let same : b ≡ 45 = cc in same)
+not_output (b ∷ bs) is e = is (let same : b ≡ dash = cc in same)
 
--- a refused log owes its refusal
-pub fault_owed : (day : ℕ) (bytes : List ℕ) → length bytes ≤ log_limit → (f : LogFault) → IsFaultOf bytes f → (s : ℕ) (t : List ℕ) → IsOwedFor f s t → OwesForLog day bytes s t
-fault_owed day bytes small (Shape at) is s t p = Refused small at lines.Shape is p.0 p.1
-fault_owed day bytes small (NotRising at) is s t p = Refused small at lines.NotRising is p.0 p.1
-fault_owed day bytes small (TooManyRecords at) is s t p = Refused small at lines.TooManyRecords is p.0 p.1
-fault_owed day bytes small faults.NoMemory is s t p = absurd p
+-- what is told of a file is what was read
+pub read_is : (t : Told) (bytes : List ℕ) (limit : ℕ) → Finds t (λ file. (bytes ≡ file) × (length file ≤ limit)) → Finds t (λ file. bytes ≡ file)
+read_is Untold bytes limit found = tt
+read_is Missing bytes limit found = found
+read_is (Holds file) bytes limit found = found.0
 
-module _ {F : Type 0} (told : F → List ℕ → Told) (reads writes : F → List ℕ → ℕ) where
-  -- what is owed may be said in another way
-  pub EndsWith-weaker : (a b : F) (P Q : ℕ → List ℕ → Type 0) → ((s : ℕ) (t : List ℕ) → P s t → Q s t) → (r : Result ℕ Stop) → EndsWith told writes a b P r → EndsWith told writes a b Q r
-  EndsWith-weaker a b P Q f (Ok s) h = (h.0, (h.1.0, f s h.1.0 h.1.1, h.1.2))
-  EndsWith-weaker a b P Q f (Err Failed) h = (h.0, (h.1.0, h.1.1, f h.1.0 h.1.1 h.1.2, h.1.3))
-  EndsWith-weaker a b P Q f (Err NoMemory) h = h
+-- a file that is too large may hold some bytes, which are too many
+pub large_bytes : (t : Told) → Finds t (λ file. LOG_LIMIT < length file)
+    → (bytes : List ℕ) × Finds t (λ file. bytes ≡ file) × (LOG_LIMIT < length bytes)
+large_bytes Untold found =
+    let long = length-replicate (LOG_LIMIT + 1) 0 in
+    (replicate (LOG_LIMIT + 1) 0, tt, omega (arith, long))
+large_bytes Missing found = absurd found
+large_bytes (Holds file) found = (file, refl, found)
 
-  -- after the log was read, which changes no file
-  pub log_ends : (old mid new : F) (day : ℕ) (log : List ℕ) (P : ℕ → List ℕ → Type 0) → KeepsAll told old mid → KeepsCounts reads writes old mid
-      → ((bytes : List ℕ) → told old log ≡ Holds bytes → (s : ℕ) (t : List ℕ) → P s t → OwesForLog day bytes s t)
-      → (r : Result ℕ Stop) → EndsWith told writes mid new P r → EndsForLog told reads writes old new day log r
-  log_ends old mid new day log P same counts owed (Ok s) h =
-      (h.0, λ bytes is. (h.1.0, owed bytes is s h.1.0 h.1.1, subst (λ t. Tells (appended t h.1.0) (told new output_name)) (same output_name) h.1.2))
-  log_ends old mid new day log P same counts owed (Err Failed) h = (
-    inl (HasFault-from (writes old output_name) (writes mid output_name) (writes new output_name) (counts.of_writes output_name) h.0),
-    inr (λ bytes is. (h.1.0, h.1.1, owed bytes is h.1.0 h.1.1 h.1.2, subst (λ t. AppendsFront t h.1.1 (told new output_name)) (same output_name) h.1.3)),
-  )
-  log_ends old mid new day log P same counts owed (Err NoMemory) h = subst (λ t. Tells t (told new output_name)) (same output_name) h
+-- a run that only read printed nothing
+pub prints_nothing : (old new : Seen) → OnlyReads old new → PrintsNothing old new
+prints_nothing old new only = inl (ap (λ (told : List ℕ → Told). told output_name) only.told)
 
-  -- the words aren't of the grammar
-  pub words_refused : (old new : F) (words : List (List ℕ)) → ((day : ℕ) (log : List ℕ) → ¬ (IsDecode words day log))
-      → (r : Result ℕ Stop) → EndsWith told writes old new (IsOneOf 3 usage_line) r → EndsForWords told reads writes old new words r
-  words_refused old new words bad (Ok s) h = (h.0, λ contents tells. (h.1.0, Bad_words bad h.1.1.0 h.1.1.1, h.1.2))
-  words_refused old new words bad (Err Failed) h = (inl h.0, inr (λ contents tells. (h.1.0, h.1.1, Bad_words bad h.1.2.0 h.1.2.1, h.1.3)))
-  words_refused old new words bad (Err NoMemory) h = h
+-- the words ask for nothing, and the refusal is written
+pub words_refused : (old new : Seen) (words : List (List ℕ)) → ((day : ℕ) (log : List ℕ) → ¬ (IsDecode words day log))
+    → Writes output_name old new (text_of (Refused WordsUsage)) (Ok tt) → Ends old new words (Ok BadWords)
+words_refused old new words none written =
+    (((λ _. []), Refused WordsUsage, (λ name read. absurd (nothing_read name read)), Bad_words none refl, (refl, written.whole)), written.same_counts)
+  where
+    nothing_read : (name : List ℕ) → IsRead words (λ _. []) name → ⊥
+    nothing_read name (Reads_log day log is here) = none day log is
 
-  -- the words name a day and a log
-  pub words_accepted : (old new : F) (words : List (List ℕ)) (day : ℕ) (log : List ℕ) → IsDecode words day log
-      → (r : Result ℕ Stop) → EndsForLog told reads writes old new day log r → EndsForWords told reads writes old new words r
-  words_accepted old new words day log is (Ok s) h =
-      (h.0, λ contents tells. let found = h.1 (contents log) (tells day log is) in (found.0, Decodes day log is found.1, found.2))
-  words_accepted old new words day log is (Err Failed) h = (
-    ⊎_elim (λ w. inl w) (λ r. inr (day, log, is, r)) h.0,
-    ⊎_elim (λ none. inl none)
-        (λ some_of. inr (λ contents tells. let found = some_of (contents log) (tells day log is) in (found.0, found.1, Decodes day log is found.2, found.3))) h.1,
-  )
-  words_accepted old new words day log is (Err NoMemory) h = h
+-- or a front of it
+pub words_not_refused : {E : Type 0} (old new : Seen) (words : List (List ℕ)) (e : E) → ((day : ℕ) (log : List ℕ) → ¬ (IsDecode words day log))
+    → Writes output_name old new (text_of (Refused WordsUsage)) (Err e) → Ends old new words (Err Failed)
+words_not_refused old new words e none written =
+    (inl written.cause, inr ((λ _. []), Refused WordsUsage, (λ name read. absurd (nothing_read name read)), Bad_words none refl, written.front))
+  where
+    nothing_read : (name : List ℕ) → IsRead words (λ _. []) name → ⊥
+    nothing_read name (Reads_log day log is here) = none day log is
+
+module _ (words : List (List ℕ)) (day : ℕ) (log : List ℕ) (is : IsDecode words day log) where
+  -- bytes that agree with what is told of the log agree with all that is told of what is read
+  log_agrees : (old : Seen) (bytes : List ℕ) → Finds (old.told log) (λ file. bytes ≡ file) → Agrees old words (λ _. bytes)
+  log_agrees old bytes found name read =
+      subst (λ (n : List ℕ). Finds (old.told n) (λ file. bytes ≡ file)) (sym (only_log_is_read words (λ _. bytes) day log name is read)) found
+
+  -- the log couldn't be read
+  pub log_not_read : (old new : Seen) → OnlyReads old new → ReadFails log old new → Ends old new words (Err Failed)
+  log_not_read old new only fails =
+      (inr ((λ _. []), log, log_is_read words (λ _. []) day log is, fails), inl (prints_nothing old new only))
+
+  -- what was found is written
+  pub due_told : (old mid new : Seen) (due : Due) → IsFound old day log due → OnlyReads old mid → SameCounts old mid
+      → Writes output_name mid new (text_of due) (Ok tt) → Ends old new words (Ok (status_of due))
+  due_told old mid new due found only same written =
+      let all = Writes-after_reads output_name old mid new (text_of due) (Ok tt) only same written in
+      (((λ _. found.0), due, log_agrees old found.0 found.1, found.2 words log is, (refl, all.whole)), all.same_counts)
+
+  -- or a front of it
+  pub due_not_told : {E : Type 0} (old mid new : Seen) (due : Due) (e : E) → IsFound old day log due → OnlyReads old mid → SameCounts old mid
+      → Writes output_name mid new (text_of due) (Err e) → Ends old new words (Err Failed)
+  due_not_told old mid new due e found only same written =
+      let all = Writes-after_reads output_name old mid new (text_of due) (Err e) only same written in
+      (inl all.cause, inr ((λ _. found.0), due, log_agrees old found.0 found.1, found.2 words log is, all.front))
+
+-- what is due for a log is due for the same log
+due_for_same : (words : List (List ℕ)) (some other : List ℕ → List ℕ) (due : Due)
+    → ((name : List ℕ) → IsRead words some name → some name ≡ other name) → IsDue words some due → IsDue words other due
+due_for_same words some other due same (Bad_words none e) = Bad_words none e
+due_for_same words some other due same (Bad_log day log is refusal (inl bad) e) =
+    Bad_log day log is refusal (inl (subst (λ (bytes : List ℕ). IsBad (record { receiver = 1; name = receiver_name; file = log }) bytes refusal) (same log (log_is_read words some day log is)) bad)) e
+due_for_same words some other due same (Bad_log day log is refusal (inr more) e) = absurd more.2
+due_for_same words some other due same (Answered day log is records good answer right e) =
+    Answered day log is records (subst (λ (bytes : List ℕ). IsGood bytes records) (same log (log_is_read words some day log is)) good.0, good.1) answer right e
+
+-- where the contents are told, it is what is due for them
+pub told_exactly : (old new : Seen) (words : List (List ℕ)) (code : ℕ) → TellsDue old new words code
+    → (contents : List ℕ → List ℕ) → AreTold old words contents → (due : Due) → IsDue words contents due → IsTold old new due code
+told_exactly old new words code (some, found, agrees, is, told) contents all due also =
+    let one = due_is_one words contents found due (due_for_same words some contents found same is) also in
+    subst (λ d. IsTold old new d code) one told
+  where
+    same : (name : List ℕ) → IsRead words some name → some name ≡ contents name
+    same name read =
+        subst (λ (t : Told). Finds t (λ bytes. some name ≡ bytes)) (all name (also_read name read)) (agrees name read)
+      where
+        also_read : (n : List ℕ) → IsRead words some n → IsRead words contents n
+        also_read n (Reads_log day log is' here) =
+            subst (λ (m : List ℕ). IsRead words contents m) (sym (only_log_is_read words some day log n is' (Reads_log day log is' here))) (log_is_read words contents day log is')

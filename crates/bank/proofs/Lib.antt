@@ -4,4 +4,3 @@ pub mod KeyLaws
 pub mod WordLaws
 pub mod DayLaws
 pub mod EndingLaws
-pub mod OwedLaws

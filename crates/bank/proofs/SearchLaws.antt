@@ -12,7 +12,7 @@ use Rattle.definitions.specs.codes.Allowed.{allowed, encoded_year}
 use Rattle.definitions.specs.sequences.Walks.{place_at}
 use Rattle.definitions.proofs.PlaceLaws.{place_at-plain}
 use Rattle.bank.specs.Plain.{AreSets, IsSentSet, plain, sent_sets}
-use Rattle.due.specs.Owed.{jjy_alone}
+use Rattle.due.specs.Days.{jjy_alone}
 use Rattle.bank.proofs.StationLaws.{sent_by_jjy, encoded_by_jjy}
 
 -- what a second of a minute carries, as the search looks it up

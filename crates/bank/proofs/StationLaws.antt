@@ -8,7 +8,7 @@ use Rattle.definitions.specs.declared.sequence.Sequence.{Sequence}
 use Rattle.definitions.specs.time.Calendar.{century_minutes}
 use Rattle.definitions.specs.codes.Allowed.{encoded_year, has_station, stations_of, CanBeEncoded}
 use Rattle.definitions.specs.heard.Costs.{Costs, station_cost, sequence_cost}
-use Rattle.due.specs.Owed.{jjy_alone}
+use Rattle.due.specs.Days.{jjy_alone}
 
 -- no other station is heard
 each_encodes : (t : ℕ) → encoded_year Jjy t ≤ 2099 → (station : Station) → has_station jjy_alone station ≡ true → encoded_year station t ≤ 2099

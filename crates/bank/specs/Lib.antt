@@ -1,4 +1,5 @@
+pub mod Ending
+pub mod Finding
 pub mod Found
 pub mod Plain
 pub mod Words
-pub mod RunEnds

@@ -2,19 +2,17 @@
 
 ghost use Rattle.std.specs.Prelude.{◌≡◌, ◌<◌, IfOk};
 ghost use Rattle.definitions.specs.time.Calendar.{century_days};
-ghost use Rattle.due.specs.Owed.{IsDayAnswer, day_window};
-ghost use Rattle.texts.specs.Writing.{IsReportable};
+ghost use Rattle.due.specs.Days.{IsDayAnswer, day_window};
+ghost use Rattle.texts.specs.Reportable.{IsReportable};
 
 use crate::search::search;
 use civil::Civil;
+use definitions::MINUTES_PER_DAY;
 use pulse_log::Log;
 use sequence::{Answer, answer_of};
 use signal_base::{CostTable, Station, Stations, Tuning, Window};
 use std::alloc::{AllocError, Global};
 use symbol_cost::CostGrid;
-
-// The minutes of a day.
-const MINUTES_PER_DAY: u32 = 1440;
 
 // How many seconds of the log are decoded.
 const SECONDS: u16 = 120;

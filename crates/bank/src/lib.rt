@@ -1,9 +1,10 @@
-//! The program as one call over files: what is printed is what the definitions owe.
+//! The program as one call over files: what is printed is what is due.
 #![tactic(auto)]
 
 mod decide;
+mod deliver;
+mod find;
 mod found;
-mod laws;
 mod program;
 mod search;
 mod stop;
@@ -11,5 +12,4 @@ mod stop;
 mod tests;
 mod words;
 
-pub use laws::owed_is_one;
 pub use program::run;

@@ -6,7 +6,7 @@ ghost use Rattle.definitions.specs.time.Calendar.{century_minutes};
 ghost use Rattle.definitions.specs.answers.FirstTwo.{AreLeastTwo, IsKey};
 ghost use Rattle.definitions.specs.sequences.Walks.{IsWalkable, place_at};
 ghost use Rattle.bank.specs.Plain.{AreSets, IsPlain, IsSeen, IsSentSet, plain, row_cost, sent_sets};
-ghost use Rattle.due.specs.Owed.{jjy_alone};
+ghost use Rattle.due.specs.Days.{jjy_alone};
 
 use crate::found::Found;
 use civil::Civil;

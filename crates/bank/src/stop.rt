@@ -1,10 +1,41 @@
-//! Why a run ends without an answer or a refusal.
+//! Why a run ends without telling what is due.
 
-/// What kept a run from telling anything.
+ghost use Rattle.std.specs.Prelude.{◌≡◌};
+ghost use Rattle.bank.specs.declared.stop.Stop.TheVariants as stops;
+
+use bank_files::Failed;
+use civil::CivilFault;
+use std::alloc::AllocError;
+
+/// What kept a run from telling what is due.
 #[derive(Clone, Copy, Debug, PartialEq, Eq)]
 pub enum Stop {
     /// A file couldn't be read or written.
     Failed,
     /// Memory wasn't found.
     NoMemory,
+}
+
+impl From<Failed> for Stop {
+    ghost from_gives = { λ _ stop. stop ≡ stops.Failed };
+
+    fn from(_failed: Failed) -> Stop {
+        Stop::Failed
+    }
+}
+
+impl From<AllocError> for Stop {
+    ghost from_gives = { λ _ stop. stop ≡ stops.NoMemory };
+
+    fn from(_error: AllocError) -> Stop {
+        Stop::NoMemory
+    }
+}
+
+impl From<CivilFault> for Stop {
+    ghost from_gives = { λ _ stop. stop ≡ stops.NoMemory };
+
+    fn from(_fault: CivilFault) -> Stop {
+        Stop::NoMemory
+    }
 }

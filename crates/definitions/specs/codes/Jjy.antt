@@ -1,7 +1,7 @@
 -- JJY: what each second of a minute may carry (NICT's description of the standard time code).
 use Rattle.std.specs.Prelude.{ℕ, ◌<◌, ◌≤◌, ◌%◌, Bool, ◌==◌, ◌&&◌, ◌||◌, nat_lt, if◌then◌else◌, List, [], ◌∷◌}
 use Rattle.definitions.specs.declared.jjy.JjyFacts.{JjyFacts}
-use Rattle.definitions.specs.codes.MarkedCode.{marker, minute_weights, hour_weights, day_weights}
+pub use Rattle.definitions.specs.codes.MarkedCode.{marker, minute_weights, hour_weights, day_weights}
 use Rattle.definitions.specs.codes.Vocabulary.{only, free, unscored, no_second, Field, weights_from, carried_bit, ones, is_one_of, is_within}
 
 -- each fact is in its range

@@ -1,7 +1,7 @@
 -- WWVB, amplitude code: what each second of a minute may carry (NIST Special Publication 432).
 use Rattle.std.specs.Prelude.{ℕ, ◌<◌, ◌≤◌, ◌/◌, ◌%◌, Bool, ◌==◌, ◌||◌, nat_lt, if◌then◌else◌, List, [], ◌∷◌, ◌++◌}
 use Rattle.definitions.specs.declared.wwvb.WwvbFacts.{WwvbFacts}
-use Rattle.definitions.specs.codes.MarkedCode.{marker, minute_weights, hour_weights, day_weights}
+pub use Rattle.definitions.specs.codes.MarkedCode.{marker, minute_weights, hour_weights, day_weights}
 use Rattle.definitions.specs.codes.Vocabulary.{only, free, no_second, Field, weights_from, carried_bit, is_one_of, is_within}
 
 -- each fact is in its range

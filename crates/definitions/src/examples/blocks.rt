@@ -25,25 +25,24 @@ pub fn blocks_of_a_range()
     ensures second { ¬ (IsBlock (window_of 4 700 800) (record { announced = false; second = 60; span = Hour; lo = 720; hi = 780 })) }
 {}
 
-/// A window of two years has two items for each beginning; a block's children are cut to it.
-pub fn blocks_of_a_window()
-    ensures items { length (items (window_of 8 (at (on 2000 12 31) 23 0) (at (on 2001 1 1) 1 0))) ≡ 242 }
-    ensures year { children (block_of Year (at (on 2099 12 31) 22 58) century_minutes) ≡ block_of Day (at (on 2099 12 31) 22 58) century_minutes ∷ [] }
-    ensures day { children (block_of Day (at (on 2099 12 31) 22 58) century_minutes) ≡ block_of Hour (at (on 2099 12 31) 22 58) (at (on 2099 12 31) 23 0) ∷ block_of Hour (at (on 2099 12 31) 23 0) century_minutes ∷ [] }
-    ensures hour { children (block_of Hour (at (on 2099 12 31) 22 58) (at (on 2099 12 31) 23 0)) ≡ block_of Minute (at (on 2099 12 31) 22 58) (at (on 2099 12 31) 22 59) ∷ block_of Minute (at (on 2099 12 31) 22 59) (at (on 2099 12 31) 23 0) ∷ [] }
-    ensures minute { children (block_of Minute (at (on 2099 12 31) 22 58) (at (on 2099 12 31) 22 59)) ≡ [] }
+/// Within one year the items are one for each index of a first sequence: 60 that aren't announced, and 61 that are. A window
+/// that reaches into a second year has twice as many.
+pub fn items_of_a_window()
+    ensures one_year { map (λ b. index_of (first_of b)) (items (window_of 4 700 702)) ≡ map (λ i. i * century_minutes + 700) (range_with_len 0 60 ++ range_with_len 61 61) }
+    ensures two_years { length (items (window_of 8 (at (on 2000 12 31) 23 0) (at (on 2001 1 1) 1 0))) ≡ 242 }
 {}
 
-/// Within one year the items are one for each index of a first sequence: 60 that aren't announced, and 61 that are.
-pub fn items_of_two_minutes()
-    ensures { map (λ b. index_of (first_of b)) (items (window_of 4 700 702)) ≡ map (λ i. i * century_minutes + 700) (range_with_len 0 60 ++ range_with_len 61 61) }
-{}
-
-/// Children are cut where their block ends, and no child begins there.
-pub fn children_of_cut_blocks()
+/// Children begin and end where their block does, and a minute has none.
+pub fn children_of_blocks()
     ensures year { children (block_of Year 700 2_000) ≡ block_of Day 700 1_440 ∷ block_of Day 1_440 2_000 ∷ [] }
     ensures day { children (block_of Day 700 730) ≡ block_of Hour 700 720 ∷ block_of Hour 720 730 ∷ [] }
     ensures hour { children (block_of Hour 700 702) ≡ block_of Minute 700 701 ∷ block_of Minute 701 702 ∷ [] }
+    ensures last_day { children (block_of Year (at (on 2099 12 31) 22 58) century_minutes) ≡ block_of Day (at (on 2099 12 31) 22 58) century_minutes ∷ [] }
+    ensures last_hours { children (block_of Day (at (on 2099 12 31) 22 58) century_minutes)
+        ≡ block_of Hour (at (on 2099 12 31) 22 58) (at (on 2099 12 31) 23 0) ∷ block_of Hour (at (on 2099 12 31) 23 0) century_minutes ∷ [] }
+    ensures last_minutes { children (block_of Hour (at (on 2099 12 31) 22 58) (at (on 2099 12 31) 23 0))
+        ≡ block_of Minute (at (on 2099 12 31) 22 58) (at (on 2099 12 31) 22 59) ∷ block_of Minute (at (on 2099 12 31) 22 59) (at (on 2099 12 31) 23 0) ∷ [] }
+    ensures minute { children (block_of Minute (at (on 2099 12 31) 22 58) (at (on 2099 12 31) 22 59)) ≡ [] }
 {}
 
 /// WWVB's minutes 11:40 and 11:41 of the first day differ in second 8 alone: there the union has both symbols. Of JJY's

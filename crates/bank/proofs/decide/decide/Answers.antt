@@ -5,7 +5,7 @@ use Rattle.signal_base.specs.declared.station.Station.TheVariants.{Jjy}
 use Rattle.definitions.specs.declared.answer.Answer.{Answer}
 use Rattle.definitions.specs.answers.FirstTwo.{AreLeastTwo, IsKey}
 use Rattle.definitions.specs.heard.Costs.{bank_costs}
-use Rattle.due.specs.Owed.{IsDayAnswer, bank_of, day_cost}
+use Rattle.due.specs.Days.{IsDayAnswer, bank_of, day_cost}
 use Rattle.symbol_cost.specs.Grid.{HasCosts, IsPriced}
 use Rattle.bank.specs.Plain.{IsPlain, row_cost}
 use Rattle.bank.proofs.DayLaws.{priced, day_answer, reportable}

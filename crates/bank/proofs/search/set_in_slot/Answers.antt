@@ -2,7 +2,7 @@ use Rattle.std.proofs.Common.{◌≡◌, ℕ, ◌+◌, ◌-◌, ◌/◌, ◌%◌
 use Rattle.signal_base.specs.declared.station.Stations.{Stations}
 use Rattle.definitions.specs.sequences.Walks.{place_at}
 use Rattle.bank.specs.Plain.{IsSentSet, plain, sent_sets}
-use Rattle.due.specs.Owed.{jjy_alone}
+use Rattle.due.specs.Days.{jjy_alone}
 use Rattle.bank.proofs.SearchLaws.{place_cases}
 use Rattle.bank.proofs.search.set_in_slot.Goals as goal
 

@@ -1,0 +1,26 @@
+//! Telling what is due. Nothing here reads a file or takes memory.
+
+ghost use Rattle.bank_files.specs.Seen.{Writes};
+ghost use Rattle.bank_files.specs.Told.{output_name};
+ghost use Rattle.due.specs.Dues.{text_of};
+ghost use Rattle.bank.specs.Finding.{CanBeTold};
+
+use bank_files::{Failed, Files};
+use civil::Civil;
+use due::Due;
+use texts::{write_refusal, write_report};
+
+/// Writes the text of what is due to standard output.
+pub fn deliver<F: Files>(files: &mut F, civil: &Civil, due: &Due) -> Result<(), Failed>
+    requires { CanBeTold due.now }
+    ensures { Writes output_name (F.view files.old) (F.view files.new) (text_of due.now) result }
+{
+    match due {
+        Due::Refused { refusal } => write_refusal(files, refusal),
+        Due::Report {
+            window,
+            answer,
+            duts,
+        } => write_report(files, civil, window, answer, duts.as_slice()),
+    }
+}
