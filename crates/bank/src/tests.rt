@@ -1,7 +1,7 @@
 //! Runs over files in memory, with ample memory. The texts are worked out by hand from the code descriptions.
 
 use crate::run;
-use bank_files::MemoryFiles;
+use bank_files::{MemoryFiles, OneByte};
 use std::alloc::{AllocError, Global};
 use std::test::Fail;
 
@@ -42,13 +42,15 @@ fn clean_log(alloc: Global) -> Result<String, AllocError> {
                 b'1' => 500,
                 _ => 200,
             };
-            if second > 0 && second < 1000 {
+            // Never reached: it bounds the sums.
+            if second == 1000 {
+                return Ok(text);
+            }
+            if second > 0 {
                 push_record(&mut text, 1000 * second, "H")?;
             }
-            if second < 1000 {
-                push_record(&mut text, 1000 * second + low, "L")?;
-                second += 1;
-            }
+            push_record(&mut text, 1000 * second + low, "L")?;
+            second += 1;
         }
     }
     push_record(&mut text, 120_000, "H")?;
@@ -62,12 +64,7 @@ fn decides_two_clean_minutes(rt: HostRuntime) -> Result<(), Fail> {
     files.put("a.log", log.as_bytes())?;
     let words = words(rt.alloc(), "2024-06-10", "a.log")?;
     assert_eq!(rt; run(rt.alloc(), &words, &mut files), 0);
-    assert!(rt;
-        printed(
-            &files,
-            "decided 0\nphase 0\nsequence 2024-06-10T06:16Z 0 no\nnext 1200\nminute 2024-06-10T06:16Z at 0\nminute 2024-06-10T06:17Z at 60000\n"
-        )
-    );
+    assert!(rt; printed(&files, REPORT));
     Ok(())
 }
 
@@ -136,20 +133,68 @@ fn ends_at_a_failing_file(rt: HostRuntime) -> Result<(), Fail> {
     Ok(())
 }
 
-// A clean log is read in two calls, and the report is written in three.
+// The report of the clean log, by hand.
+const REPORT: &str =
+    "decided 0\nphase 0\nsequence 2024-06-10T06:16Z 0 no\nnext 1200\nminute 2024-06-10T06:16Z at 0\nminute 2024-06-10T06:17Z at 60000\n";
+
+// A clean log is read in two calls, and the report is written in one.
 #[test]
-fn keeps_what_was_written_before_a_fault(rt: HostRuntime) -> Result<(), Fail> {
+fn prints_nothing_where_a_call_fails(rt: HostRuntime) -> Result<(), Fail> {
     let log = clean_log(rt.alloc())?;
-    let head = "decided 0\nphase 0\nsequence 2024-06-10T06:16Z 0 no\nnext 1200\n";
-    let minute =
-        "decided 0\nphase 0\nsequence 2024-06-10T06:16Z 0 no\nnext 1200\nminute 2024-06-10T06:16Z at 0\n";
-    for (call, text) in [(2, ""), (3, ""), (4, head), (5, minute)] {
+    for call in 1..4 {
         let mut files = MemoryFiles::make(rt.alloc())?;
         files.put("a.log", log.as_bytes())?;
         files.fail(call)?;
         let words = words(rt.alloc(), "2024-06-10", "a.log")?;
         assert_eq!(rt; run(rt.alloc(), &words, &mut files), 6, "call {call}");
-        assert!(rt; printed(&files, text), "call {call}");
+        assert!(rt; printed(&files, ""), "call {call}");
     }
+    Ok(())
+}
+
+// Files that read and write a byte a call.
+#[test]
+fn prints_the_same_byte_by_byte(rt: HostRuntime) -> Result<(), Fail> {
+    let log = clean_log(rt.alloc())?;
+    let words = words(rt.alloc(), "2024-06-10", "a.log")?;
+    let mut inner = MemoryFiles::make(rt.alloc())?;
+    inner.put("a.log", log.as_bytes())?;
+    let mut files = OneByte { inner };
+    assert_eq!(rt; run(rt.alloc(), &words, &mut files), 0);
+    assert!(rt; printed(&files.inner, REPORT));
+    Ok(())
+}
+
+// A log of eight bytes is read in nine calls, and then its refusal is written.
+#[test]
+fn keeps_a_front_where_a_later_write_fails(rt: HostRuntime) -> Result<(), Fail> {
+    let words = words(rt.alloc(), "2024-06-10", "a.log")?;
+    for (call, text) in [
+        (9, ""),
+        (10, ""),
+        (19, "log 1 a: "),
+        (36, "log 1 a: line 2: not rising"),
+    ] {
+        let mut inner = MemoryFiles::make(rt.alloc())?;
+        inner.put("a.log", b"5 H\n5 L\n")?;
+        inner.fail(call)?;
+        let mut files = OneByte { inner };
+        assert_eq!(rt; run(rt.alloc(), &words, &mut files), 6, "call {call}");
+        assert!(rt; printed(&files.inner, text), "call {call}");
+    }
+    Ok(())
+}
+
+// The most records that a log may have, a level after another each millisecond.
+#[test]
+fn decodes_a_log_of_200_000_records(rt: HostRuntime) -> Result<(), Fail> {
+    let mut log = String::new(rt.alloc());
+    for ms in 0..200_000u64 {
+        push_record(&mut log, ms, if ms % 2 == 0 { "H" } else { "L" })?;
+    }
+    let mut files = MemoryFiles::make(rt.alloc())?;
+    files.put("a.log", log.as_bytes())?;
+    let words = words(rt.alloc(), "2024-06-10", "a.log")?;
+    assert!(rt; run(rt.alloc(), &words, &mut files) < 2);
     Ok(())
 }
