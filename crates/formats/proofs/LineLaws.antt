@@ -1,5 +1,5 @@
 -- One line after some records: it leads on to one list of records, or it is bad in one way.
-use Rattle.std.proofs.Common.{◌≡◌, ℕ, ◌+◌, ◌<◌, ◌≤◌, ◌⊎◌, inl, inr, Bool, true, false, List, [], ◌∷◌, ◌++◌, length, get_or, refl, sym, ap, ◌∙◌, subst, arith, append_assoc, length-append}
+use Rattle.std.proofs.Common.{◌≡◌, ℕ, ◌<◌, ◌≤◌, ◌⊎◌, inl, inr, Bool, true, false, List, [], ◌∷◌, ◌++◌, length, get_or, refl, sym, ap, ◌∙◌, subst, arith, append_assoc, length-append}
 use Rattle.std.specs.Fmt.{decimal}
 use Rattle.std.specs.Str.{bytes_eq}
 use Rattle.std.specs.Str.Parse.{digits_value, AllDigits}
@@ -11,15 +11,12 @@ use Rattle.std.proofs.lemmas.Str.Parse.{digit_at, numerals_by_value, tells_digit
 use Rattle.definitions.specs.declared.level.Level.{Level}
 use Rattle.definitions.specs.declared.level.Level.TheVariants.{High, Low, Unknown}
 use Rattle.definitions.specs.heard.Logs.{Records}
+use Rattle.definitions.proofs.ExistLaws.{Decided}
 use Rattle.formats.specs.declared.limits.TheConstants.{MOST_RECORDS, TIME_LIMIT}
 use Rattle.formats.specs.declared.fault.LineFault.{LineFault}
 use Rattle.formats.specs.declared.fault.LineFault.TheVariants.{Shape, NotRising, TooManyRecords}
 use Rattle.formats.specs.Bytes.{number_sign, space, letter_h, letter_l, letter_x}
 use Rattle.formats.specs.LogLines.{without_cr, letter, IsSkipped, SpellsRecord, IsRecord, IsLater, IsBad}
-
--- it holds or it doesn't
-abbrev pub Decided : Type 0 → Type 0
-Decided P = P ⊎ (¬ P)
 
 -- each level has its own letter
 pub letter-injective : (a b : Level) → letter a ≡ letter b → a ≡ b

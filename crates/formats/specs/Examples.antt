@@ -1,12 +1,13 @@
 -- What examples of texts are about.
 use Rattle.std.specs.Prelude.{ℕ, true}
-pub use Rattle.std.specs.Fmt.{digits}
 use Rattle.signal_base.specs.declared.station.Station.{Station}
 use Rattle.signal_base.specs.declared.dut.Dut.{Dut}
 use Rattle.signal_base.specs.declared.dut.StationDut.{StationDut}
 use Rattle.signal_base.specs.declared.window.Window.{Window}
 use Rattle.definitions.specs.declared.sequence.Sequence.{Sequence}
 use Rattle.definitions.specs.examples.Sequences.{window_of}
+-- the digits of a number, which examples open by this name
+pub use Rattle.std.specs.Fmt.{digits}
 
 -- what a station tells of DUT1
 abbrev pub dut_told : Station → Dut → StationDut

@@ -1,9 +1,9 @@
 -- The first bad lines.
-use Rattle.std.proofs.Common.{◌≡◌, ℕ, List, [], ◌∷◌, ◌++◌, codes, get_or, ap, inl, inr, refl, arith}
+use Rattle.std.proofs.Common.{◌≡◌, ℕ, List, [], ◌∷◌, codes, get_or, ap, inl, inr, refl, arith}
 use Rattle.std.specs.Fmt.{digits}
 use Rattle.definitions.specs.declared.level.Level.{Level}
 use Rattle.definitions.specs.declared.level.Level.TheVariants.{High, Low, Unknown}
-use Rattle.formats.specs.LogLines.{IsSkipped, SpellsRecord, letter}
+use Rattle.formats.specs.LogLines.{IsSkipped, letter}
 use Rattle.formats.proofs.LineLaws.{SpellsRecord-parts}
 use Rattle.formats.proofs.examples.logs.bad_lines.Goals as goal
 
