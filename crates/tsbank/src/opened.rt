@@ -44,12 +44,12 @@ impl<F> Opened<F> {
     }
 }
 
-/// Takes the open file away, and hands it on if it was opened by this name.
-pub fn take_named<F: Drop>(open: &mut Option<Opened<F>>, name: &str) -> Option<Opened<F>>
+/// Takes the file away that stands open, and hands it on if it was opened by this name.
+pub fn take_named<F: Drop>(kept: &mut Option<Opened<F>>, name: &str) -> Option<Opened<F>>
     ensures name { IfSome result (λ file. IsOpenedBy file.name name.now) }
-    ensures same { IfSome result (λ file. open.old ≡ Some file) }
+    ensures same { IfSome result (λ file. kept.old ≡ Some file) }
 {
-    match open.take() {
+    match kept.take() {
         Some(file) if file.is_named(name) => Some(file),
         _ => None,
     }
