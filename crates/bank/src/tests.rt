@@ -185,16 +185,17 @@ fn keeps_a_front_where_a_later_write_fails(rt: HostRuntime) -> Result<(), Fail> 
     Ok(())
 }
 
-// The most records that a log may have, a level after another each millisecond.
+// The most records that a log may have: two clean minutes in 241 records, and then a level that repeats.
 #[test]
-fn decodes_a_log_of_200_000_records(rt: HostRuntime) -> Result<(), Fail> {
-    let mut log = String::new(rt.alloc());
-    for ms in 0..200_000u64 {
-        push_record(&mut log, ms, if ms % 2 == 0 { "H" } else { "L" })?;
-    }
+fn decides_on_the_longest_log(rt: HostRuntime) -> Result<(), Fail> {
     let mut files = MemoryFiles::make(rt.alloc())?;
+    let mut log = clean_log(rt.alloc())?;
+    for ms in 120_001..319_760 {
+        push_record(&mut log, ms, "H")?;
+    }
     files.put("a.log", log.as_bytes())?;
     let words = words(rt.alloc(), "2024-06-10", "a.log")?;
-    assert!(rt; run(rt.alloc(), &words, &mut files) < 2);
+    assert_eq!(rt; run(rt.alloc(), &words, &mut files), 0);
+    assert!(rt; printed(&files, REPORT));
     Ok(())
 }
