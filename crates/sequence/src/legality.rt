@@ -11,6 +11,9 @@ use civil::Civil;
 use definitions::Sequence;
 use signal_base::{Station, Stations, Window};
 
+// The inserted second of a minute of 61 seconds.
+const LEAP_SECOND: u8 = 60;
+
 /// Whether the sequence begins in the window's range and each minute of its walk can be encoded by the window's
 /// stations.
 pub fn walkable(civil: &Civil, window: &Window, q: &Sequence) -> bool
@@ -50,7 +53,7 @@ pub fn legal(civil: &Civil, window: &Window, q: &Sequence) -> bool
     if !q.announced {
         return true;
     }
-    if q.second == 60 {
+    if q.second == LEAP_SECOND {
         return true;
     }
     if !walkable(civil, window, &unannounced(q)) {

@@ -11,7 +11,7 @@ returns c =
     subst (IsWalkable window) c.unannounced.ensures (c.walkable-2.ensures.0 c.if-not-walkable-2.false) in (
       λ on. (walkable, λ _. inr (inr (c.shows_leap.ensures.0 on))),
       λ legal. elim (legal.1 c.if-not-q.false) [
-        | inl sixty ↦ absurd (c.if-q-eq60.false sixty)
+        | inl sixty ↦ absurd (c.if-q-eq-LEAP_SECOND.false sixty)
         | inr others ↦ elim others [
           | inl not_walkable ↦ absurd (not_walkable twin)
           | inr shows ↦ c.shows_leap.ensures.1 shows
