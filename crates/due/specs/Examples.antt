@@ -1,6 +1,5 @@
 -- What examples of what is due are about.
 use Rattle.std.specs.Prelude.{ℕ, List, [], ◌∷◌, codes}
-
 -- the digits of a number, which examples open by this name
 pub use Rattle.std.specs.Fmt.{digits}
 
