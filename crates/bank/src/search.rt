@@ -10,16 +10,14 @@ ghost use Rattle.due.specs.Days.{jjy_alone};
 
 use crate::found::Found;
 use civil::Civil;
-use sequence::{Sequence, key, telegram};
+use definitions::CENTURY_MINUTES;
+use sequence::{GREATEST_COST, Sequence, key, telegram};
 use signal_base::{Station, Window};
 use std::alloc::{AllocError, Global};
 use symbol_cost::CostGrid;
 
 // The minutes that a walk of at most 1,200 seconds reaches beyond its first.
 const REACH: u32 = 21;
-
-// The minutes of the years 2000 to 2099.
-const CENTURY_MINUTES: u32 = 52_596_000;
 
 // What the seconds of a minute may carry, or none where it isn't sent.
 type Sets = Option<[u8; 61]>;
@@ -55,7 +53,7 @@ pub fn search(
 fn minutes_of(alloc: Global, civil: &Civil, window: &Window) -> Result<Vec<Sets>, AllocError>
     requires range { window.now.from < window.now.to }
     requires end { window.now.to ≤ century_minutes }
-    ensures { IfOk result (λ minutes. (vec_len minutes ≡ window.now.to - window.now.from + 21) × AreSets minutes.items window.now.from) }
+    ensures { IfOk result (λ minutes. (vec_len minutes ≡ window.now.to - window.now.from + REACH) × AreSets minutes.items window.now.from) }
 {
     let count = window.to - window.from + REACH;
     let mut minutes = Vec::with_capacity(alloc, count as usize)?;
@@ -81,7 +79,7 @@ fn search_minute(grid: &CostGrid, minutes: &[Sets], window: &Window, t: u32, fou
     requires stations { window.now.stations ≡ jjy_alone }
     requires slots { length grid.now.rows ≡ window.now.seconds }
     requires seconds { window.now.seconds ≤ 1200 }
-    requires minutes { length minutes.now ≡ window.now.to - window.now.from + 21 }
+    requires minutes { length minutes.now ≡ window.now.to - window.now.from + REACH }
     requires sets { AreSets minutes.now window.now.from }
     requires first { window.now.from ≤ t }
     requires last { t < window.now.to }
@@ -110,14 +108,14 @@ fn cost_from(grid: &CostGrid, minutes: &[Sets], window: &Window, t: u32, second:
     requires stations { window.now.stations ≡ jjy_alone }
     requires slots { length grid.now.rows ≡ window.now.seconds }
     requires seconds { window.now.seconds ≤ 1200 }
-    requires minutes { length minutes.now ≡ window.now.to - window.now.from + 21 }
+    requires minutes { length minutes.now ≡ window.now.to - window.now.from + REACH }
     requires sets { AreSets minutes.now window.now.from }
     requires first { window.now.from ≤ t }
     requires last { t < window.now.to }
     requires end { window.now.to ≤ century_minutes }
     requires second { second < 60 }
     ensures cost { MatchOption result (¬ (IsWalkable window.now (plain t second))) (λ cost. IsWalkable window.now (plain t second) × (cost ≡ row_cost grid.now.rows window.now (plain t second))) }
-    ensures bound { IfSome result (λ cost. cost ≤ 1_920_000_000) }
+    ensures bound { IfSome result (λ cost. cost ≤ GREATEST_COST) }
 {
     let mut cost = 0;
     for slot in 0..window.seconds {
@@ -132,7 +130,7 @@ fn cost_from(grid: &CostGrid, minutes: &[Sets], window: &Window, t: u32, second:
 // What slot `slot` of that sequence carries, or none where its minute isn't sent.
 fn set_in_slot(minutes: &[Sets], window: &Window, t: u32, second: u8, slot: u16) -> Option<u8>
     requires stations { window.now.stations ≡ jjy_alone }
-    requires minutes { length minutes.now ≡ window.now.to - window.now.from + 21 }
+    requires minutes { length minutes.now ≡ window.now.to - window.now.from + REACH }
     requires sets { AreSets minutes.now window.now.from }
     requires first { window.now.from ≤ t }
     requires last { t < window.now.to }
