@@ -1,0 +1,5 @@
+pub mod BankLaws
+pub mod EdgeLaws
+pub mod FitLaws
+pub mod TallyLaws
+pub mod TurnLaws
