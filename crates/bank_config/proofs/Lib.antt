@@ -1,0 +1,4 @@
+pub mod EachLaws
+pub mod KindLaws
+pub mod OutcomeLaws
+pub mod SeenLaws

@@ -1,0 +1,104 @@
+-- The configuration that a text is: its keys, checked in the order in which they stand here.
+use Rattle.std.specs.Prelude.{ℕ, ◌&&◌, nat_le, Bool, true, if◌then◌else◌, List, length, map, Option, Some, None, Ok, Err, codes, string_bytes}
+use Rattle.std.specs.Option.{option_map_or}
+use Rattle.std.specs.List.{list_all}
+use Rattle.std.specs.Str.{is_utf8}
+use Rattle.signal_base.specs.declared.station.Station.{Station}
+use Rattle.signal_base.specs.declared.tuning.Tuning.{Tuning}
+use Rattle.signal_base.specs.declared.tuning.CostTable.{CostTable}
+use Rattle.signal_base.specs.Table.{difference_table}
+use Rattle.toml.specs.Data.{Data, table, Members, get}
+use Rattle.toml.specs.Parse.{parse_document}
+use Rattle.bank_config.specs.declared.config.Receiver.{Receiver}
+use Rattle.bank_config.specs.declared.config.Config.{Config}
+use Rattle.bank_config.specs.declared.fault.Key.{Key}
+use Rattle.bank_config.specs.declared.fault.Key.TheVariants as key
+use Rattle.bank_config.specs.declared.fault.ConfigFault.TheVariants.{NotToml, WrongKind, UnknownKey}
+use Rattle.bank_config.specs.declared.limits.TheConstants.{LEAST_WEIGHT, MOST_CEILING, MOST_DELAY, MOST_RECEIVERS, MOST_WEIGHT}
+use Rattle.bank_config.specs.declared.places.Place.TheVariants.{Top, OfReceiver, OfTable}
+use Rattle.bank_config.specs.Checked.{Checked, ◌>>=◌, required, optional, in_range}
+use Rattle.bank_config.specs.Values.{all_of_kind, costs_in, each, is_file, is_name, is_table, list_in, number_in, station_in, text_in}
+use Rattle.bank_config.specs.Places.{knows_all}
+
+-- what contracts see of a receiver
+pub record PlainReceiver : Type 0 where
+  pub name : List ℕ
+  pub file : List ℕ
+  pub tuning : Tuning
+  pub station : Station
+
+-- what contracts see of a configuration
+pub record PlainConfig : Type 0 where
+  pub station : Station
+  pub ceiling : ℕ
+  pub receivers : List PlainReceiver
+  pub costs : CostTable
+
+abbrev pub plain_receiver : Receiver → PlainReceiver
+plain_receiver r = record { name = string_bytes r.name; file = string_bytes r.file; tuning = r.tuning; station = r.station }
+
+abbrev pub plain_config : Config → PlainConfig
+plain_config c = record { station = c.station; ceiling = c.ceiling; receivers = map plain_receiver c.receivers.items; costs = c.table }
+
+-- a receiver's name, and its log
+abbrev pub name_at : Key → Data → Checked (List ℕ)
+name_at k value = required k (get (codes "name") value) >>= text_in k >>= in_range k is_name
+
+abbrev pub file_at : Key → Data → Checked (List ℕ)
+file_at k value = required k (get (codes "log") value) >>= text_in k >>= in_range k is_file
+
+-- a number that may stand at a key, from the least to the most, else the default
+abbrev pub number_at : Key → List ℕ → ℕ → ℕ → ℕ → Data → Checked ℕ
+number_at k word least most default value = optional default (number_in k least most) (get word value)
+
+-- the receiver of this number, which listens to the station at the top if it names none
+abbrev pub receiver_in : Station → ℕ → Data → Checked PlainReceiver
+receiver_in top number value =
+    name_at (key.Name number) value >>= (λ name.
+    file_at (key.File number) value >>= (λ file.
+    number_at (key.Delay number) (codes "delay_ms") 0 MOST_DELAY 0 value >>= (λ delay.
+    number_at (key.Weight number) (codes "weight") LEAST_WEIGHT MOST_WEIGHT LEAST_WEIGHT value >>= (λ weight.
+    optional top (station_in (key.ReceiverStation number)) (get (codes "station") value) >>= (λ station.
+    Ok (record { name = name; file = file; tuning = record { delay = delay; weight = weight }; station = station }))))))
+
+-- the receivers' tables: tables only, 1 to 8 of them
+abbrev pub tables_in : Data → Checked (List Data)
+tables_in value =
+    list_in key.Receiver value
+    >>= all_of_kind key.Receiver (list_all is_table)
+    >>= in_range key.Receiver (λ entries. nat_le 1 (length entries) && nat_le (length entries) MOST_RECEIVERS)
+
+-- the cost table
+abbrev pub cost_table_in : Data → Checked CostTable
+cost_table_in (table members) =
+    optional difference_table.low (costs_in key.Low) (get (codes "low") (table members)) >>= (λ low.
+    optional difference_table.high (costs_in key.High) (get (codes "high") (table members)) >>= (λ high.
+    Ok (record { low = low; high = high })))
+cost_table_in _ = Err (WrongKind key.CostTable)
+
+-- no unknown key stands at the top, in a receiver or in the cost table
+abbrev pub all_known : Data → List Data → Bool
+all_known config receivers =
+    knows_all Top config && list_all (knows_all OfReceiver) receivers
+    && option_map_or (knows_all OfTable) (get (codes "table") config) true
+
+-- the configuration of a table, or the first fault in the order of the keys; an unknown key comes last
+abbrev pub configuration_in : Data → Checked PlainConfig
+configuration_in config =
+    required key.Station (get (codes "station") config) >>= station_in key.Station >>= (λ station.
+    number_at key.Ceiling (codes "ceiling") 0 MOST_CEILING MOST_CEILING config >>= (λ ceiling.
+    required key.Receiver (get (codes "receiver") config) >>= tables_in >>= (λ tables.
+    each (receiver_in station) 1 tables >>= (λ receivers.
+    optional difference_table cost_table_in (get (codes "table") config) >>= (λ costs.
+    if all_known config tables
+    then Ok (record { station = station; ceiling = ceiling; receivers = receivers; costs = costs })
+    else Err UnknownKey)))))
+
+-- the configuration of a document, if there is one
+abbrev pub configuration_of_document : Option Members → Checked PlainConfig
+configuration_of_document None = Err NotToml
+configuration_of_document (Some members) = configuration_in (table members)
+
+-- the configuration of a text
+abbrev pub configuration_of : List ℕ → Checked PlainConfig
+configuration_of bytes = configuration_of_document (if is_utf8 bytes then parse_document bytes else None)

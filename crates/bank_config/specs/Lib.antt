@@ -1,0 +1,4 @@
+pub mod Checked
+pub mod Values
+pub mod Places
+pub mod Configuration

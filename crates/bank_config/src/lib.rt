@@ -1,0 +1,17 @@
+//! Configurations: a TOML text that names a bank's receivers and says how they are tuned is read into plain values.
+#![tactic(auto)]
+
+mod config;
+mod fault;
+mod limits;
+mod lists;
+mod places;
+mod read;
+#[cfg(test)]
+mod tests;
+mod values;
+
+pub use config::{Config, Receiver};
+pub use fault::{ConfigFault, Key};
+pub use limits::{CONFIG_LIMIT, MOST_RECEIVERS};
+pub use read::read_config;

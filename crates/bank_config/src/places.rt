@@ -1,0 +1,59 @@
+//! Where a key stands, and which keys are known there.
+
+ghost use Rattle.std.specs.Prelude.{◌≡◌, string_bytes};
+ghost use Rattle.std.specs.BTreeMap.{keys};
+ghost use Rattle.std.specs.List.{list_all};
+ghost use Rattle.bank_config.specs.Places.{is_known, knows_all};
+ghost use Rattle.toml.specs.View.{view};
+
+use toml::{Table, Value};
+
+/// A table of a configuration.
+#[derive(Clone, Copy, Debug, PartialEq, Eq)]
+pub(crate) enum Place {
+    /// The document itself.
+    Top,
+    /// A receiver.
+    OfReceiver,
+    /// The cost table.
+    OfTable,
+}
+
+impl Place {
+    // Whether this key may stand there.
+    fn knows(self, key: &str) -> bool
+        ensures { result ≡ is_known self key.now }
+    {
+        match self {
+            Place::Top => key == "station"
+                || key == "ceiling"
+                || key == "receiver"
+                || key == "table",
+            Place::OfReceiver => {
+                key == "name"
+                    || key == "log"
+                    || key == "delay_ms"
+                    || key == "weight"
+                    || key == "station"
+            }
+            Place::OfTable => key == "low" || key == "high",
+        }
+    }
+
+    // Whether all keys of the table may stand there.
+    fn knows_keys(self, table: &Table) -> bool
+        ensures { result ≡ list_all (λ key. is_known self (string_bytes key)) (keys table.now) }
+    {
+        table.keys().all(|key| self.knows(key.as_str()))
+    }
+
+    /// Whether all keys of the value, if it is a table, may stand there.
+    pub(crate) fn knows_all(self, value: &Value) -> bool
+        ensures { result ≡ knows_all self (view value.now) }
+    {
+        match value.as_table() {
+            Some(table) => self.knows_keys(table),
+            None => true,
+        }
+    }
+}

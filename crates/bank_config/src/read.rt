@@ -1,0 +1,182 @@
+//! Reading a configuration's text.
+
+ghost use Rattle.std.specs.Prelude.{◌≡◌, ◌≤◌, ◌<◌, ◌≢◌, map, length, codes, IfOk, IfErr};
+ghost use Rattle.std.specs.List.{list_all};
+ghost use Rattle.signal_base.specs.Table.{difference_table};
+ghost use Rattle.bank_config.specs.declared.fault.ConfigFault.TheVariants.{NoMemory};
+ghost use Rattle.bank_config.specs.declared.places.Place.TheVariants.{OfReceiver};
+ghost use Rattle.bank_config.specs.Checked.{Gives, GivesOrNoMemory, optional};
+ghost use Rattle.bank_config.specs.Configuration.{all_known, configuration_in, configuration_of, cost_table_in, plain_config, plain_receiver, receiver_in};
+ghost use Rattle.bank_config.specs.Places.{knows_all};
+ghost use Rattle.bank_config.specs.Values.{each, station_in};
+ghost use Rattle.toml.specs.Data.{get};
+ghost use Rattle.toml.specs.View.{view};
+
+use crate::limits::{
+    CONFIG_LIMIT, LEAST_WEIGHT, MOST_CEILING, MOST_DELAY, MOST_RECEIVERS, MOST_WEIGHT,
+};
+use crate::lists::{costs_in, tables_in};
+use crate::places::Place;
+use crate::values::{file_at, name_at, number_at, required, station_in};
+use crate::{Config, ConfigFault, Key, Receiver};
+use signal_base::{CostTable, Station, Tuning};
+use std::alloc::Global;
+use toml::Value;
+
+// The station that a receiver names, or else the one at the top.
+fn station_at(table: &Value, receiver: u8, top: Station) -> Result<Station, ConfigFault>
+    ensures { Gives (λ station. station) result (optional top (station_in (Key.ReceiverStation receiver)) (get (codes "station") (view table.now))) }
+{
+    match table.get("station") {
+        Some(value) => station_in(value, Key::ReceiverStation { receiver }),
+        None => Ok(top),
+    }
+}
+
+// The receiver of this number, counted from 1.
+fn receiver_in(
+    alloc: Global,
+    table: &Value,
+    receiver: u8,
+    top: Station,
+) -> Result<Receiver, ConfigFault>
+    ensures { GivesOrNoMemory plain_receiver result (receiver_in top receiver (view table.now)) }
+{
+    let name = name_at(table, Key::Name { receiver })?;
+    let file = file_at(table, Key::File { receiver })?;
+    let delay = number_at(table, "delay_ms", Key::Delay { receiver }, 0, MOST_DELAY, 0)?;
+    let weight = number_at(
+        table,
+        "weight",
+        Key::Weight { receiver },
+        LEAST_WEIGHT,
+        MOST_WEIGHT,
+        LEAST_WEIGHT,
+    )?;
+    let station = station_at(table, receiver, top)?;
+    let name = String::from_str(alloc, name)?;
+    let file = String::from_str(alloc, file)?;
+    Ok(Receiver {
+        name,
+        file,
+        tuning: Tuning {
+            delay: delay as u16,
+            weight: weight as u8,
+        },
+        station,
+    })
+}
+
+// The receivers in their order, each whole before the next.
+fn receivers_in(alloc: Global, tables: &[Value], top: Station) -> Result<Vec<Receiver>, ConfigFault>
+    requires { length tables.now ≤ MOST_RECEIVERS }
+    ensures { GivesOrNoMemory (λ receivers. map plain_receiver receivers.items) result (each (receiver_in top) 1 (map view tables.now)) }
+{
+    let mut receivers = Vec::new(alloc);
+    let mut number = 0u8;
+    for table in tables {
+        number += 1;
+        receivers.push(receiver_in(alloc, table, number, top)?)?;
+    }
+    Ok(receivers)
+}
+
+// The cost table that the configuration gives, or else the one that counts the milliseconds that differ.
+fn cost_table_at(config: &Value) -> Result<CostTable, ConfigFault>
+    ensures { Gives (λ costs. costs) result (optional difference_table cost_table_in (get (codes "table") (view config.now))) }
+{
+    match config.get("table") {
+        Some(value) => cost_table_in(value),
+        None => Ok(CostTable::default()),
+    }
+}
+
+fn cost_table_in(table: &Value) -> Result<CostTable, ConfigFault>
+    ensures { Gives (λ costs. costs) result (cost_table_in (view table.now)) }
+{
+    if !table.is_table() {
+        return Err(ConfigFault::WrongKind {
+            key: Key::CostTable,
+        });
+    }
+    let usual = CostTable::default();
+    let low = match table.get("low") {
+        Some(value) => costs_in(value, Key::Low)?,
+        None => usual.low,
+    };
+    let high = match table.get("high") {
+        Some(value) => costs_in(value, Key::High)?,
+        None => usual.high,
+    };
+    Ok(CostTable { low, high })
+}
+
+// Whether no unknown key stands in a receiver.
+fn receivers_known(tables: &[Value]) -> bool
+    ensures { result ≡ list_all (λ table. knows_all OfReceiver (view table)) tables.now }
+{
+    tables
+        .iter()
+        .all(|table| Place::OfReceiver.knows_all(table))
+}
+
+// Whether no unknown key stands anywhere.
+fn all_known(config: &Value, tables: &[Value]) -> bool
+    ensures { result ≡ all_known (view config.now) (map view tables.now) }
+{
+    if !Place::Top.knows_all(config) || !receivers_known(tables) {
+        return false;
+    }
+    match config.get("table") {
+        Some(value) => Place::OfTable.knows_all(value),
+        None => true,
+    }
+}
+
+// The configuration of a table.
+fn config_in(alloc: Global, config: &Value) -> Result<Config, ConfigFault>
+    ensures { GivesOrNoMemory plain_config result (configuration_in (view config.now)) }
+{
+    let station = station_in(required(config, "station", Key::Station)?, Key::Station)?;
+    let ceiling = number_at(
+        config,
+        "ceiling",
+        Key::Ceiling,
+        0,
+        MOST_CEILING,
+        MOST_CEILING,
+    )?;
+    let tables = tables_in(required(config, "receiver", Key::Receiver)?)?;
+    let receivers = receivers_in(alloc, tables, station)?;
+    let table = cost_table_at(config)?;
+    if !all_known(config, tables) {
+        return Err(ConfigFault::UnknownKey);
+    }
+    Ok(Config {
+        station,
+        ceiling,
+        receivers,
+        table,
+    })
+}
+
+/// Reads a configuration's text, of at most 1,000,000 bytes. The first fault in the order of the keys decides: the
+/// station, the ceiling, the receivers one after the other, the cost table; an unknown key comes last. `NoMemory`
+/// comes only for want of memory.
+pub fn read_config(alloc: Global, bytes: &[u8]) -> Result<Config, ConfigFault>
+    requires { length bytes.now ≤ CONFIG_LIMIT }
+    ensures read { IfOk result (λ config. configuration_of bytes.now ≡ Ok (plain_config config)) }
+    ensures refused { IfErr result (λ fault. fault ≢ NoMemory → configuration_of bytes.now ≡ Err fault) }
+{
+    match toml::table_from_slice(alloc, bytes) {
+        Ok(table) => {
+            let config = Value::Table(table);
+            config_in(alloc, &config)
+        }
+        Err(error) => Err(if error.is_memory() {
+            ConfigFault::NoMemory
+        } else {
+            ConfigFault::NotToml
+        }),
+    }
+}
