@@ -1,12 +1,10 @@
 //! What stands at a key that wants a list: the receivers' tables, and the costs of the cost table.
 
-ghost use Rattle.std.specs.Prelude.{◌≡◌, ◌≤◌, length, map, codes, IfOk};
+ghost use Rattle.std.specs.Prelude.{◌≡◌, ◌≤◌, length, map, IfOk};
 ghost use Rattle.std.specs.List.{list_all};
-ghost use Rattle.signal_base.specs.Table.{difference_table};
-ghost use Rattle.bank_config.specs.Checked.{Gives, optional};
+ghost use Rattle.bank_config.specs.Checked.{Gives};
 ghost use Rattle.bank_config.specs.Configuration.{tables_in};
 ghost use Rattle.bank_config.specs.Values.{costs_in, each, is_number, is_table, list_in, number_in};
-ghost use Rattle.toml.specs.Data.{get};
 ghost use Rattle.toml.specs.View.{view};
 
 use crate::limits::{COSTS, MOST_COST, MOST_RECEIVERS};

@@ -1,6 +1,6 @@
 //! Reading a configuration's text.
 
-ghost use Rattle.std.specs.Prelude.{◌≡◌, ◌≤◌, ◌<◌, ◌≢◌, map, length, codes, IfOk, IfErr};
+ghost use Rattle.std.specs.Prelude.{◌≡◌, ◌≤◌, ◌≢◌, map, length, codes, IfOk, IfErr};
 ghost use Rattle.std.specs.List.{list_all};
 ghost use Rattle.signal_base.specs.Table.{difference_table};
 ghost use Rattle.bank_config.specs.declared.fault.ConfigFault.TheVariants.{NoMemory};

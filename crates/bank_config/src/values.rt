@@ -1,8 +1,8 @@
 //! What stands at a key that wants a text, a whole number or a station.
 
-ghost use Rattle.std.specs.Prelude.{◌≡◌, ◌≤◌, IfOk, codes};
+ghost use Rattle.std.specs.Prelude.{◌≡◌, ◌≤◌, IfOk};
 ghost use Rattle.std.specs.List.{list_all};
-ghost use Rattle.bank_config.specs.Checked.{Gives, in_range, optional, required};
+ghost use Rattle.bank_config.specs.Checked.{Gives, required};
 ghost use Rattle.bank_config.specs.Configuration.{file_at, name_at, number_at};
 ghost use Rattle.bank_config.specs.Values.{is_file, is_name, is_name_byte, number_in, station_in, station_named, text_in, within};
 ghost use Rattle.toml.specs.Data.{get};
