@@ -1,5 +1,5 @@
 -- From the document that the reader found to the text's configuration.
-use Rattle.std.proofs.Common.{ℕ, ◌≡◌, ◌≢◌, List, Option, Some, None, Result, Ok, Err, IfOk, IfErr, String, Global, BTreeMap, IsUtf8, refl, inl, inr}
+use Rattle.std.proofs.Common.{ℕ, ◌≡◌, ◌≢◌, List, Some, None, Result, Ok, Err, IfOk, IfErr, String, Global, BTreeMap, IsUtf8, refl, inl, inr}
 use Rattle.std.proofs.lemmas.Bool.{cases_Bool}
 use Rattle.std.proofs.lemmas.Str.{IsUtf8-from_is_utf8, is_utf8-from_IsUtf8}
 use Rattle.std.specs.Str.{is_utf8}

@@ -1,5 +1,5 @@
 -- What the entries of a list and the keys of a table are in the code.
-use Rattle.std.proofs.Common.{ℕ, ◌≡◌, Bool, ◌&&◌, List, [], ◌∷◌, map, Vec, String, Global, string_bytes, refl, ap}
+use Rattle.std.proofs.Common.{ℕ, ◌≡◌, Bool, ◌&&◌, List, [], ◌∷◌, map, string_bytes, refl, ap}
 use Rattle.std.specs.List.{list_all}
 use Rattle.std.specs.Map.{keys_of}
 use Rattle.toml.specs.declared.value.Value.{Value}

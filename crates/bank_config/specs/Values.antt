@@ -1,5 +1,5 @@
 -- What a value of TOML says, where a key wants a text, a whole number or a list.
-use Rattle.std.specs.Prelude.{ℕ, ◌+◌, ◌==◌, ◌&&◌, ◌||◌, nat_le, not, ℤ, pos, negsuc, Bool, true, false, if◌then◌else◌, List, [], ◌∷◌, length, slice_index, Option, Some, None, is_some, option_map, Ok, Err, bytes_eq, ok_or}
+use Rattle.std.specs.Prelude.{ℕ, ◌+◌, ◌==◌, ◌&&◌, ◌||◌, nat_le, not, ℤ, pos, negsuc, Bool, if◌then◌else◌, List, [], ◌∷◌, length, slice_index, Option, Some, None, is_some, option_map, Ok, Err, bytes_eq, ok_or}
 use Rattle.std.specs.List.{list_all}
 use Rattle.signal_base.specs.declared.station.Station.{Station}
 use Rattle.signal_base.specs.declared.station.Station.TheVariants.{Dcf77, Msf, Wwvb, Jjy}
@@ -9,7 +9,7 @@ use Rattle.toml.specs.Data.{Data, Items, no_items, item, as_str, as_integer, as_
 use Rattle.bank_config.specs.declared.fault.Key.{Key}
 use Rattle.bank_config.specs.declared.fault.ConfigFault.TheVariants.{WrongKind, OutOfRange}
 use Rattle.bank_config.specs.declared.limits.TheConstants.{COSTS, LONGEST_FILE, MOST_COST}
-use Rattle.bank_config.specs.Checked.{Checked, ◌>>=◌, in_range}
+use Rattle.bank_config.specs.Checked.{Checked, ◌>>=◌}
 
 -- the entries of an array
 abbrev pub entries_of : Items → List Data

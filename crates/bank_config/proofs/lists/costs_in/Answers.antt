@@ -1,4 +1,4 @@
-use Rattle.std.proofs.Common.{ℕ, ◌≡◌, ◌∙◌, List, sym, subst, length, arith}
+use Rattle.std.proofs.Common.{ℕ, ◌∙◌, List, sym, subst}
 use Rattle.toml.specs.View.{view}
 use Rattle.bank_config.specs.Checked.{Checked, Gives}
 use Rattle.bank_config.specs.Values.{list_in}

@@ -1,8 +1,8 @@
-use Rattle.std.proofs.Common.{◌≡◌, ◌+◌, ◌<◌, length, map, Err, take, set, ◌∙◌, sym, arith, rules}
+use Rattle.std.proofs.Common.{◌≡◌, ◌<◌, length, map, Err, ◌∙◌, arith, rules}
 use Rattle.std.proofs.Math.ListN.{length-set}
 use Rattle.std.proofs.lemmas.List.{take_more_set}
 use Rattle.toml.specs.View.{view}
-use Rattle.bank_config.specs.declared.limits.TheConstants.{COSTS, MOST_COST}
+use Rattle.bank_config.specs.declared.limits.TheConstants.{MOST_COST}
 use Rattle.bank_config.specs.Values.{each, number_in}
 use Rattle.bank_config.proofs.EachLaws.{each-next, each-stop}
 use Rattle.bank_config.proofs.lists.costs_of.Goals as goal

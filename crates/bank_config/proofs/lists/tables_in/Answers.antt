@@ -1,7 +1,4 @@
-use Rattle.std.proofs.Common.{◌≡◌, ◌∙◌, sym, length, true, false, arith}
-use Rattle.std.specs.List.{list_all}
-use Rattle.toml.specs.View.{view}
-use Rattle.bank_config.specs.Values.{is_table}
+use Rattle.std.proofs.Common.{◌≡◌, ◌∙◌, sym, length, false, arith}
 use Rattle.bank_config.proofs.KindLaws.{few, few-zero, few-many, few-fine, tables_of-other_kind, tables_of-out_of_range, tables_of-fine}
 use Rattle.bank_config.proofs.lists.tables_in.Goals as goal
 use Rattle.bank_config.proofs.lists.tables_in.Goals.{then-is_empty-via-then-is_empty, then-is_empty-via-else-is_empty+then-tables-gt-MOST_RECEIVERS}

@@ -1,4 +1,4 @@
-use Rattle.std.proofs.Common.{◌≡◌, ◌∙◌, sym}
+use Rattle.std.proofs.Common.{◌∙◌, sym}
 use Rattle.toml.specs.View.{view}
 use Rattle.bank_config.proofs.KindLaws.{all_known-not_top, all_known-not_receivers, all_known-by_table}
 use Rattle.bank_config.proofs.read.all_known.Goals as goal

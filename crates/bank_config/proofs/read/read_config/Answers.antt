@@ -1,9 +1,8 @@
 use Rattle.std.proofs.Common.{◌≡◌, ◌≢◌, Ok, Err, IfOk, IfErr, sym, subst}
 use Rattle.std.proofs.lemmas.Bool.{iff_false}
-use Rattle.bank_config.specs.declared.fault.ConfigFault.{ConfigFault}
 use Rattle.bank_config.specs.declared.fault.ConfigFault.TheVariants.{NoMemory}
 use Rattle.bank_config.specs.Checked.{Checked}
-use Rattle.bank_config.specs.Configuration.{PlainConfig, configuration_of, plain_config}
+use Rattle.bank_config.specs.Configuration.{PlainConfig, plain_config}
 use Rattle.bank_config.proofs.OutcomeLaws.{configuration_of-document, configuration_of-none, GivesOrNoMemory-ok, GivesOrNoMemory-err}
 use Rattle.bank_config.proofs.read.read_config.Goals as goal
 use Rattle.bank_config.proofs.read.read_config.Goals.{then-is_memory, else-is_memory}

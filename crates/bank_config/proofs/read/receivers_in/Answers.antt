@@ -1,4 +1,4 @@
-use Rattle.std.proofs.Common.{◌≡◌, ◌+◌, ◌<◌, ◌++◌, [], ◌∷◌, length, map, arith}
+use Rattle.std.proofs.Common.{◌+◌, [], ◌∷◌, arith}
 use Rattle.std.proofs.lemmas.List.{map-append}
 use Rattle.bank_config.specs.Configuration.{plain_receiver, receiver_in}
 use Rattle.bank_config.proofs.EachLaws.{each-next}
