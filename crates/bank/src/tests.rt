@@ -43,7 +43,7 @@ fn clean_log(alloc: Global) -> Result<String, AllocError> {
                 _ => 200,
             };
             // Never reached: it bounds the sums.
-            if second == 1000 {
+            if second >= 1000 {
                 return Ok(text);
             }
             if second > 0 {
