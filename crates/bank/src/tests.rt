@@ -173,7 +173,7 @@ fn keeps_a_front_where_a_later_write_fails(rt: HostRuntime) -> Result<(), Fail> 
         (9, ""),
         (10, ""),
         (19, "log 1 a: "),
-        (36, "log 1 a: line 2: not rising"),
+        (37, "log 1 a: line 2: not rising"),
     ] {
         let mut inner = MemoryFiles::make(rt.alloc())?;
         inner.put("a.log", b"5 H\n5 L\n")?;
