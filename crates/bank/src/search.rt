@@ -11,8 +11,8 @@ ghost use Rattle.due.specs.Days.{jjy_alone};
 use crate::found::Found;
 use civil::Civil;
 use definitions::CENTURY_MINUTES;
-use sequence::{GREATEST_COST, Sequence, key, telegram};
-use signal_base::{Station, Window};
+use sequence::{Sequence, key, telegram};
+use signal_base::{GREATEST_COST, Station, Window};
 use std::alloc::{AllocError, Global};
 use symbol_cost::CostGrid;
 

@@ -5,12 +5,9 @@ ghost use Rattle.std.specs.Option.{ForSome};
 ghost use Rattle.definitions.specs.sequences.Walks.{IsSequence};
 ghost use Rattle.definitions.specs.sequences.Keys.{ceiling_key, cost_of, index_end, index_of, key_of, sequence_of};
 ghost use Rattle.definitions.specs.answers.FirstTwo.{answer_from};
-ghost use Rattle.sequence.specs.declared.keys.TheConstants.{GREATEST_COST};
+ghost use Rattle.signal_base.specs.declared.limits.TheConstants.{GREATEST_COST};
 
 use definitions::{Answer, CENTURY_MINUTES, Sequence};
-
-/// The greatest cost.
-pub const GREATEST_COST: u32 = 1_920_000_000;
 
 /// The place of a sequence in the order of those that cost the same: `(a * 61 + second) * 52596000 + first`, where
 /// `a` is 1 for announced, else 0.

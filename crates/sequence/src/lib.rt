@@ -8,7 +8,7 @@ mod telegrams;
 mod walks;
 
 pub use definitions::{Answer, Sequence};
-pub use keys::{GREATEST_COST, answer_of, ceiling_key, cost_of, index, key, sequence_of};
+pub use keys::{answer_of, ceiling_key, cost_of, index, key, sequence_of};
 pub use legality::{legal, walkable};
 pub use telegrams::{minute_length, set_in, telegram};
 pub use walks::{allowed, at, next_place};

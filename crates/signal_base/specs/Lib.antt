@@ -2,3 +2,4 @@ pub mod Mask
 pub mod Number
 pub mod Waveform
 pub mod Table
+pub mod Limits

@@ -5,7 +5,7 @@ use Rattle.definitions.specs.declared.answer.Answer.{Answer}
 use Rattle.definitions.specs.declared.answer.Answer.TheVariants.{Nothing, Decided, Undecided}
 use Rattle.definitions.specs.sequences.Walks.{IsSequence, IsWalkable}
 use Rattle.formats.specs.declared.limits.TheConstants.{TIME_LIMIT}
-use Rattle.texts.specs.declared.report.TheConstants.{MOST_SECONDS}
+use Rattle.signal_base.specs.declared.limits.TheConstants.{MOST_SECONDS}
 
 -- the window's numbers are in their ranges, and the answer's sequences are walkable in it
 abbrev pub IsReportable : Window → Answer → Type 0

@@ -17,14 +17,12 @@ use bank_files::{Failed, Files, push_number};
 use civil::Civil;
 use itoa::Buffer;
 use sequence::{Answer, Sequence, next_place};
-use signal_base::{Dut, Station, StationDut, Window};
+use signal_base::{Dut, MOST_SECONDS, Station, StationDut, Window};
 
 // The most stations of a window.
 const MOST_STATIONS: usize = 4;
 
-// The most seconds of a window, and the most minutes that begin in as many.
-const MOST_SECONDS: u16 = 1_200;
-
+// The most minutes that begin in a window.
 const MOST_MINUTES: usize = 20;
 
 /// Writes the report of an answer to standard output. The answer's sequences are walkable in the window, and `duts`

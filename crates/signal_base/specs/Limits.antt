@@ -1,0 +1,16 @@
+-- Tunings and cost tables whose numbers are in their ranges.
+use Rattle.std.specs.Prelude.{ℕ, ◌≤◌, slice_index}
+use Rattle.signal_base.specs.declared.tuning.Tuning.{Tuning}
+use Rattle.signal_base.specs.declared.tuning.CostTable.{CostTable}
+use Rattle.signal_base.specs.declared.limits.TheConstants.{LEAST_WEIGHT, MOST_COST, MOST_DELAY, MOST_WEIGHT}
+
+-- the tuning is in its ranges
+pub record IsTuned (t : Tuning) : Type 0 where
+  pub delay : t.delay ≤ MOST_DELAY
+  pub some_weight : LEAST_WEIGHT ≤ t.weight
+  pub weight : t.weight ≤ MOST_WEIGHT
+
+-- no entry of the table is above the greatest cost
+pub record IsPriced (table : CostTable) : Type 0 where
+  pub low : (n : ℕ) → slice_index table.low n ≤ MOST_COST
+  pub high : (n : ℕ) → slice_index table.high n ≤ MOST_COST
