@@ -5,5 +5,6 @@ pub mod Reports
 pub mod Listing
 pub mod Feed
 pub mod Trials
+pub mod Options
 pub mod Refusals
 pub mod Examples

@@ -8,6 +8,7 @@ mod fault;
 mod limits;
 mod log_law;
 mod name;
+mod option;
 mod refusal;
 
 pub use examples::{
@@ -19,4 +20,5 @@ pub use fault::LineFault;
 pub use limits::{LOG_LIMIT, LONGEST_NAME, MOST_RECORDS, TIME_LIMIT};
 pub use log_law::log_has_one_outcome;
 pub use name::Name;
+pub use option::OptionName;
 pub use refusal::Refusal;
