@@ -5,6 +5,7 @@ use Rattle.std.proofs.lemmas.Bool.{cases_order}
 use Rattle.std.proofs.lemmas.List.FromFn.{length-map-range_with_len, get_or-map-range_with_len}
 use Rattle.std.proofs.Math.ListN.{get_or-eq_default}
 use Rattle.signal_base.specs.declared.station.Station.TheVariants.{Jjy}
+use Rattle.signal_base.specs.Limits.{IsPriced}
 use Rattle.signal_base.specs.Table.{difference_table}
 use Rattle.definitions.specs.declared.sequence.Sequence.{Sequence}
 use Rattle.definitions.specs.declared.answer.Answer.{Answer}
@@ -20,7 +21,7 @@ use Rattle.due.specs.Days.{IsOfDay, bank_of, day_cost, day_window}
 use Rattle.due.proofs.DayLaws.{of_day}
 use Rattle.definitions.proofs.CostLaws.{set_cost_same, sum_below_same}
 use Rattle.definitions.proofs.EndLaws.{answer_is}
-use Rattle.symbol_cost.specs.Grid.{Grid, HasCosts, IsPriced, cost_at}
+use Rattle.symbol_cost.specs.Grid.{Grid, HasCosts, cost_at}
 use Rattle.texts.specs.Reportable.{IsReportable}
 use Rattle.bank.specs.Plain.{IsPlain, row_cost}
 use Rattle.bank.proofs.KeyLaws.{keep_least}

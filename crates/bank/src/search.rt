@@ -12,7 +12,7 @@ use crate::found::Found;
 use civil::Civil;
 use definitions::CENTURY_MINUTES;
 use sequence::{Sequence, key, telegram};
-use signal_base::{GREATEST_COST, Station, Window};
+use signal_base::{GREATEST_COST, MOST_RECEIVERS, Station, Window};
 use std::alloc::{AllocError, Global};
 use symbol_cost::CostGrid;
 
@@ -31,6 +31,7 @@ pub fn search(
     grid: &CostGrid,
 ) -> Result<Found, AllocError>
     requires station { grid.now.station ≡ Jjy }
+    requires receivers { grid.now.receivers ≤ MOST_RECEIVERS }
     requires stations { window.now.stations ≡ jjy_alone }
     requires slots { length grid.now.rows ≡ window.now.seconds }
     requires seconds { window.now.seconds ≤ 1200 }
@@ -76,6 +77,7 @@ fn sets_of(civil: &Civil, t: u32) -> Sets
 // Offers the sequences that begin in minute `t`.
 fn search_minute(grid: &CostGrid, minutes: &[Sets], window: &Window, t: u32, found: &mut Found)
     requires station { grid.now.station ≡ Jjy }
+    requires receivers { grid.now.receivers ≤ MOST_RECEIVERS }
     requires stations { window.now.stations ≡ jjy_alone }
     requires slots { length grid.now.rows ≡ window.now.seconds }
     requires seconds { window.now.seconds ≤ 1200 }
@@ -105,6 +107,7 @@ fn search_minute(grid: &CostGrid, minutes: &[Sets], window: &Window, t: u32, fou
 // What the sequence that begins in second `second` of minute `t` costs, or none where it isn't walkable.
 fn cost_from(grid: &CostGrid, minutes: &[Sets], window: &Window, t: u32, second: u8) -> Option<u32>
     requires station { grid.now.station ≡ Jjy }
+    requires receivers { grid.now.receivers ≤ MOST_RECEIVERS }
     requires stations { window.now.stations ≡ jjy_alone }
     requires slots { length grid.now.rows ≡ window.now.seconds }
     requires seconds { window.now.seconds ≤ 1200 }

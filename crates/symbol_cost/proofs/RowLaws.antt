@@ -1,5 +1,5 @@
 -- Rows to which costs are added symbol by symbol.
-use Rattle.std.proofs.Common.{◌≡◌, ◌≢◌, ℕ, ◌+◌, ◌<◌, ◌≤◌, ◌⊎◌, inl, inr, List, length, get_or, set, refl, ap, ◌∙◌, arith, below_more, get_or-set_other, get_or-set_same, [], ◌∷◌, ◌++◌, ◌*◌, zero-add, sum_by, Option, Some, None}
+use Rattle.std.proofs.Common.{◌≡◌, ◌≢◌, ℕ, ◌+◌, ◌<◌, ◌≤◌, ◌⊎◌, inl, inr, List, length, get_or, set, refl, ap, ◌∙◌, arith, below_more, get_or-set_other, get_or-set_same, [], ◌∷◌, ◌++◌, ◌*◌, zero-add, sum_by, Option, Some, None, min, unwrap_or}
 use Rattle.std.proofs.lemmas.Bool.{cases_order}
 use Rattle.signal_base.specs.declared.station.Station.{Station}
 use Rattle.signal_base.specs.declared.station.Station.TheVariants.{Dcf77, Msf, Wwvb, Jjy}
@@ -12,7 +12,7 @@ use Rattle.definitions.specs.heard.Receivers.{Reception, receptions}
 use Rattle.definitions.specs.heard.Costs.{second_cost, slot_cost}
 use Rattle.symbol_cost.specs.Rows.{heard}
 use Rattle.signal_base.specs.Waveform.{symbol_count, waveform}
-use Rattle.definitions.proofs.CostLaws.{IsAtMost, receptions_more}
+use Rattle.definitions.proofs.CostLaws.{IsAtMost, lesser_with, receptions_more}
 
 -- the first x entries of a row have grown by f, and the others are as before
 pub record GrownTo (old row : List ℕ) (x b : ℕ) (f : ℕ → ℕ) : Type 0 where
@@ -54,6 +54,11 @@ few_symbols Jjy = omega arith
 pub at_most_some : (n : ℕ) (o : Option ℕ) → IsAtMost n o → ForSome o (λ c. c ≤ n)
 at_most_some n None h = λ x e. (cc)
 at_most_some n (Some c) h = λ x e. let same : c ≡ x = cc in omega arith
+
+-- the lesser of a number that there may be and one more
+pub lesser_of : (o : Option ℕ) (c : ℕ) → Some (min (unwrap_or o c) c) ≡ lesser_with o c
+lesser_of None c = let same : min c c ≡ c = omega arith in rw same refl
+lesser_of (Some b) c = refl
 
 -- one more receiver
 pub slot_cost_more : (table : CostTable) (ts : List Tuning) (ls : List Records) (t : Tuning) (l : Records) (station : Station) (begin k x : ℕ) → length ts ≡ length ls

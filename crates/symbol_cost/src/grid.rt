@@ -1,17 +1,20 @@
 //! The grid of costs.
 
-ghost use Rattle.std.specs.Prelude.{◌≡◌, ◌+◌, ◌<◌, ◌≤◌, ℕ, IfOk, Some, filter, length, map, min, slice_index, unwrap_or};
+ghost use Rattle.std.specs.Prelude.{◌≡◌, ◌+◌, ◌*◌, ◌<◌, ◌≤◌, ℕ, IfOk, filter, length, map, slice_index, unwrap_or};
 ghost use Rattle.std.specs.List.{All};
-ghost use Rattle.std.specs.Option.{option_map_or};
-ghost use Rattle.signal_base.specs.declared.station.Station.{Station};
+ghost use Rattle.signal_base.specs.Limits.{IsPriced, IsTuned};
 ghost use Rattle.signal_base.specs.Mask.{has_bit};
 ghost use Rattle.definitions.specs.heard.Receivers.{receptions};
 ghost use Rattle.definitions.specs.heard.Costs.{least, set_cost, slot_cost, symbols_of};
-ghost use Rattle.symbol_cost.specs.Grid.{HasCosts, IsPriced, AreRows, IsTuned, cost_at};
+ghost use Rattle.symbol_cost.specs.Grid.{AreRows, HasCosts, cost_at};
 
+use crate::RECEIVER_COST;
+use crate::limits::SECOND;
 use crate::receivers::{Row, row_of};
 use pulse_log::Log;
-use signal_base::{CostTable, Station, Tuning, UNSCORED, symbols};
+use signal_base::{
+    CostTable, MOST_RECEIVERS, MOST_SECONDS, START_LIMIT, Station, Tuning, UNSCORED, symbols,
+};
 use std::alloc::{AllocError, AllocFailed, Global};
 use std::marker::Model;
 
@@ -26,17 +29,18 @@ pub enum GridFault {
 #[derive(Drop)]
 pub struct CostGrid {
     station: Station,
+    receivers: u8,
     rows: Vec<Row>,
 }
 
 impl Model for CostGrid {
-    ghost use Rattle.symbol_cost.specs.Grid.{AreSmall, Grid};
+    ghost use Rattle.symbol_cost.specs.Grid.{AreOfReceivers, Grid};
 
     ghost Value = { Grid };
 
-    ghost view = { λ g. record { station = g.station; rows = g.rows.items } };
+    ghost view = { λ g. record { station = g.station; receivers = g.receivers; rows = g.rows.items } };
 
-    ghost invariant = { λ g. AreSmall g.rows.items };
+    ghost invariant = { λ g. AreOfReceivers g.receivers g.rows.items };
 }
 
 impl CostGrid {
@@ -52,15 +56,17 @@ impl CostGrid {
         phase: u16,
         seconds: u16,
     ) -> Result<CostGrid, GridFault>
-        requires few { length tunings.now ≤ 8 }
+        requires few { length tunings.now ≤ MOST_RECEIVERS }
         requires logs { length logs.now ≡ length tunings.now }
         requires tuned { All IsTuned tunings.now }
         requires priced { IsPriced table.now }
-        requires start { start < 1_000_000_000_000 }
-        requires phase { phase < 1000 }
-        requires seconds { seconds ≤ 1200 }
-        ensures { IfOk result (λ grid. HasCosts grid station seconds (slot_cost table.now (receptions tunings.now logs.now) station (start + phase))) }
+        requires start { start < START_LIMIT }
+        requires phase { phase < SECOND }
+        requires seconds { seconds ≤ MOST_SECONDS }
+        ensures costs { IfOk result (λ grid. HasCosts grid station seconds (slot_cost table.now (receptions tunings.now logs.now) station (start + phase))) }
+        ensures receivers { IfOk result (λ grid. grid.receivers ≡ length tunings.now) }
     {
+        let receivers = tunings.len() as u8;
         match rows_of(
             alloc,
             station,
@@ -70,30 +76,50 @@ impl CostGrid {
             start + phase as u64,
             seconds,
         ) {
-            Ok(rows) => Ok(CostGrid { station, rows }),
+            Ok(rows) => Ok(CostGrid {
+                station,
+                receivers,
+                rows,
+            }),
             Err(_) => Err(GridFault::NoMemory),
         }
     }
 
-    /// How many slots there are.
+    /// Whose symbols are scored.
+    pub fn station(&self) -> Station
+        ensures { result ≡ self.now.station }
+    {
+        self.station
+    }
+
+    /// How many receivers the grid was made from, at most 8.
+    pub fn receivers(&self) -> u8
+        ensures count { result ≡ self.now.receivers }
+        ensures bound { result ≤ MOST_RECEIVERS }
+    {
+        self.receivers
+    }
+
+    /// How many slots there are, at most 1,200.
     pub fn seconds(&self) -> u16
-        requires { length self.now.rows ≤ 1200 }
-        ensures { result ≡ length self.now.rows }
+        ensures count { result ≡ length self.now.rows }
+        ensures bound { result ≤ MOST_SECONDS }
     {
         self.rows.len() as u16
     }
 
     /// What a set of the station's symbols costs in a slot: its cheapest symbol, and nothing where it is the set that
-    /// stands for a second that isn't scored. The set has at least one of the station's symbols.
+    /// stands for a second that isn't scored. It is at most 200,000 for each receiver. The set has at least one of the
+    /// station's symbols.
     pub fn cost(&self, slot: u16, set: u8) -> u32
         requires slot { slot < length self.now.rows }
         ensures cost { result ≡ set_cost self.now.station (cost_at self.now.rows slot) set }
-        ensures bound { result ≤ 1_600_000 }
+        ensures bound { result ≤ self.now.receivers * RECEIVER_COST }
     {
         if set == UNSCORED {
             return 0;
         }
-        cheapest(&self.rows[slot as usize], self.station, set)
+        cheapest(&self.rows[slot as usize], self.station, self.receivers, set)
     }
 }
 
@@ -107,13 +133,13 @@ fn rows_of(
     begin: u64,
     seconds: u16,
 ) -> Result<Vec<Row>, AllocError>
-    requires few { length tunings.now ≤ 8 }
+    requires few { length tunings.now ≤ MOST_RECEIVERS }
     requires logs { length logs.now ≡ length tunings.now }
     requires tuned { All IsTuned tunings.now }
     requires priced { IsPriced table.now }
-    requires begin { begin < 1_000_000_001_000 }
-    requires seconds { seconds ≤ 1200 }
-    ensures { IfOk result (λ rows. AreRows rows.items station seconds (slot_cost table.now (receptions tunings.now logs.now) station begin)) }
+    requires begin { begin < START_LIMIT + SECOND }
+    requires seconds { seconds ≤ MOST_SECONDS }
+    ensures { IfOk result (λ rows. AreRows rows.items station seconds (length tunings.now) (slot_cost table.now (receptions tunings.now logs.now) station begin)) }
 {
     let mut rows = Vec::with_capacity(alloc, seconds as usize)?;
     for slot in 0..seconds {
@@ -124,15 +150,16 @@ fn rows_of(
 }
 
 // What the cheapest symbol of a set costs.
-fn cheapest(row: &Row, station: Station, set: u8) -> u32
-    requires { (x : ℕ) → slice_index row.now x ≤ 1_600_000 }
-    ensures bound { result ≤ 1_600_000 }
+fn cheapest(row: &Row, station: Station, receivers: u8, set: u8) -> u32
+    requires { (x : ℕ) → slice_index row.now x ≤ receivers * RECEIVER_COST }
+    ensures bound { result ≤ receivers * RECEIVER_COST }
     ensures least { result ≡ unwrap_or (least (map (slice_index row.now) (filter (has_bit set) (symbols_of station)))) 0 }
 {
     let mut least = None;
     for x in 0..symbols(station) {
         if has(set, x) {
-            least = lesser(least, row[x as usize]);
+            let cost = row[x as usize];
+            least = Some(least.unwrap_or(cost).min(cost));
         }
     }
     least.unwrap_or(0)
@@ -144,14 +171,4 @@ fn has(set: u8, x: u8) -> bool
     ensures { result ≡ has_bit set x }
 {
     (set >> x) & 1 == 1
-}
-
-// The lesser of what is the least so far and one more cost.
-fn lesser(least: Option<u32>, cost: u32) -> Option<u32>
-    ensures { result ≡ Some (option_map_or (λ other. min other cost) least cost) }
-{
-    match least {
-        None => Some(cost),
-        Some(other) => Some(other.min(cost)),
-    }
 }

@@ -2,6 +2,8 @@
 #![tactic(auto)]
 
 mod grid;
+mod limits;
 mod receivers;
 
 pub use grid::{CostGrid, GridFault};
+pub use limits::RECEIVER_COST;

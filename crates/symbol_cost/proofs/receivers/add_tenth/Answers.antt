@@ -2,6 +2,7 @@ use Rattle.std.proofs.Common.{◌≡◌, ◌<◌, Bool, false, length, get_or, L
 use Rattle.std.proofs.Math.ListN.{length-set}
 use Rattle.signal_base.specs.Waveform.{waveform}
 use Rattle.definitions.specs.heard.Costs.{tenth_cost}
+use Rattle.symbol_cost.specs.declared.limits.TheConstants.{TENTH_COST}
 use Rattle.symbol_cost.proofs.RowLaws.{grown_more, few_symbols}
 use Rattle.symbol_cost.proofs.receivers.add_tenth.Goals as goal
 
@@ -13,7 +14,7 @@ loop-x-preserved c =
     let is = c.tenth_cost.ensures.cost ∙ ap (λ (w : List Bool). tenth_cost c.args.table.now c.args.weight (get_or w c.args.j false) c.args.count) c.wave.ensures in
     record {
       long = length-set row c.loop-x.x _ ∙ long;
-      grown = grown_more c.args.row.now row c.loop-x.x 20_000 c.tenth_cost.result
+      grown = grown_more c.args.row.now row c.loop-x.x TENTH_COST c.tenth_cost.result
           (λ y. tenth_cost c.args.table.now c.args.weight (get_or (waveform c.args.station y) c.args.j false) c.args.count)
           within is c.tenth_cost.ensures.bound c.loop-x.invariant.grown;
     }
