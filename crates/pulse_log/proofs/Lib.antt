@@ -1,3 +1,4 @@
+pub mod CountLaws
 pub mod LineLaws
 pub mod PlaceLaws
 pub mod ReadLaws

@@ -1,6 +1,7 @@
 -- The level at a millisecond, from its place among the records, and the low milliseconds of a stretch.
-use Rattle.std.proofs.Common.{◌≡◌, ℕ, zero, suc, ◌+◌, ◌-◌, ◌<◌, ◌≤◌, ◌⊎◌, inl, inr, Bool, true, false, List, [], ◌∷◌, length, take, get_or, nat_lt, nat_le, Some, None, refl, ap, ◌∙◌, arith}
+use Rattle.std.proofs.Common.{◌≡◌, ℕ, zero, suc, ◌+◌, ◌-◌, ◌<◌, ◌≤◌, ◌⊎◌, inl, inr, Bool, true, false, List, [], ◌∷◌, length, take, get_or, nat_lt, nat_le, Option, Some, None, refl, ap, ◌∙◌, arith}
 use Rattle.std.specs.List.{filter, list_any}
+use Rattle.std.specs.Option.{ForSome}
 use Rattle.std.specs.List.Sorted.{IsNonDecreasingBy}
 use Rattle.std.proofs.Math.Nat.{add-suc, add-zero}
 use Rattle.std.proofs.lemmas.Bool.{lt-ltb, le-ltb, le-leb, lt-leb, cases_lt, cond-true, cond-false}
@@ -9,8 +10,9 @@ use Rattle.std.proofs.lemmas.List.Recursion.{or_at, or_from_places}
 use Rattle.definitions.specs.declared.level.Level.{Level}
 use Rattle.definitions.specs.declared.level.Level.TheVariants.{High, Low, Unknown}
 use Rattle.definitions.specs.heard.Logs.{Records, last_level, level_at, count_level, low_count}
+use Rattle.definitions.proofs.CostLaws.{IsAtMost}
 use Rattle.formats.specs.LogOrder.{IsRising}
-use Rattle.pulse_log.specs.Place.{StandsAfter, level_after}
+use Rattle.pulse_log.specs.Place.{StandsAfter, count_levels, level_after}
 
 -- what a test keeps that passes just the first n elements
 filter-prefix : {X : Type 0} (p : X → Bool) (xs : List X) (n : ℕ) → ((k : ℕ) (d : X) → k < n → p (get_or xs k d) ≡ true) → ((k : ℕ) (d : X) → n ≤ k → k < length xs → p (get_or xs k d) ≡ false) → filter p xs ≡ take n xs
@@ -71,12 +73,12 @@ rises_from log ms n k d e rising h low l m = go (cases_lt n k)
         let at : n ≡ k = omega arith in
         omega (arith, same, ap (λ i. (get_or log i e).0) at)
 
--- until the next record the place stays
-pub StandsAfter-stays : (log : Records) (at ms n : ℕ) (d : ℕ × Level) → IsRising log → StandsAfter log at n → n < length log → at ≤ ms → ms < (get_or log n d).0 → StandsAfter log ms n
-StandsAfter-stays log at ms n d rising place h low high = record {
+-- until the next record the place stays, and after the last one for ever
+pub StandsAfter-stays : (log : Records) (at ms n : ℕ) → IsRising log → StandsAfter log at n → at ≤ ms → ((d : ℕ × Level) → n < length log → ms < (get_or log n d).0) → StandsAfter log ms n
+StandsAfter-stays log at ms n rising place low high = record {
   within = place.within;
   before = λ k e l. omega (arith, place.before k e l);
-  after = λ k e l m. rises_from log ms n k d e rising h high l m;
+  after = λ k e l m. let h : n < length log = omega arith in rises_from log ms n k e e rising h (high e h) l m;
 }
 
 -- at the next record it is one more
@@ -93,60 +95,60 @@ StandsAfter-next log at n d rising place h = record {
         let at : k ≡ n = omega arith in
         omega (arith, ap (λ i. (get_or log i e).0) at, ap (λ (r : ℕ × Level). r.0) (get_or_default log n d e h))
 
-count_level-none : (level : Level) → count_level level None ≡ None
-count_level-none High = refl
-count_level-none Low = refl
-count_level-none Unknown = refl
-
 low_count-next : (log : Records) (from n : ℕ) → low_count log from (suc n) ≡ count_level (level_at log (from + n)) (low_count log from n)
 unfolding low_count
 low_count-next log from n = refl
 
-low_count-low : (log : Records) (from n k c : ℕ) → low_count log from n ≡ Some c → ((j : ℕ) → j < k → level_at log (from + (n + j)) ≡ Low) → low_count log from (n + k) ≡ Some (c + k)
-low_count-low log from n zero c e level = rw (add-zero, add-zero) e
-low_count-low log from n (suc k) c e level =
-    let so_far = low_count-low log from n k c e (λ j h. level j (omega arith)) in
-    let here = level k (omega arith) in
-    let one : (c + k) + 1 ≡ c + suc k = omega arith in
-    rw add-suc (low_count-next log from (n + k) ∙ rw (here, so_far, one))
+-- more milliseconds of one level
+low_count-stretch : (log : Records) (from n k : ℕ) (level : Level) → ((j : ℕ) → j < k → level_at log (from + (n + j)) ≡ level) → low_count log from (n + k) ≡ count_levels level k (low_count log from n)
+unfolding count_levels
+low_count-stretch log from n zero level same = rw add-zero refl
+low_count-stretch log from n (suc k) level same =
+    let before = low_count-stretch log from n k level (λ j h. same j (omega arith)) in
+    let here = same k (omega arith) in
+    rw add-suc (low_count-next log from (n + k) ∙ rw (here, before) refl)
 
-low_count-high : (log : Records) (from n k c : ℕ) → low_count log from n ≡ Some c → ((j : ℕ) → j < k → level_at log (from + (n + j)) ≡ High) → low_count log from (n + k) ≡ Some c
-low_count-high log from n zero c e level = rw add-zero e
-low_count-high log from n (suc k) c e level =
-    let so_far = low_count-high log from n k c e (λ j h. level j (omega arith)) in
-    let here = level k (omega arith) in
-    rw add-suc (low_count-next log from (n + k) ∙ rw (here, so_far))
-
-low_count-none : (log : Records) (from n k : ℕ) → low_count log from n ≡ None → low_count log from (n + k) ≡ None
-low_count-none log from n zero e = rw add-zero e
-low_count-none log from n (suc k) e =
-    let so_far = low_count-none log from n k e in
-    rw add-suc (low_count-next log from (n + k) ∙ rw so_far (count_level-none (level_at log (from + (n + k)))))
-
--- the level does not change before the next record
-holds : (log : Records) (at ms n : ℕ) (d : ℕ × Level) → IsRising log → StandsAfter log at n → n < length log → at ≤ ms → ms < (get_or log n d).0 → level_at log ms ≡ level_after log n
-holds log at ms n d rising place h low high = level_at-place log ms n (StandsAfter-stays log at ms n d rising place h low high)
-
--- a stretch of low milliseconds adds its length
-pub low_count-low_stretch : (log : Records) (from at until n c : ℕ) (d : ℕ × Level) → IsRising log → StandsAfter log at n → n < length log → from ≤ at → at ≤ until → until ≤ (get_or log n d).0 → level_after log n ≡ Low → low_count log from (at - from) ≡ Some c → low_count log from (until - from) ≡ Some (c + (until - at))
-low_count-low_stretch log from at until n c d rising place h low mid high level e =
+-- from a place to the next record, and after the last one to any millisecond, the level stays
+pub low_count-until : (log : Records) (from at until n : ℕ) → IsRising log → StandsAfter log at n → from ≤ at → at ≤ until → ((d : ℕ × Level) → n < length log → until ≤ (get_or log n d).0)
+    → low_count log from (until - from) ≡ count_levels (level_after log n) (until - at) (low_count log from (at - from))
+low_count-until log from at until n rising place low mid high =
     let same : until - from ≡ (at - from) + (until - at) = omega arith in
-    rw same (low_count-low log from (at - from) (until - at) c e (λ j l. holds log at (from + ((at - from) + j)) n d rising place h (omega arith) (omega arith) ∙ level))
+    rw same (low_count-stretch log from (at - from) (until - at) (level_after log n)
+    (λ j h. level_at-place log (from + ((at - from) + j)) n (StandsAfter-stays log at (from + ((at - from) + j)) n rising place (omega arith) (λ d l. omega (arith, high d l)))))
 
--- a stretch of high ones adds nothing
-pub low_count-high_stretch : (log : Records) (from at until n c : ℕ) (d : ℕ × Level) → IsRising log → StandsAfter log at n → n < length log → from ≤ at → at ≤ until → until ≤ (get_or log n d).0 → level_after log n ≡ High → low_count log from (at - from) ≡ Some c → low_count log from (until - from) ≡ Some c
-low_count-high_stretch log from at until n c d rising place h low mid high level e =
-    let same : until - from ≡ (at - from) + (until - at) = omega arith in
-    rw same (low_count-high log from (at - from) (until - at) c e (λ j l. holds log at (from + ((at - from) + j)) n d rising place h (omega arith) (omega arith) ∙ level))
+pub count_levels-zero : (level : Level) (low : Option ℕ) → count_levels level 0 low ≡ low
+unfolding count_levels
+count_levels-zero level low = refl
 
--- where one millisecond is unknown there is no count
-pub low_count-unknown : (log : Records) (from at to n c : ℕ) → StandsAfter log at n → from ≤ at → at < to → level_after log n ≡ Unknown → low_count log from (at - from) ≡ Some c → low_count log from (to - from) ≡ None
-low_count-unknown log from at to n c place low high level e =
-    let here : from + (at - from) ≡ at = omega arith in
-    let unknown : level_at log (from + (at - from)) ≡ Unknown = rw here (level_at-place log at n place ∙ level) in
-    let next : low_count log from (suc (at - from)) ≡ None = low_count-next log from (at - from) ∙ rw (unknown, e) in
-    let same : to - from ≡ suc (at - from) + (to - suc at) = omega arith in
-    rw same (low_count-none log from (suc (at - from)) (to - suc at) next)
+pub count_levels-none : (level : Level) (n : ℕ) → count_levels level n None ≡ None
+unfolding count_levels
+count_levels-none level zero = refl
+count_levels-none level (suc n) = rw (count_levels-none level n) (none level)
+  where
+    none : (l : Level) → count_level l None ≡ None
+    none High = refl
+    none Low = refl
+    none Unknown = refl
+
+pub count_levels-low : (n c : ℕ) → count_levels Low n (Some c) ≡ Some (c + n)
+unfolding count_levels
+count_levels-low zero c = rw add-zero refl
+count_levels-low (suc n) c = let one : (c + n) + 1 ≡ c + suc n = omega arith in rw (count_levels-low n c) (ap Some one)
+
+pub count_levels-high : (n : ℕ) (low : Option ℕ) → count_levels High n low ≡ low
+unfolding count_levels
+count_levels-high zero low = refl
+count_levels-high (suc n) None = rw (count_levels-high n None) refl
+count_levels-high (suc n) (Some c) = rw (count_levels-high n (Some c)) refl
+
+pub count_levels-unknown : (n : ℕ) (low : Option ℕ) → 0 < n → count_levels Unknown n low ≡ None
+unfolding count_levels
+count_levels-unknown zero low h = absurd (omega arith)
+count_levels-unknown (suc n) low h = unknown (count_levels Unknown n low)
+  where
+    unknown : (o : Option ℕ) → count_level Unknown o ≡ None
+    unknown None = refl
+    unknown (Some c) = refl
 
 pub IsNonDecreasingBy-rising : (log : Records) → IsRising log → IsNonDecreasingBy (λ (r : ℕ × Level). r.0) log
 IsNonDecreasingBy-rising log rising = λ i j d h l. go i j d l (cases_lt i j) h
@@ -160,3 +162,8 @@ IsNonDecreasingBy-rising log rising = λ i j d h l. go i j d l (cases_lt i j) h
 pub low_count-start : (log : Records) (from : ℕ) → low_count log from (from - from) ≡ Some 0
 unfolding low_count
 low_count-start log from = let same : from - from ≡ 0 = omega arith in rw same
+
+-- a count is small enough for so many more milliseconds
+pub some_at_most : (n k : ℕ) (o : Option ℕ) → IsAtMost n o → n ≤ k → ForSome o (λ c. c ≤ k)
+some_at_most n k None h more = λ c e. (cc)
+some_at_most n k (Some b) h more = λ c e. let same : b ≡ c = cc in omega arith

@@ -1,5 +1,5 @@
 //! Logs of pulse edges: what a logger wrote is read into records of time and level, which are asked for the level
-//! at a millisecond and for the low milliseconds of a stretch.
+//! at a millisecond, for the low milliseconds of a stretch, and for those of each tenth of a second in order.
 #![tactic(auto)]
 
 mod fault;
@@ -7,6 +7,7 @@ mod line;
 mod log;
 mod look;
 mod read;
+mod tenths;
 #[cfg(test)]
 mod tests;
 
@@ -14,3 +15,4 @@ pub use definitions::Level;
 pub use fault::LogFault;
 pub use log::Log;
 pub use read::read_log;
+pub use tenths::{TENTH, Tenths};

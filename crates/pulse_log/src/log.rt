@@ -1,9 +1,10 @@
 //! A log that was read, and what it is asked.
 
-ghost use Rattle.std.specs.Prelude.{◌≡◌, ◌+◌, ◌-◌, ◌<◌, ◌≤◌, [], length, slice_get, IsTrue, ◌↔◌};
+ghost use Rattle.std.specs.Prelude.{◌≡◌, ◌+◌, ◌-◌, ◌*◌, ◌<◌, ◌≤◌, [], length, slice_get, IsTrue, ◌↔◌};
 ghost use Rattle.definitions.specs.heard.Logs.{level_at, low_count};
 
-use crate::look;
+use crate::look::{self, SECOND};
+use crate::tenths::Tenths;
 use definitions::Level;
 use formats::TIME_LIMIT;
 use std::marker::Model;
@@ -74,10 +75,19 @@ impl Log {
     /// one of them is unknown. `from` is at most `to`, which is at most 1,000 ms later and below 2,000,000,000,000.
     pub fn low_ms(&self, from: u64, to: u64) -> Option<u32>
         requires order { from ≤ to }
-        requires short { to ≤ from + 1000 }
-        requires range { to < 2_000_000_000_000 }
+        requires short { to ≤ from + SECOND }
+        requires range { to < 2 * TIME_LIMIT }
         ensures { result ≡ low_count self.now from (to - from) }
     {
-        look::low_in(self.records.as_slice(), from, to)
+        let records = self.records.as_slice();
+        look::low_from(records, look::count_until(records, from), from, to).0
+    }
+
+    /// The tenths of a second one after the other, the first from millisecond `from` on.
+    pub fn tenths(&self, from: u64) -> Tenths<'_>
+        ensures log { result.log ≡ self.now }
+        ensures at { result.at ≡ from }
+    {
+        Tenths::of_records(self.records.as_slice(), from)
     }
 }
