@@ -10,7 +10,7 @@ ghost use Rattle.symbol_cost.specs.Grid.{AreRows, HasCosts, cost_at};
 
 use crate::RECEIVER_COST;
 use crate::limits::SECOND;
-use crate::receivers::{Row, row_of};
+use crate::receivers::{Row, add_receiver};
 use pulse_log::Log;
 use signal_base::{
     CostTable, MOST_RECEIVERS, MOST_SECONDS, START_LIMIT, Station, Tuning, UNSCORED, symbols,
@@ -44,8 +44,9 @@ impl Model for CostGrid {
 }
 
 impl CostGrid {
-    /// Scores the slots: the first begins at millisecond `start + phase` of the receivers' clock, below 10^12 and
-    /// below 1,000. There are 1 to 8 receivers, each with its tuning and its log, all of this station.
+    /// Scores `seconds` slots, at most 1,200, of which the first begins at millisecond `start + phase` of the receivers'
+    /// clock, below 10^12 and below 1,000. There are at most 8 receivers, each with its tuning and its log, all of this
+    /// station. Each log is read once.
     pub fn make(
         alloc: Global,
         station: Station,
@@ -141,10 +142,16 @@ fn rows_of(
     requires seconds { seconds ≤ MOST_SECONDS }
     ensures { IfOk result (λ rows. AreRows rows.items station seconds (length tunings.now) (slot_cost table.now (receptions tunings.now logs.now) station begin)) }
 {
-    let mut rows = Vec::with_capacity(alloc, seconds as usize)?;
-    for slot in 0..seconds {
-        let row = row_of(station, tunings, table, logs, begin, slot);
-        rows.push(row)?;
+    let mut rows = vec![in alloc; [0; 5]; seconds as usize]?;
+    for i in 0..tunings.len() {
+        add_receiver(
+            rows.as_mut_slice(),
+            station,
+            table,
+            &tunings[i],
+            &logs[i],
+            begin,
+        );
     }
     Ok(rows)
 }

@@ -4,6 +4,8 @@
 mod grid;
 mod limits;
 mod receivers;
+#[cfg(test)]
+mod tests;
 
 pub use grid::{CostGrid, GridFault};
 pub use limits::RECEIVER_COST;

@@ -9,7 +9,8 @@ use Rattle.definitions.specs.heard.Costs.{bank_costs}
 use Rattle.due.specs.Days.{IsDayAnswer, bank_of, day_cost}
 use Rattle.symbol_cost.specs.Grid.{HasCosts}
 use Rattle.bank.specs.Plain.{IsPlain, row_cost}
-use Rattle.bank.proofs.DayLaws.{priced, day_answer, reportable}
+use Rattle.symbol_cost.proofs.TableLaws.{priced}
+use Rattle.bank.proofs.DayLaws.{day_answer, reportable}
 use Rattle.bank.proofs.decide.decide.Goals as goal
 
 pub make-made-requires-clause-priced : goal.make-made-requires-clause-priced

@@ -1,0 +1,134 @@
+//! Costs that were worked out by hand, and grids of the largest logs.
+
+ghost use Rattle.signal_base.specs.Limits.{IsPriced};
+
+use crate::CostGrid;
+use formats::LOG_LIMIT;
+use pulse_log::{Log, LogFault, read_log};
+use signal_base::{CostTable, Station, Tuning};
+use std::alloc::{AllocError, Global};
+use std::process::Abort;
+use std::test::Fail;
+use std::time::Instant;
+
+fn read(rt: &(impl Abort + AllocGlobal), text: &[u8]) -> Result<Log, LogFault> {
+    assert!(rt; text.len() as u64 <= LOG_LIMIT);
+    read_log(rt.alloc(), text)
+}
+
+// The table that counts the milliseconds that differ.
+fn difference_table() -> CostTable
+    ensures { IsPriced result }
+{
+    CostTable::default()
+}
+
+// Of DCF77 a 0 is low in the first tenth, a 1 in the first two, and symbol 2 in none. The first receiver hears 150 low
+// milliseconds, which cost it 50, 50 and 150. The second hears 200 of them 30 ms later and counts three times: 300, 0
+// and 600. Of its tenth from 430 on it doesn't know 20 ms, so the 80 low ones in it cost nothing.
+#[test]
+fn costs_two_seconds_of_two_receivers(rt: HostRuntime) -> Result<(), Fail> {
+    let tunings = [
+        Tuning {
+            delay: 0,
+            weight: 1,
+        },
+        Tuning {
+            delay: 30,
+            weight: 3,
+        },
+    ];
+    let one = read(&rt, b"0 L\n150 H\n3000 L\n")?;
+    let other = read(&rt, b"30 L\n230 H\n430 L\n510 X\n530 H\n3000 L\n")?;
+    let logs = [one, other];
+    let table = difference_table();
+    let grid = CostGrid::make(rt.alloc(), Station::Dcf77, &tunings, &table, &logs, 0, 0, 2)?;
+    for (set, first, second) in [
+        (1, 350, 400),
+        (2, 50, 800),
+        (4, 750, 0),
+        (5, 350, 0),
+        (7, 50, 0),
+        (255, 0, 0),
+    ] {
+        assert_eq!(rt; grid.cost(0, set), first, "set {set} in the first second");
+        assert_eq!(rt; grid.cost(1, set), second, "set {set} in the second second");
+    }
+    Ok(())
+}
+
+// Of MSF symbol 0 is low in the first tenth, and symbol 1 in the third one too. The first receiver hears the one and
+// counts three times, the second hears the other. Each could have its own symbol for nothing, but one was sent.
+#[test]
+fn one_symbol_for_all_receivers(rt: HostRuntime) -> Result<(), Fail> {
+    let tunings = [
+        Tuning {
+            delay: 0,
+            weight: 3,
+        },
+        Tuning {
+            delay: 0,
+            weight: 1,
+        },
+    ];
+    let one = read(&rt, b"0 L\n100 H\n1000 L\n")?;
+    let other = read(&rt, b"0 L\n100 H\n200 L\n300 H\n1000 L\n")?;
+    let logs = [one, other];
+    let table = difference_table();
+    let grid = CostGrid::make(rt.alloc(), Station::Msf, &tunings, &table, &logs, 0, 0, 1)?;
+    assert_eq!(rt; grid.cost(0, 1), 100);
+    assert_eq!(rt; grid.cost(0, 2), 300);
+    assert_eq!(rt; grid.cost(0, 3), 100);
+    Ok(())
+}
+
+// A text of 200,000 records, of which one is 5 ms after the other: low, high, low and so on.
+fn largest_text(alloc: Global) -> Result<Vec<u8>, AllocError> {
+    let mut text = Vec::new(alloc);
+    for n in 0..100_000u32 {
+        let line = format!(in alloc; "{} L\n{} H\n", 10 * n, 10 * n + 5)?;
+        text.extend_from_slice(line.as_str().as_bytes())?;
+    }
+    Ok(text)
+}
+
+// Each tenth has 50 low milliseconds, so each of its symbols costs a receiver 50, and a second costs eight of them
+// 4,000. The log ends in second 999. `bench/grid` reads what is printed.
+#[test]
+fn grids_of_the_largest_logs(rt: HostRuntime) -> Result<(), Fail> {
+    let text = largest_text(rt.alloc())?;
+    let text = text.as_slice();
+    let tunings = [Tuning {
+        delay: 0,
+        weight: 1,
+    }; 8];
+    let logs = [
+        read(&rt, text)?,
+        read(&rt, text)?,
+        read(&rt, text)?,
+        read(&rt, text)?,
+        read(&rt, text)?,
+        read(&rt, text)?,
+        read(&rt, text)?,
+        read(&rt, text)?,
+    ];
+    let table = difference_table();
+    for _ in 0..5u8 {
+        let begin = Instant::now(&rt)?;
+        let grid = CostGrid::make(
+            rt.alloc(),
+            Station::Msf,
+            &tunings,
+            &table,
+            &logs,
+            0,
+            0,
+            1200,
+        )?;
+        let microseconds = begin.elapsed(&rt)?.as_micros();
+        println!(rt; "{microseconds} microseconds")?;
+        assert_eq!(rt; grid.cost(998, 16), 4000);
+        assert_eq!(rt; grid.cost(1000, 16), 0, "after the end of the log");
+    }
+    Ok(())
+}
