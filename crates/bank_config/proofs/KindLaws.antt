@@ -12,7 +12,8 @@ use Rattle.toml.specs.View.{view}
 use Rattle.bank_config.specs.declared.fault.Key.{Key}
 use Rattle.bank_config.specs.declared.fault.Key.TheVariants.{Receiver}
 use Rattle.bank_config.specs.declared.fault.ConfigFault.TheVariants.{WrongKind, OutOfRange}
-use Rattle.bank_config.specs.declared.limits.TheConstants.{COSTS, MOST_COST, MOST_RECEIVERS}
+use Rattle.signal_base.specs.declared.limits.TheConstants.{MOST_COST, MOST_RECEIVERS}
+use Rattle.bank_config.specs.declared.limits.TheConstants.{COSTS}
 use Rattle.bank_config.specs.declared.places.Place.TheVariants.{Top, OfReceiver, OfTable}
 use Rattle.bank_config.specs.Checked.{Checked, ◌>>=◌, in_range}
 use Rattle.bank_config.specs.Configuration.{all_known}

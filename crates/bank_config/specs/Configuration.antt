@@ -14,7 +14,7 @@ use Rattle.bank_config.specs.declared.config.Config.{Config}
 use Rattle.bank_config.specs.declared.fault.Key.{Key}
 use Rattle.bank_config.specs.declared.fault.Key.TheVariants as key
 use Rattle.bank_config.specs.declared.fault.ConfigFault.TheVariants.{NotToml, WrongKind, UnknownKey}
-use Rattle.bank_config.specs.declared.limits.TheConstants.{LEAST_WEIGHT, MOST_CEILING, MOST_DELAY, MOST_RECEIVERS, MOST_WEIGHT}
+use Rattle.signal_base.specs.declared.limits.TheConstants.{GREATEST_COST, LEAST_WEIGHT, MOST_DELAY, MOST_RECEIVERS, MOST_WEIGHT}
 use Rattle.bank_config.specs.declared.places.Place.TheVariants.{Top, OfReceiver, OfTable}
 use Rattle.bank_config.specs.Checked.{Checked, ◌>>=◌, required, optional, in_range}
 use Rattle.bank_config.specs.Values.{all_of_kind, costs_in, each, is_file, is_name, is_table, list_in, number_in, station_in, text_in}
@@ -86,7 +86,7 @@ all_known config receivers =
 abbrev pub configuration_in : Data → Checked PlainConfig
 configuration_in config =
     required key.Station (get (codes "station") config) >>= station_in key.Station >>= (λ station.
-    number_at key.Ceiling (codes "ceiling") 0 MOST_CEILING MOST_CEILING config >>= (λ ceiling.
+    number_at key.Ceiling (codes "ceiling") 0 GREATEST_COST GREATEST_COST config >>= (λ ceiling.
     required key.Receiver (get (codes "receiver") config) >>= tables_in >>= (λ tables.
     each (receiver_in station) 1 tables >>= (λ receivers.
     optional difference_table cost_table_in (get (codes "table") config) >>= (λ costs.

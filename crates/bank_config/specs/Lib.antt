@@ -2,3 +2,4 @@ pub mod Checked
 pub mod Values
 pub mod Places
 pub mod Configuration
+pub mod InRange

@@ -8,7 +8,8 @@ use Rattle.formats.specs.declared.limits.TheConstants.{LONGEST_NAME}
 use Rattle.toml.specs.Data.{Data, Items, no_items, item, as_str, as_integer, as_array, as_table}
 use Rattle.bank_config.specs.declared.fault.Key.{Key}
 use Rattle.bank_config.specs.declared.fault.ConfigFault.TheVariants.{WrongKind, OutOfRange}
-use Rattle.bank_config.specs.declared.limits.TheConstants.{COSTS, LONGEST_FILE, MOST_COST}
+use Rattle.signal_base.specs.declared.limits.TheConstants.{MOST_COST}
+use Rattle.bank_config.specs.declared.limits.TheConstants.{COSTS, LONGEST_FILE}
 use Rattle.bank_config.specs.Checked.{Checked, ◌>>=◌}
 
 -- the entries of an array

@@ -13,5 +13,5 @@ mod values;
 
 pub use config::{Config, Receiver};
 pub use fault::{ConfigFault, Key};
-pub use limits::{CONFIG_LIMIT, MOST_RECEIVERS};
+pub use limits::{CONFIG_LIMIT, LONGEST_FILE};
 pub use read::read_config;

@@ -1,25 +1,28 @@
 //! Reading a configuration's text.
 
-ghost use Rattle.std.specs.Prelude.{◌≡◌, ◌≤◌, ◌≢◌, map, length, codes, IfOk, IfErr};
+ghost use Rattle.std.specs.Prelude.{ℕ, ◌≡◌, ◌≤◌, ◌≢◌, map, length, slice_index, vec_len, codes, All, IfOk, IfErr};
 ghost use Rattle.std.specs.List.{list_all};
+ghost use Rattle.signal_base.specs.Limits.{IsPriced};
 ghost use Rattle.signal_base.specs.Table.{difference_table};
 ghost use Rattle.bank_config.specs.declared.fault.ConfigFault.TheVariants.{NoMemory};
 ghost use Rattle.bank_config.specs.declared.places.Place.TheVariants.{OfReceiver};
 ghost use Rattle.bank_config.specs.Checked.{Gives, GivesOrNoMemory, optional};
 ghost use Rattle.bank_config.specs.Configuration.{all_known, configuration_in, configuration_of, cost_table_in, plain_config, plain_receiver, receiver_in};
+ghost use Rattle.bank_config.specs.InRange.{IsInRange, IsReceiverInRange};
 ghost use Rattle.bank_config.specs.Places.{knows_all};
-ghost use Rattle.bank_config.specs.Values.{each, station_in};
+ghost use Rattle.bank_config.specs.Values.{costs_in, each, station_in};
 ghost use Rattle.toml.specs.Data.{get};
 ghost use Rattle.toml.specs.View.{view};
 
-use crate::limits::{
-    CONFIG_LIMIT, LEAST_WEIGHT, MOST_CEILING, MOST_DELAY, MOST_RECEIVERS, MOST_WEIGHT,
-};
+use crate::limits::{CONFIG_LIMIT, COSTS};
 use crate::lists::{costs_in, tables_in};
 use crate::places::Place;
 use crate::values::{file_at, name_at, number_at, required, station_in};
 use crate::{Config, ConfigFault, Key, Receiver};
-use signal_base::{CostTable, Station, Tuning};
+use signal_base::{
+    CostTable, GREATEST_COST, LEAST_WEIGHT, MOST_COST, MOST_DELAY, MOST_RECEIVERS, MOST_WEIGHT,
+    Station, Tuning,
+};
 use std::alloc::Global;
 use toml::Value;
 
@@ -40,18 +43,26 @@ fn receiver_in(
     receiver: u8,
     top: Station,
 ) -> Result<Receiver, ConfigFault>
-    ensures { GivesOrNoMemory plain_receiver result (receiver_in top receiver (view table.now)) }
+    ensures receiver { GivesOrNoMemory plain_receiver result (receiver_in top receiver (view table.now)) }
+    ensures in_range { IfOk result IsReceiverInRange }
 {
     let name = name_at(table, Key::Name { receiver })?;
     let file = file_at(table, Key::File { receiver })?;
-    let delay = number_at(table, "delay_ms", Key::Delay { receiver }, 0, MOST_DELAY, 0)?;
+    let delay = number_at(
+        table,
+        "delay_ms",
+        Key::Delay { receiver },
+        0,
+        MOST_DELAY as u32,
+        0,
+    )?;
     let weight = number_at(
         table,
         "weight",
         Key::Weight { receiver },
-        LEAST_WEIGHT,
-        MOST_WEIGHT,
-        LEAST_WEIGHT,
+        LEAST_WEIGHT as u32,
+        MOST_WEIGHT as u32,
+        LEAST_WEIGHT as u32,
     )?;
     let station = station_at(table, receiver, top)?;
     let name = String::from_str(alloc, name)?;
@@ -70,7 +81,9 @@ fn receiver_in(
 // The receivers in their order, each whole before the next.
 fn receivers_in(alloc: Global, tables: &[Value], top: Station) -> Result<Vec<Receiver>, ConfigFault>
     requires { length tables.now ≤ MOST_RECEIVERS }
-    ensures { GivesOrNoMemory (λ receivers. map plain_receiver receivers.items) result (each (receiver_in top) 1 (map view tables.now)) }
+    ensures in_range { IfOk result (λ receivers. All IsReceiverInRange receivers.items) }
+    ensures count { IfOk result (λ receivers. vec_len receivers ≡ length tables.now) }
+    ensures receivers { GivesOrNoMemory (λ receivers. map plain_receiver receivers.items) result (each (receiver_in top) 1 (map view tables.now)) }
 {
     let mut receivers = Vec::new(alloc);
     let mut number = 0u8;
@@ -83,32 +96,53 @@ fn receivers_in(alloc: Global, tables: &[Value], top: Station) -> Result<Vec<Rec
 
 // The cost table that the configuration gives, or else the one that counts the milliseconds that differ.
 fn cost_table_at(config: &Value) -> Result<CostTable, ConfigFault>
-    ensures { Gives (λ costs. costs) result (optional difference_table cost_table_in (get (codes "table") (view config.now))) }
+    ensures priced { IfOk result IsPriced }
+    ensures costs { Gives (λ costs. costs) result (optional difference_table cost_table_in (get (codes "table") (view config.now))) }
 {
     match config.get("table") {
         Some(value) => cost_table_in(value),
-        None => Ok(CostTable::default()),
+        None => Ok(usual_table()),
     }
 }
 
 fn cost_table_in(table: &Value) -> Result<CostTable, ConfigFault>
-    ensures { Gives (λ costs. costs) result (cost_table_in (view table.now)) }
+    ensures costs { Gives (λ costs. costs) result (cost_table_in (view table.now)) }
+    ensures priced { IfOk result IsPriced }
 {
     if !table.is_table() {
         return Err(ConfigFault::WrongKind {
             key: Key::CostTable,
         });
     }
-    let usual = CostTable::default();
-    let low = match table.get("low") {
-        Some(value) => costs_in(value, Key::Low)?,
-        None => usual.low,
-    };
-    let high = match table.get("high") {
-        Some(value) => costs_in(value, Key::High)?,
-        None => usual.high,
-    };
+    let usual = usual_table();
+    let low = costs_at(table, "low", Key::Low, usual.low)?;
+    let high = costs_at(table, "high", Key::High, usual.high)?;
     Ok(CostTable { low, high })
+}
+
+// The table that counts the milliseconds that differ.
+fn usual_table() -> CostTable
+    ensures table { result ≡ difference_table }
+    ensures priced { IsPriced result }
+{
+    CostTable::default()
+}
+
+// The costs at a key of the cost table, or else the usual ones.
+fn costs_at(
+    table: &Value,
+    word: &str,
+    key: Key,
+    usual: [u8; COSTS],
+) -> Result<[u8; COSTS], ConfigFault>
+    requires { (n : ℕ) → slice_index usual n ≤ MOST_COST }
+    ensures costs { Gives (λ costs. costs) result (optional usual (costs_in key) (get word.now (view table.now))) }
+    ensures most { IfOk result (λ costs. (n : ℕ) → slice_index costs n ≤ MOST_COST) }
+{
+    match table.get(word) {
+        Some(value) => costs_in(value, key),
+        None => Ok(usual),
+    }
 }
 
 // Whether no unknown key stands in a receiver.
@@ -135,7 +169,8 @@ fn all_known(config: &Value, tables: &[Value]) -> bool
 
 // The configuration of a table.
 fn config_in(alloc: Global, config: &Value) -> Result<Config, ConfigFault>
-    ensures { GivesOrNoMemory plain_config result (configuration_in (view config.now)) }
+    ensures config { GivesOrNoMemory plain_config result (configuration_in (view config.now)) }
+    ensures in_range { IfOk result IsInRange }
 {
     let station = station_in(required(config, "station", Key::Station)?, Key::Station)?;
     let ceiling = number_at(
@@ -143,8 +178,8 @@ fn config_in(alloc: Global, config: &Value) -> Result<Config, ConfigFault>
         "ceiling",
         Key::Ceiling,
         0,
-        MOST_CEILING,
-        MOST_CEILING,
+        GREATEST_COST,
+        GREATEST_COST,
     )?;
     let tables = tables_in(required(config, "receiver", Key::Receiver)?)?;
     let receivers = receivers_in(alloc, tables, station)?;
@@ -166,6 +201,7 @@ fn config_in(alloc: Global, config: &Value) -> Result<Config, ConfigFault>
 pub fn read_config(alloc: Global, bytes: &[u8]) -> Result<Config, ConfigFault>
     requires { length bytes.now ≤ CONFIG_LIMIT }
     ensures read { IfOk result (λ config. configuration_of bytes.now ≡ Ok (plain_config config)) }
+    ensures in_range { IfOk result IsInRange }
     ensures refused { IfErr result (λ fault. fault ≢ NoMemory → configuration_of bytes.now ≡ Err fault) }
 {
     match toml::table_from_slice(alloc, bytes) {

@@ -180,6 +180,30 @@ fn tells_the_first_fault(rt: HostRuntime) -> Result<(), Fail> {
             b"station = \"jjy\"\nreceiver = [{name = \"a\", log = \"a\"}]\ntable = {x = 1}\n",
             ConfigFault::UnknownKey,
         ),
+        (
+            b"station = \"jjy\"\nceiling = -1\nreceiver = 1\n",
+            out_of_range(Key::Ceiling),
+        ),
+        (
+            b"station = \"jjy\"\nreceiver = []\ntable = 1\n",
+            out_of_range(Key::Receiver),
+        ),
+        (
+            b"station = \"jjy\"\nreceiver = [{name = \"a\", log = \"a\", delay_ms = \"1\", weight = 0}]\n",
+            wrong_kind(delay),
+        ),
+        (
+            b"station = \"jjy\"\nreceiver = [{name = \"a\", log = \"a\", weight = 1.0, station = 1}]\n",
+            wrong_kind(weight),
+        ),
+        (
+            b"station = \"jjy\"\nreceiver = [{name = \"a\", log = \"a\"}]\ntable = {low = 1, high = 1, x = 1}\n",
+            wrong_kind(Key::Low),
+        ),
+        (
+            b"station = \"jjy\"\nreceiver = [{name = \"a\", log = \"a\"}]\ntable = {high = 1, x = 1}\n",
+            wrong_kind(Key::High),
+        ),
     ];
     for (text, fault) in cases {
         assert!(rt; read(&rt, text).err() == Some(fault));
@@ -237,5 +261,27 @@ fn reads_what_is_said(rt: HostRuntime) -> Result<(), Fail> {
         b"station = \"wwvb\"\nreceiver = [{name = \"0\", log = \"a\"}]\n",
     )?;
     assert!(rt; short.station == Station::Wwvb && short.ceiling == 1_920_000_000);
+    Ok(())
+}
+
+// The most bytes that a configuration may have, all of one shape.
+#[test]
+fn ends_on_a_million_bytes(rt: HostRuntime) -> Result<(), Fail> {
+    let alloc = rt.alloc();
+    for (head, unit, count) in [
+        ("", "[[a]]\n", 166_666),
+        ("", "[a]\n", 250_000),
+        ("a", ".a", 499_999),
+        ("a = [", "1,", 499_997),
+        ("a = ", "[", 999_996),
+        ("a = ", "{a=", 333_332),
+        ("a = \"", "x", 999_995),
+    ] {
+        let units = unit.repeat(alloc, count)?;
+        let text = format!(in alloc; "{head}{units}")?;
+        assert!(rt; read(&rt, text.as_bytes()).is_err(), "{unit}");
+    }
+    let comment = vec![in alloc; b'#'; CONFIG_LIMIT]?;
+    assert!(rt; read(&rt, &comment).err() == Some(missing(Key::Station)));
     Ok(())
 }

@@ -1,6 +1,6 @@
 //! What stands at a key that wants a text, a whole number or a station.
 
-ghost use Rattle.std.specs.Prelude.{◌≡◌, ◌≤◌, IfOk};
+ghost use Rattle.std.specs.Prelude.{◌≡◌, ◌≤◌, true, IfOk};
 ghost use Rattle.std.specs.List.{list_all};
 ghost use Rattle.bank_config.specs.Checked.{Gives, required};
 ghost use Rattle.bank_config.specs.Configuration.{file_at, name_at, number_at};
@@ -36,7 +36,8 @@ fn text_in(value: &Value, key: Key) -> Result<&str, ConfigFault>
 
 /// The name of a receiver.
 pub(crate) fn name_at(table: &Value, key: Key) -> Result<&str, ConfigFault>
-    ensures { Gives (λ name. name.now) result (name_at key (view table.now)) }
+    ensures name { Gives (λ name. name.now) result (name_at key (view table.now)) }
+    ensures fits { IfOk result (λ name. is_name name.now ≡ true) }
 {
     let value = required(table, "name", key)?;
     let name = text_in(value, key)?;
@@ -72,7 +73,8 @@ fn is_name_byte(b: u8) -> bool
 
 /// The name of the file with a receiver's log.
 pub(crate) fn file_at(table: &Value, key: Key) -> Result<&str, ConfigFault>
-    ensures { Gives (λ file. file.now) result (file_at key (view table.now)) }
+    ensures file { Gives (λ file. file.now) result (file_at key (view table.now)) }
+    ensures fits { IfOk result (λ file. is_file file.now ≡ true) }
 {
     let value = required(table, "log", key)?;
     let file = text_in(value, key)?;

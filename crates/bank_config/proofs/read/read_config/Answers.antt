@@ -11,13 +11,13 @@ pub returns-in-Ok-clause-read : goal.returns-in-Ok-clause-read
 returns-in-Ok-clause-read c =
     subst (λ (due : Checked PlainConfig). IfOk c.config_in.result (λ config. due ≡ Ok (plain_config config)))
     (sym (configuration_of-document c.args.bytes.now c.in-Ok.table c.in-Ok.ensures.ok.0 c.in-Ok.ensures.ok.1))
-    (GivesOrNoMemory-ok plain_config _ c.config_in.result c.config_in.ensures)
+    (GivesOrNoMemory-ok plain_config _ c.config_in.result c.config_in.ensures.config)
 
 pub returns-in-Ok-clause-refused : goal.returns-in-Ok-clause-refused
 returns-in-Ok-clause-refused c =
     subst (λ (due : Checked PlainConfig). IfErr c.config_in.result (λ fault. fault ≢ NoMemory → due ≡ Err fault))
     (sym (configuration_of-document c.args.bytes.now c.in-Ok.table c.in-Ok.ensures.ok.0 c.in-Ok.ensures.ok.1))
-    (GivesOrNoMemory-err plain_config _ c.config_in.result c.config_in.ensures)
+    (GivesOrNoMemory-err plain_config _ c.config_in.result c.config_in.ensures.config)
 
 pub returns-after-is_memory-clause-refused : goal.returns-after-is_memory-clause-refused
 returns-after-is_memory-clause-refused c =
