@@ -1,12 +1,13 @@
 -- Lists of costs, none above the most.
-use Rattle.std.proofs.Common.{ℕ, zero, suc, ◌≡◌, ◌≤◌, nat_le, true, List, [], ◌∷◌, refl, arith}
-use Rattle.std.proofs.lemmas.Bool.{and_parts, leb-true}
-use Rattle.std.specs.List.{list_all}
+use Rattle.std.proofs.Common.{ℕ, zero, suc, ◌≤◌, List, [], ◌∷◌, replicate, arith}
 use Rattle.std.proofs.Math.ListN.{set}
 use Rattle.std.specs.Prelude.{slice_index}
-use Rattle.signal_base.specs.Limits.{IsPriced}
-use Rattle.signal_base.specs.Table.{difference_table}
-use Rattle.signal_base.specs.declared.limits.TheConstants.{MOST_COST}
+
+-- zeros
+pub zeros_most : (k m n : ℕ) → slice_index (replicate k 0) n ≤ m
+zeros_most zero m n = omega arith
+zeros_most (suc k) m zero = omega arith
+zeros_most (suc k) m (suc n) = zeros_most k m n
 
 -- one of them is replaced by another that isn't
 pub set_most : (xs : List ℕ) (i x m : ℕ) → x ≤ m → ((n : ℕ) → slice_index xs n ≤ m) → (n : ℕ) → slice_index (set xs i x) n ≤ m
@@ -15,14 +16,3 @@ set_most (y ∷ ys) zero x m fine all zero = fine
 set_most (y ∷ ys) zero x m fine all (suc n) = all (suc n)
 set_most (y ∷ ys) (suc i) x m fine all zero = all zero
 set_most (y ∷ ys) (suc i) x m fine all (suc n) = set_most ys i x m fine (λ k. all (suc k)) n
-
--- each of them is judged
-pub all_most : (xs : List ℕ) (m : ℕ) → list_all (λ x. nat_le x m) xs ≡ true → (n : ℕ) → slice_index xs n ≤ m
-all_most [] m fine n = omega arith
-all_most (x ∷ xs) m fine zero = leb-true x m (and_parts (nat_le x m) (list_all (λ y. nat_le y m) xs) fine).0
-all_most (x ∷ xs) m fine (suc n) = all_most xs m (and_parts (nat_le x m) (list_all (λ y. nat_le y m) xs) fine).1 n
-
--- the table that counts the milliseconds that differ
-pub difference_table-priced : IsPriced difference_table
-unfolding difference_table
-difference_table-priced = record { low = all_most difference_table.low MOST_COST refl; high = all_most difference_table.high MOST_COST refl }

@@ -101,7 +101,7 @@ fn cost_table_at(config: &Value) -> Result<CostTable, ConfigFault>
 {
     match config.get("table") {
         Some(value) => cost_table_in(value),
-        None => Ok(usual_table()),
+        None => Ok(CostTable::default()),
     }
 }
 
@@ -114,18 +114,10 @@ fn cost_table_in(table: &Value) -> Result<CostTable, ConfigFault>
             key: Key::CostTable,
         });
     }
-    let usual = usual_table();
+    let usual = CostTable::default();
     let low = costs_at(table, "low", Key::Low, usual.low)?;
     let high = costs_at(table, "high", Key::High, usual.high)?;
     Ok(CostTable { low, high })
-}
-
-// The table that counts the milliseconds that differ.
-fn usual_table() -> CostTable
-    ensures table { result ≡ difference_table }
-    ensures priced { IsPriced result }
-{
-    CostTable::default()
 }
 
 // The costs at a key of the cost table, or else the usual ones.

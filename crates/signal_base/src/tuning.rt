@@ -21,13 +21,15 @@ pub struct CostTable {
 
 impl Default for CostTable {
     ghost use Rattle.std.specs.Prelude.{◌≡◌};
+    ghost use Rattle.signal_base.specs.Limits.{IsPriced};
     ghost use Rattle.signal_base.specs.Table.{difference_table};
 
     ghost is_default = { λ table. table ≡ difference_table };
 
     /// The table that counts the milliseconds that differ: `low[n]` is `100 - n`, and `high[n]` is `n`.
     fn default() -> CostTable
-        ensures { result ≡ difference_table }
+        ensures table { result ≡ difference_table }
+        ensures priced { IsPriced result }
     {
         let mut low = [0u8; 101];
         let mut high = [0u8; 101];

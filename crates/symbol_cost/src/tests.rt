@@ -1,7 +1,5 @@
 //! Costs that were worked out by hand, and grids of the largest logs.
 
-ghost use Rattle.signal_base.specs.Limits.{IsPriced};
-
 use crate::CostGrid;
 use formats::LOG_LIMIT;
 use pulse_log::{Log, LogFault, read_log};
@@ -14,13 +12,6 @@ use std::time::Instant;
 fn read(rt: &(impl Abort + AllocGlobal), text: &[u8]) -> Result<Log, LogFault> {
     assert!(rt; text.len() as u64 <= LOG_LIMIT);
     read_log(rt.alloc(), text)
-}
-
-// The table that counts the milliseconds that differ.
-fn difference_table() -> CostTable
-    ensures { IsPriced result }
-{
-    CostTable::default()
 }
 
 // Of DCF77 a 0 is low in the first tenth, a 1 in the first two, and symbol 2 in none. The first receiver hears 150 low
@@ -41,7 +32,7 @@ fn costs_two_seconds_of_two_receivers(rt: HostRuntime) -> Result<(), Fail> {
     let one = read(&rt, b"0 L\n150 H\n3000 L\n")?;
     let other = read(&rt, b"30 L\n230 H\n430 L\n510 X\n530 H\n3000 L\n")?;
     let logs = [one, other];
-    let table = difference_table();
+    let table = CostTable::default();
     let grid = CostGrid::make(rt.alloc(), Station::Dcf77, &tunings, &table, &logs, 0, 0, 2)?;
     for (set, first, second) in [
         (1, 350, 400),
@@ -74,7 +65,7 @@ fn one_symbol_for_all_receivers(rt: HostRuntime) -> Result<(), Fail> {
     let one = read(&rt, b"0 L\n100 H\n1000 L\n")?;
     let other = read(&rt, b"0 L\n100 H\n200 L\n300 H\n1000 L\n")?;
     let logs = [one, other];
-    let table = difference_table();
+    let table = CostTable::default();
     let grid = CostGrid::make(rt.alloc(), Station::Msf, &tunings, &table, &logs, 0, 0, 1)?;
     assert_eq!(rt; grid.cost(0, 1), 100);
     assert_eq!(rt; grid.cost(0, 2), 300);
@@ -112,7 +103,7 @@ fn grids_of_the_largest_logs(rt: HostRuntime) -> Result<(), Fail> {
         read(&rt, text)?,
         read(&rt, text)?,
     ];
-    let table = difference_table();
+    let table = CostTable::default();
     for _ in 0..5u8 {
         let begin = Instant::now(&rt)?;
         let grid = CostGrid::make(

@@ -2,26 +2,21 @@ use Rattle.std.proofs.Common.{sym, subst}
 use Rattle.signal_base.specs.declared.window.Window.{Window}
 use Rattle.signal_base.specs.declared.tuning.CostTable.{CostTable}
 use Rattle.signal_base.specs.declared.station.Station.TheVariants.{Jjy}
-use Rattle.signal_base.specs.Limits.{IsPriced}
 use Rattle.definitions.specs.declared.answer.Answer.{Answer}
 use Rattle.definitions.specs.answers.FirstTwo.{AreLeastTwo, IsKey}
 use Rattle.definitions.specs.heard.Costs.{bank_costs}
 use Rattle.due.specs.Days.{IsDayAnswer, bank_of, day_cost}
 use Rattle.symbol_cost.specs.Grid.{HasCosts}
 use Rattle.bank.specs.Plain.{IsPlain, row_cost}
-use Rattle.symbol_cost.proofs.TableLaws.{priced}
 use Rattle.bank.proofs.DayLaws.{day_answer, reportable}
 use Rattle.bank.proofs.decide.decide.Goals as goal
-
-pub make-made-requires-clause-priced : goal.make-made-requires-clause-priced
-make-made-requires-clause-priced c = subst IsPriced (sym c.default-table.ensures) priced
 
 pub returns-clause-answer : goal.returns-clause-answer
 returns-clause-answer c =
     let day = c.args.day in
     let grid = c.in-Ok.grid in
     let found = c.in_ok-found-in-Ok.found in
-    let has = subst (λ (t : CostTable). HasCosts grid Jjy 120 (bank_costs t (bank_of c.args.log) 0 Jjy)) c.default-table.ensures c.in-Ok.ensures.costs in
+    let has = subst (λ (t : CostTable). HasCosts grid Jjy 120 (bank_costs t (bank_of c.args.log) 0 Jjy)) c.default-table.ensures.table c.in-Ok.ensures.costs in
     let least = subst (λ (w : Window). AreLeastTwo (IsKey (IsPlain w) (row_cost grid.rows w)) found.first found.second) c.window_of-window.ensures c.in_ok-found-in-Ok.ensures in
     subst (λ (a : Answer). IsDayAnswer day c.args.log a) (sym c.answer_of.ensures) (day_answer day c.requires c.args.log grid has found.first found.second least)
 

@@ -1,11 +1,11 @@
 use Rattle.std.proofs.Common.{◌≡◌, ◌<◌, length, map, Err, ◌∙◌, refl, arith, rules}
-use Rattle.std.proofs.Math.ListN.{length-set, replicate}
+use Rattle.std.proofs.Math.ListN.{length-set}
 use Rattle.bank_config.specs.declared.limits.TheConstants.{COSTS}
 use Rattle.std.proofs.lemmas.List.{take_more_set}
 use Rattle.toml.specs.View.{view}
 use Rattle.signal_base.specs.declared.limits.TheConstants.{MOST_COST}
 use Rattle.bank_config.specs.Values.{each, number_in}
-use Rattle.bank_config.proofs.CostLaws.{all_most, set_most}
+use Rattle.bank_config.proofs.CostLaws.{set_most, zeros_most}
 use Rattle.bank_config.proofs.EachLaws.{each-next, each-stop, goes_on-from_start}
 use Rattle.bank_config.proofs.lists.costs_of.Goals as goal
 
@@ -29,4 +29,4 @@ returns-in_err-cost c =
     search (rules, refused)
 
 pub loop-i-init : goal.loop-i-init
-loop-i-init c = record { most = all_most (replicate COSTS 0) MOST_COST refl; long = refl; so_far = goes_on-from_start (each (λ _. number_in c.args.key 0 MOST_COST) 0 (map view c.args.list.now)) }
+loop-i-init c = record { most = zeros_most COSTS MOST_COST; long = refl; so_far = goes_on-from_start (each (λ _. number_in c.args.key 0 MOST_COST) 0 (map view c.args.list.now)) }
