@@ -1,0 +1,19 @@
+use Rattle.std.proofs.Common.{true, false}
+use Rattle.std.specs.List.{range_with_len, flat_map}
+use Rattle.definitions.specs.declared.block.Span.TheVariants.{Year}
+use Rattle.definitions.specs.answers.Blocks.{blocks}
+use Rattle.bounds.proofs.BlockLists.{moved, second_then, second_then_more}
+use Rattle.bounds.proofs.years.items.Goals as goal
+
+pub loop-second-preserved : goal.loop-second-preserved
+loop-second-preserved c =
+    let window = c.args.window.now in
+    let later = flat_map (λ p. blocks true p Year 100 window.from window.to) (range_with_len 0 61) in
+    let next = second_then_more (λ p. blocks false p Year 100 window.from window.to) c.loop-second.second 60 later c.loop-second-test.true in
+    rw c.in_ok-push_years.ensures (moved _ _ _ _ _ next c.loop-second.invariant)
+
+pub loop-second-2-preserved : goal.loop-second-2-preserved
+loop-second-2-preserved c =
+    let window = c.args.window.now in
+    let next = second_then (λ p. blocks true p Year 100 window.from window.to) c.loop-second-2.second 61 c.loop-second-2-test.true in
+    rw c.in_ok-push_years-2.ensures (moved _ _ _ _ _ next c.loop-second-2.invariant)

@@ -1,0 +1,16 @@
+//! Why blocks can't be listed.
+
+use std::alloc::AllocError;
+
+/// Why blocks can't be listed.
+#[derive(Clone, Copy, Debug, PartialEq, Eq)]
+pub enum ItemsFault {
+    /// Memory wasn't found.
+    NoMemory,
+}
+
+impl From<AllocError> for ItemsFault {
+    fn from(_error: AllocError) -> ItemsFault {
+        ItemsFault::NoMemory
+    }
+}

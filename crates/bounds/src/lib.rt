@@ -1,0 +1,14 @@
+//! The blocks of a search: the years of a window's range and their parts, the least that a sequence of each can cost,
+//! and the order in which the years are searched.
+#![tactic(auto)]
+
+mod fault;
+mod keyed;
+mod parts;
+mod years;
+
+pub use definitions::{Block, Span};
+pub use fault::ItemsFault;
+pub use keyed::block_key;
+pub use parts::{ChildBlocks, children};
+pub use years::items;

@@ -1,0 +1,108 @@
+//! The children of a block: the days of a year, the hours of a day, the minutes of an hour.
+
+ghost use Rattle.std.specs.Prelude.{◌≡◌, ◌≢◌, ◌+◌, ◌*◌, ◌/◌, ◌<◌, ℕ, List};
+ghost use Rattle.std.specs.Iterator.{YieldsFirst, item_count};
+ghost use Rattle.definitions.specs.declared.block.Block.{Block};
+ghost use Rattle.definitions.specs.declared.block.Span.TheVariants.{Year};
+ghost use Rattle.definitions.specs.answers.Blocks.{blocks, children, span_end};
+
+use definitions::{Block, MINUTES_PER_DAY, MINUTES_PER_HOUR, Span};
+use std::marker::Model;
+
+// The days of a year, the hours of a day and the minutes of an hour, at most.
+const MOST_DAYS: u16 = 366;
+
+const MOST_HOURS: u16 = 24;
+
+const MOST_MINUTES: u16 = 60;
+
+/// The children of a block that are left, in order. Contracts see the list of them.
+#[derive(Debug, Drop)]
+pub struct ChildBlocks {
+    announced: bool,
+    second: u8,
+    span: Span,
+    // How many there are at most, and of which minutes.
+    most: u16,
+    lo: u32,
+    hi: u32,
+}
+
+impl Model for ChildBlocks {
+    ghost Value = { List Block };
+
+    ghost view = { λ c. blocks c.announced c.second c.span c.most c.lo c.hi };
+
+    ghost invariant = { λ c. c.span ≢ Year };
+}
+
+/// The children of a block, cut as the block is: the days of a year, the hours of a day, the minutes of an hour. A minute
+/// has none.
+pub fn children(block: &Block) -> ChildBlocks
+    ensures { result ≡ children block.now }
+{
+    match block.span {
+        Span::Year => parts(block, Span::Day, MOST_DAYS),
+        Span::Day => parts(block, Span::Hour, MOST_HOURS),
+        Span::Hour => parts(block, Span::Minute, MOST_MINUTES),
+        Span::Minute => parts(block, Span::Minute, 0),
+    }
+}
+
+// The parts of a block that have this span, at most so many.
+fn parts(block: &Block, span: Span, most: u16) -> ChildBlocks
+    requires { span ≢ Year }
+    ensures { result ≡ blocks block.now.announced block.now.second span most block.now.lo block.now.hi }
+{
+    ChildBlocks {
+        announced: block.announced,
+        second: block.second,
+        span,
+        most,
+        lo: block.lo,
+        hi: block.hi,
+    }
+}
+
+impl Iterator for ChildBlocks {
+    type Item = Block;
+
+    ghost next_gives = { YieldsFirst (λ s. s) };
+
+    ghost remaining = { item_count (λ s. s) };
+
+    fn next(&mut self) -> Option<Block> {
+        if self.most == 0 {
+            return None;
+        }
+        if self.lo >= self.hi {
+            return None;
+        }
+        let lo = self.lo;
+        let minutes = length(self.span);
+        let hi = lo.saturating_add(minutes - lo % minutes).min(self.hi);
+        self.most -= 1;
+        self.lo = hi;
+        Some(Block {
+            announced: self.announced,
+            second: self.second,
+            span: self.span,
+            lo,
+            hi,
+        })
+    }
+}
+
+// How many minutes a day, an hour or a minute has.
+fn length(span: Span) -> u32
+    requires { span ≢ Year }
+    ensures some { 0 < result }
+    ensures ends { (t : ℕ) → span_end span t ≡ (t / result + 1) * result }
+{
+    match span {
+        Span::Year => unreachable!(),
+        Span::Day => MINUTES_PER_DAY,
+        Span::Hour => MINUTES_PER_HOUR,
+        Span::Minute => 1,
+    }
+}
