@@ -1,0 +1,7 @@
+//! What sequences cost and what blocks of them cost at the least, by the grids of a window's stations.
+#![tactic(auto)]
+
+mod laws;
+mod tenths;
+
+pub use laws::{agreeing_costs_cost_alike, grids_agree_with_their_costs};
