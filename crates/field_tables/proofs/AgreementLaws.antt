@@ -1,13 +1,12 @@
 -- Costs that agree on a window cost its sequences alike, and tell the same of DUT1.
-use Rattle.std.proofs.Common.{◌≡◌, ℕ, ◌+◌, ◌<◌, ◌==◌, Bool, true, false, ◌&&◌, not, if◌then◌else◌, List, [], ◌∷◌, map, filter, fold, sum_by, unwrap_or, ℤ, refl, ap, ◌∙◌}
+use Rattle.std.proofs.Common.{◌≡◌, ℕ, ◌+◌, ◌<◌, ◌==◌, Bool, true, false, ◌&&◌, not, if◌then◌else◌, List, [], ◌∷◌, map, filter, fold, unwrap_or, ℤ, refl, ap, ◌∙◌}
 use Rattle.std.proofs.lemmas.List.Elements.{filter_agree}
-use Rattle.signal_base.specs.declared.dut.Dut.{Dut}
 use Rattle.signal_base.specs.declared.dut.Dut.TheVariants.{Absent, Free}
 use Rattle.signal_base.specs.declared.station.Station.{Station}
 use Rattle.signal_base.specs.declared.station.Station.TheVariants.{Dcf77, Msf, Wwvb, Jjy}
 use Rattle.signal_base.specs.declared.window.Window.{Window}
 use Rattle.definitions.specs.declared.sequence.Sequence.{Sequence}
-use Rattle.definitions.specs.codes.Allowed.{has_station, stations_of}
+use Rattle.definitions.specs.codes.Allowed.{has_station}
 use Rattle.definitions.specs.sequences.Walks.{place_at, set_at}
 use Rattle.definitions.specs.heard.Costs.{Costs, cost_outside_dut1, dut1_cost, dut_among, dut_of, least, least_dut1_cost, lies_in_one_day, sequence_cost, set_cost, station_cost, sum_below}
 use Rattle.definitions.specs.heard.Dut1.{dut1_symbol, dut1_values, has_dut1, is_dut1_second}

@@ -1,2 +1,5 @@
 pub mod AgreementLaws
 pub mod GridLaws
+pub mod BitLaws
+pub mod WalkLaws
+pub mod ValueLaws

@@ -1,5 +1,5 @@
 -- The grids of the stations of a window, and what symbols cost by them.
-use Rattle.std.specs.Prelude.{ℕ, ◌≡◌, ◌==◌, ◌≤◌, List, length, map, sum_by, Option}
+use Rattle.std.specs.Prelude.{◌≡◌, ◌==◌, ◌≤◌, List, length, map, sum_by, Option}
 use Rattle.std.specs.List.{All, find}
 use Rattle.std.specs.Option.{option_map_or}
 use Rattle.signal_base.specs.declared.limits.TheConstants.{MOST_RECEIVERS}

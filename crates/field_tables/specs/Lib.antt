@@ -1,3 +1,4 @@
 pub mod Grids
 pub mod Agreement
 pub mod Tenths
+pub mod WalkCosts

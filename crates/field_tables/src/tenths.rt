@@ -53,12 +53,14 @@ pub fn tenths_at(station: Station, i: usize) -> i8
     }
 }
 
-/// The symbol, 0 or 1, by which the station tells so many tenths in a second of DUT1.
-pub fn symbol_of(station: Station, tenths: i8, second: u8) -> u8
-    requires { second ≤ 60 }
-    ensures symbol { result ≡ dut1_symbol station tenths second }
+/// The symbol, 0 or 1, by which the station tells value `i` in a second of DUT1.
+pub fn symbol_of(station: Station, i: usize, second: u8) -> u8
+    requires value { i < 19 }
+    requires second { second ≤ 60 }
+    ensures symbol { result ≡ dut1_symbol station (tenths_at station i) second }
     ensures bit { result < 2 }
 {
+    let tenths = tenths_at(station, i);
     match station {
         Station::Msf => msf_symbol(tenths, second),
         Station::Wwvb => wwvb_symbol(tenths, second),

@@ -1,0 +1,46 @@
+use Rattle.std.proofs.Common.{◌≡◌, ◌+◌, true, sum_by, take, get_or, ◌∙◌, ap, sym, subst, arith}
+use Rattle.std.proofs.lemmas.List.Sums.{sum_by_more}
+use Rattle.std.proofs.lemmas.List.{take_all}
+use Rattle.signal_base.specs.declared.station.Station.{Station}
+use Rattle.definitions.specs.codes.Allowed.{has_station}
+use Rattle.definitions.specs.heard.Costs.{station_cost}
+use Rattle.symbol_cost.specs.Grid.{Grid, cost_at}
+use Rattle.field_tables.proofs.GridLaws.{heard_station, sum_by_station}
+use Rattle.field_tables.proofs.WalkLaws.{more_receivers}
+use Rattle.field_tables.proofs.plain.plain_cost.Goals as goal
+
+pub station_cost-total-requires-clause-heard : goal.station_cost-total-requires-clause-heard
+station_cost-total-requires-clause-heard c =
+    let stations = c.args.window.now.stations in
+    let g = c.grid-item.result in
+    subst (λ (s : Station). has_station stations s ≡ true) (ap (λ (h : Grid). h.station) (sym c.grid-item.is) ∙ sym c.station.ensures)
+    (heard_station c.args.window.now c.args.grids.now c.requires.grids c.loop-grid.grid-index g c.loop-grid-test.true)
+
+pub loop-grid-preserved : goal.loop-grid-preserved
+loop-grid-preserved c =
+    let grids = c.args.grids.now in
+    let n = c.args.window.now.seconds in
+    let q = c.args.q.now in
+    let i = c.loop-grid.grid-index in
+    let g = c.grid-item.result in
+    let price = λ (h : Grid). station_cost h.station (cost_at h.rows) n q in
+    let receivers = λ (h : Grid). h.receivers in
+    let here : c.station_cost-total.result ≡ price (get_or grids i g) =
+    c.station_cost-total.ensures.cost ∙ ap (λ (s : Station). station_cost s (cost_at g.rows) n q) c.station.ensures ∙ ap price c.grid-item.is in
+    let count : g.receivers ≡ receivers (get_or grids i g) = ap receivers c.grid-item.is in
+    let costs = sum_by_more price grids i g c.loop-grid-test.true in
+    let counts = sum_by_more receivers grids i g c.loop-grid-test.true in
+    record {
+      cost = omega (arith, costs, here, c.loop-grid.invariant.cost);
+      bound = more_receivers n (sum_by receivers (take i grids)) g.receivers _ _ _ (counts ∙ ap (λ r. sum_by receivers (take i grids) + r) (sym count)) c.loop-grid.invariant.bound c.station_cost-total.ensures.bound;
+    }
+
+pub returns-clause-cost : goal.returns-clause-cost
+returns-clause-cost c =
+    let window = c.args.window.now in
+    let grids = c.args.grids.now in
+    let n = window.seconds in
+    let q = c.args.q.now in
+    c.loop-grid.invariant.cost
+    ∙ ap (sum_by (λ (g : Grid). station_cost g.station (cost_at g.rows) n q)) (take_all c.loop-grid.grid-index grids c.loop-grid-test.false)
+    ∙ sum_by_station window grids c.requires.grids (λ station costs. station_cost station costs n q)
