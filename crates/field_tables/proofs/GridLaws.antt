@@ -1,9 +1,11 @@
 -- The grids of a window: which is a station's, and sums over them.
-use Rattle.std.proofs.Common.{◌≡◌, ◌≢◌, ℕ, zero, suc, ◌<◌, ◌≤◌, ◌==◌, ◌⊎◌, inl, inr, Bool, true, false, if◌then◌else◌, List, [], ◌∷◌, length, map, filter, sum_by, get_or, Option, Some, refl, sym, ap, ◌∙◌, subst, arith, eq-eqb}
+use Rattle.std.proofs.Common.{◌≡◌, ◌≢◌, ℕ, zero, suc, ◌<◌, ◌≤◌, ◌==◌, ◌⊎◌, inl, inr, Bool, true, false, if◌then◌else◌, List, [], ◌∷◌, length, map, filter, sum_by, get_or, Option, Some, None, refl, sym, ap, ◌∙◌, subst, arith, eq-eqb}
 use Rattle.std.specs.Option.{option_map_or}
+use Rattle.std.specs.List.{slice_get}
 use Rattle.std.proofs.lemmas.Bool.{ne_eqb}
-use Rattle.std.proofs.lemmas.List.Sums.{sum_by-cons, sum_by_more_le}
-use Rattle.signal_base.specs.declared.limits.TheConstants.{MOST_RECEIVERS}
+use Rattle.std.proofs.lemmas.List.Folds.{find_at}
+use Rattle.std.proofs.lemmas.Option.{slice_get-get_or, slice_get_past}
+use Rattle.std.proofs.lemmas.List.Sums.{position_or_len_is, sum_by-cons}
 use Rattle.signal_base.specs.declared.station.Station.{Station}
 use Rattle.signal_base.specs.declared.station.Station.TheVariants.{Dcf77, Msf, Wwvb, Jjy}
 use Rattle.signal_base.specs.declared.window.Window.{Window}
@@ -131,16 +133,15 @@ module _ (window : Window) (grids : List Grid) (are : AreGrids window grids) whe
       → sum_by (λ g. F g.station (cost_at g.rows)) grids ≡ sum_by (λ s. F s (grid_costs grids s)) (stations_of window.stations)
   sum_by_station F = sum_over F grids grids (own grids apart) ∙ ap (sum_by (λ s. F s (grid_costs grids s))) are.stations
 
-  -- no grid is made from too many receivers
-  pub few_receivers : (k : ℕ) (d : Grid) → k < length grids → (get_or grids k d).receivers ≤ MOST_RECEIVERS
-  few_receivers k d within = omega (arith, are.few, sum_by_more_le (λ (g : Grid). g.receivers) grids k d within)
-
   -- the station of each grid is one of the window
-  pub heard_station : (k : ℕ) (d : Grid) → k < length grids → has_station window.stations (get_or grids k d).station ≡ true
-  heard_station =
-      station_passes (has_station window.stations) grids (subst (AllPass (has_station window.stations)) (sym are.stations) (those_that_pass (has_station window.stations) (Dcf77 ∷ Msf ∷ Wwvb ∷ Jjy ∷ [])))
+  pub heard_station : (k : ℕ) (g : Grid) (station : Station) → k < length grids → g ≡ get_or grids k g → station ≡ g.station
+      → has_station window.stations station ≡ true
+  heard_station k g station within is same =
+      let all = subst (AllPass (has_station window.stations)) (sym are.stations) (those_that_pass (has_station window.stations) (Dcf77 ∷ Msf ∷ Wwvb ∷ Jjy ∷ [])) in
+      subst (λ (s : Station). has_station window.stations s ≡ true) (ap (λ (h : Grid). h.station) (sym is) ∙ sym same)
+      (station_passes (has_station window.stations) grids all k g within)
 
-  pub place : (station : Station) → has_station window.stations station ≡ true → (k : ℕ) × (k < length grids) × ((d : Grid) → (get_or grids k d).station ≡ station)
+  place : (station : Station) → has_station window.stations station ≡ true → (k : ℕ) × (k < length grids) × ((d : Grid) → (get_or grids k d).station ≡ station)
   place station heard =
       place_of station grids (subst (IsAmong station) (sym are.stations) (among_that_pass (has_station window.stations) station heard (Dcf77 ∷ Msf ∷ Wwvb ∷ Jjy ∷ []) (among_four station)))
 
@@ -162,3 +163,23 @@ module _ (window : Window) (grids : List Grid) (are : AreGrids window grids) whe
       let price = (have at.0 none at.1).each k x lt (subst (λ (s : Station). x < symbol_count s) (sym of_station) few) in
       subst (λ (s : Station). grid_costs grids s k x ≡ costs s k x) of_station
       (ap (λ (o : Option Grid). option_map_or (λ (h : Grid). cost_at h.rows) o (λ k x. 0) k x) mine ∙ price)
+
+-- the grids before this one are of other stations
+abbrev pub AreBefore : List Grid → Station → ℕ → Type 0
+AreBefore grids station i = (k : ℕ) (d : Grid) → k < i → (number_of (get_or grids k d).station == number_of station) ≡ false
+
+-- the first grid of a station, and none
+pub first_grid : (grids : List Grid) (station : Station) (i : ℕ) (g : Grid) → AreBefore grids station i → i < length grids → g ≡ get_or grids i g
+    → number_of g.station ≡ number_of station → grid_of grids station ≡ Some g
+first_grid grids station i g before within is same =
+    let test = λ (h : Grid). number_of h.station == number_of station in
+    let here : test (get_or grids i g) ≡ true = ap test (sym is) ∙ eq-eqb _ _ same in
+    let at = position_or_len_is test grids i g (omega arith) (λ k lt. before k g lt) (λ lt. here) in
+    find_at test grids ∙ ap (slice_get grids) at ∙ slice_get-get_or grids i g within ∙ ap Some (sym is)
+
+pub no_grid : (grids : List Grid) (station : Station) (i : ℕ) → AreBefore grids station i → length grids ≤ i → grid_of grids station ≡ None
+no_grid grids station i before past =
+    let test = λ (h : Grid). number_of h.station == number_of station in
+    let d : Grid = record { station = station; receivers = 0; rows = [] } in
+    let at = position_or_len_is test grids (length grids) d (omega arith) (λ k lt. before k d (omega arith)) (λ lt. absurd (omega (arith, lt))) in
+    find_at test grids ∙ ap (slice_get grids) at ∙ slice_get_past grids (length grids) (omega arith)

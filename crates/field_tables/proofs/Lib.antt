@@ -3,3 +3,4 @@ pub mod GridLaws
 pub mod BitLaws
 pub mod WalkLaws
 pub mod ValueLaws
+pub mod UnionLaws

@@ -1,4 +1,6 @@
 pub mod Grids
+pub mod Scored
 pub mod Agreement
 pub mod Tenths
 pub mod WalkCosts
+pub mod Unions

@@ -1,8 +1,7 @@
-use Rattle.std.proofs.Common.{◌≡◌, ◌+◌, true, sum_by, take, get_or, ◌∙◌, ap, sym, subst, arith}
+use Rattle.std.proofs.Common.{◌≡◌, ◌+◌, sum_by, take, get_or, ◌∙◌, ap, sym, arith}
 use Rattle.std.proofs.lemmas.List.Sums.{sum_by_more}
 use Rattle.std.proofs.lemmas.List.{take_all}
 use Rattle.signal_base.specs.declared.station.Station.{Station}
-use Rattle.definitions.specs.codes.Allowed.{has_station}
 use Rattle.definitions.specs.heard.Costs.{station_cost}
 use Rattle.symbol_cost.specs.Grid.{Grid, cost_at}
 use Rattle.field_tables.proofs.GridLaws.{heard_station, sum_by_station}
@@ -11,10 +10,7 @@ use Rattle.field_tables.proofs.plain.plain_cost.Goals as goal
 
 pub station_cost-total-requires-clause-heard : goal.station_cost-total-requires-clause-heard
 station_cost-total-requires-clause-heard c =
-    let stations = c.args.window.now.stations in
-    let g = c.grid-item.result in
-    subst (λ (s : Station). has_station stations s ≡ true) (ap (λ (h : Grid). h.station) (sym c.grid-item.is) ∙ sym c.station.ensures)
-    (heard_station c.args.window.now c.args.grids.now c.requires.grids c.loop-grid.grid-index g c.loop-grid-test.true)
+    heard_station c.args.window.now c.args.grids.now c.requires.grids c.loop-grid.grid-index c.grid-item.result c.station.result c.loop-grid-test.true c.grid-item.is c.station.ensures
 
 pub loop-grid-preserved : goal.loop-grid-preserved
 loop-grid-preserved c =

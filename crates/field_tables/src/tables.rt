@@ -1,0 +1,136 @@
+//! What a search asks of a window's sequences and blocks.
+
+ghost use Rattle.std.specs.Prelude.{◌≡◌, ◌<◌, ◌≤◌, ◌↔◌, IfOk, IfSome, IsTrue, MatchOption, true};
+ghost use Rattle.definitions.specs.codes.Allowed.{has_station};
+ghost use Rattle.definitions.specs.sequences.Walks.{IsLegal, IsSequence, IsWalkable};
+ghost use Rattle.definitions.specs.sequences.Windows.{IsWindow};
+ghost use Rattle.definitions.specs.heard.Costs.{sequence_cost, set_cost};
+ghost use Rattle.definitions.specs.answers.Blocks.{HasWalk, IsBlock, IsUnion, IsUnionBound};
+ghost use Rattle.field_tables.specs.Grids.{AreGrids};
+ghost use Rattle.field_tables.specs.Scored.{costs_of};
+
+use crate::bound::union_bound;
+use crate::grids::grid_of;
+use crate::plain::plain_cost;
+use crate::unions::{has_walk, unions};
+use civil::Civil;
+use definitions::{Block, Sequence};
+use signal_base::{GREATEST_COST, Station, Window};
+use std::alloc::Global;
+use std::marker::Model;
+use symbol_cost::CostGrid;
+
+/// Why tables can't be made.
+#[derive(Clone, Copy, Debug, PartialEq, Eq)]
+pub enum TablesFault {
+    /// Memory wasn't found.
+    NoMemory,
+}
+
+/// A window and the costs of its stations' symbols: what each sequence costs, and what the sequences of a block allow
+/// together. Contracts see the window and the grids.
+#[derive(Drop)]
+pub struct Tables<'a> {
+    grids: &'a [CostGrid],
+    civil: &'a Civil,
+    window: Window,
+}
+
+impl<'a> Model for Tables<'a> {
+    ghost use Rattle.field_tables.specs.Scored.{Scored};
+    ghost use Rattle.definitions.specs.sequences.Windows.{IsWindow};
+    ghost use Rattle.field_tables.specs.Grids.{AreGrids};
+
+    ghost Value = { Scored };
+
+    ghost view = { λ t. record { window = t.window; grids = t.grids.now } };
+
+    ghost invariant = { λ t. IsWindow t.window × AreGrids t.window t.grids.now };
+}
+
+impl<'a> Tables<'a> {
+    /// Tables of a window. There is one grid for each station of the window, in the order DCF77, MSF, WWVB, JJY, each with
+    /// the window's slots, and all made from at most 8 receivers together.
+    pub fn make(
+        _alloc: Global,
+        grids: &'a [CostGrid],
+        civil: &'a Civil,
+        window: &Window,
+    ) -> Result<Tables<'a>, TablesFault>
+        requires window { IsWindow window.now }
+        requires grids { AreGrids window.now grids.now }
+        ensures window { IfOk result (λ tables. tables.window ≡ window.now) }
+        ensures grids { IfOk result (λ tables. tables.grids ≡ grids.now) }
+    {
+        Ok(Tables {
+            grids,
+            civil,
+            window: *window,
+        })
+    }
+
+    /// The window.
+    pub fn window(&self) -> Window
+        ensures value { result ≡ self.now.window }
+        ensures ranges { IsWindow result }
+    {
+        self.window
+    }
+
+    /// Whether the sequence is legal in the window.
+    pub fn legal(&self, q: &Sequence) -> bool
+        requires { IsSequence q.now }
+        ensures { IsTrue result ↔ IsLegal self.now.window q.now }
+    {
+        sequence::legal(self.civil, &self.window, q)
+    }
+
+    /// What a walkable sequence costs, at most 1,920,000,000.
+    pub fn cost(&self, q: &Sequence) -> u32
+        requires sequence { IsSequence q.now }
+        requires walkable { IsWalkable self.now.window q.now }
+        ensures cost { result ≡ sequence_cost (costs_of self.now) self.now.window q.now }
+        ensures bound { result ≤ GREATEST_COST }
+    {
+        plain_cost(self.grids, self.civil, &self.window, q)
+    }
+
+    /// What a set costs a station of the window in a slot below the window's seconds: its cheapest symbol, and nothing
+    /// where it is the set that stands for a second that isn't scored.
+    pub fn set_cost(&self, station: Station, slot: u16, set: u8) -> u32
+        requires station { has_station self.now.window.stations station ≡ true }
+        requires slot { slot < self.now.window.seconds }
+        ensures { result ≡ set_cost station (costs_of self.now station slot) set }
+    {
+        match grid_of(self.grids, station) {
+            Some(grid) => grid.cost(slot, set),
+            None => unreachable!(),
+        }
+    }
+
+    /// The union of the sets that the walkable sequences of a block of the window allow a station of the window in a slot
+    /// below the window's seconds. None exactly where no sequence of the block is walkable.
+    pub fn union_at(&self, station: Station, block: &Block, slot: u16) -> Option<u8>
+        requires station { has_station self.now.window.stations station ≡ true }
+        requires block { IsBlock self.now.window block.now }
+        requires slot { slot < self.now.window.seconds }
+        ensures { MatchOption result (¬ (HasWalk self.now.window block.now))
+            (λ set. HasWalk self.now.window block.now × IsUnion self.now.window block.now station slot set) }
+    {
+        if !has_walk(self.civil, &self.window, block) {
+            return None;
+        }
+        Some(unions(self.civil, station, &self.window, block)[slot as usize])
+    }
+
+    /// What the unions of the sets that the walkable sequences of a block of the window allow cost, over all stations and
+    /// slots: no such sequence costs less. It is at most 1,920,000,000. None exactly where no sequence of the block is
+    /// walkable.
+    pub fn union_bound(&self, block: &Block) -> Option<u32>
+        requires { IsBlock self.now.window block.now }
+        ensures bound { IsUnionBound (costs_of self.now) self.now.window block.now result }
+        ensures small { IfSome result (λ n. n ≤ GREATEST_COST) }
+    {
+        union_bound(self.grids, self.civil, &self.window, block)
+    }
+}
