@@ -4,11 +4,19 @@
 
 mod fault;
 mod keyed;
+mod least;
 mod parts;
+mod ranking;
+mod rows;
+#[cfg(test)]
+mod tests;
 mod years;
 
 pub use definitions::{Block, Span};
 pub use fault::ItemsFault;
 pub use keyed::block_key;
+pub use least::bound;
 pub use parts::{ChildBlocks, children};
+pub use ranking::{announced_last, ranked};
+pub use rows::{Bounded, BoundedChildren, bounded_children};
 pub use years::items;

@@ -23,7 +23,8 @@ const SECONDS: u8 = 60;
 /// 59 without a leap second, and then for each from 0 to 60 with one.
 pub fn items(alloc: Global, civil: &Civil, window: &Window) -> Result<Vec<Block>, ItemsFault>
     requires { IsWindow window.now }
-    ensures { IfOk result (λ list. list.items ≡ items window.now) }
+    ensures value { IfOk result (λ list. list.items ≡ items window.now) }
+    ensures blocks { IfOk result (λ list. AllByRecursion (IsBlock window.now) list.items) }
 {
     let mut list = Vec::new(alloc);
     for second in 0..SECONDS {

@@ -1,0 +1,75 @@
+//! The children of a block with their bounds, which are found one after the other.
+
+ghost use Rattle.std.specs.Prelude.{◌≡◌, ◌≤◌, IfNone, IfSome, [], ◌∷◌};
+ghost use Rattle.definitions.specs.answers.Blocks.{IsBlock, IsBound, children};
+ghost use Rattle.field_tables.specs.Scored.{costs_of};
+ghost use Rattle.signal_base.specs.declared.limits.TheConstants.{GREATEST_COST};
+
+use crate::least::know_the_window;
+use crate::{ChildBlocks, bound, children};
+use definitions::Block;
+use field_tables::Tables;
+use std::marker::Model;
+
+/// A block and its bound.
+#[derive(Clone, Copy, Debug, PartialEq, Eq)]
+pub struct Bounded {
+    /// The block.
+    pub block: Block,
+    /// Its bound, at most 1,920,000,000, or none.
+    pub bound: Option<u32>,
+}
+
+/// The children of a block that are left, in order, each to be had with its bound. Contracts see what they see of the
+/// tables by which the children are bounded, and the list of the children.
+#[derive(Drop)]
+pub struct BoundedChildren<'a> {
+    tables: &'a Tables<'a>,
+    children: ChildBlocks,
+}
+
+impl<'a> Model for BoundedChildren<'a> {
+    ghost use Rattle.std.specs.List.{AllByRecursion};
+    ghost use Rattle.definitions.specs.answers.Blocks.{IsBlock};
+    ghost use Rattle.bounds.specs.Rows.{Row};
+
+    ghost Value = { Row };
+
+    ghost view = { λ r. record { tables = r.tables.now; left = r.children } };
+
+    ghost invariant = { λ r. AllByRecursion (IsBlock r.tables.now.window) r.children };
+}
+
+/// The children of a block of the window, to be had with their bounds.
+pub fn bounded_children<'a>(tables: &'a Tables<'a>, block: &Block) -> BoundedChildren<'a>
+    requires { IsBlock tables.now.window block.now }
+    ensures tables { result.tables ≡ tables.now }
+    ensures left { result.left ≡ children block.now }
+{
+    know_the_window(tables);
+    BoundedChildren {
+        tables,
+        children: children(block),
+    }
+}
+
+impl<'a> BoundedChildren<'a> {
+    /// The next child and its bound, or None where no child is left.
+    pub fn next(&mut self) -> Option<Bounded>
+        ensures end { IfNone result (self.old.left ≡ []) }
+        ensures child { IfSome result (λ child. self.old.left ≡ child.block ∷ self.new.left) }
+
+        // It is a block of the window, with its bound.
+        ensures block { IfSome result (λ child. IsBlock self.old.tables.window child.block) }
+        ensures bound { IfSome result (λ child. IsBound (costs_of self.old.tables) self.old.tables.window child.block child.bound) }
+        ensures small { IfSome result (λ child. IfSome child.bound (λ n. n ≤ GREATEST_COST)) }
+
+        ensures tables { self.new.tables ≡ self.old.tables }
+    {
+        let block = self.children.next()?;
+        Some(Bounded {
+            block,
+            bound: bound(self.tables, &block),
+        })
+    }
+}
