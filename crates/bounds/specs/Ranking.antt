@@ -1,5 +1,5 @@
 -- The order of blocks by their bounds.
-use Rattle.std.specs.Prelude.{ℕ, ◌≡◌, ◌+◌, ◌<◌, ◌≤◌, ◌^◌, List, [], ◌∷◌, map, Option, Some, None, IfSome}
+use Rattle.std.specs.Prelude.{ℕ, ◌≡◌, ◌≢◌, ◌+◌, ◌<◌, ◌≤◌, ◌^◌, List, [], ◌∷◌, map, Option, Some, None, IfSome}
 use Rattle.std.specs.List.{All, AllByRecursion}
 use Rattle.signal_base.specs.declared.limits.TheConstants.{GREATEST_COST}
 use Rattle.signal_base.specs.declared.window.Window.{Window}
@@ -47,3 +47,8 @@ pub record IsEntry (costs : Costs) (window : Window) (e : Entry) : Type 0 where
 pub record AreEntries (costs : Costs) (window : Window) (blocks : List Block) (entries : List Entry) : Type 0 where
   pub blocks_are : map (λ e. e.block) entries ≡ blocks
   pub each : All (IsEntry costs window) entries
+
+-- no two of the blocks have the same first sequence
+abbrev pub HaveOwnFirsts : List Block → Type 0
+HaveOwnFirsts [] = Unit {0}
+HaveOwnFirsts (b ∷ bs) = AllByRecursion (λ c. index_of (first_of b) ≢ index_of (first_of c)) bs × HaveOwnFirsts bs

@@ -4,6 +4,7 @@
 
 mod fault;
 mod keyed;
+mod laws;
 mod least;
 mod parts;
 mod ranking;
@@ -15,6 +16,7 @@ mod years;
 pub use definitions::{Block, Span};
 pub use fault::ItemsFault;
 pub use keyed::block_key;
+pub use laws::ranking_is_one;
 pub use least::bound;
 pub use parts::{ChildBlocks, children};
 pub use ranking::{announced_last, ranked};

@@ -1,4 +1,4 @@
-use Rattle.std.proofs.Common.{refl, ap, sym, ◌∙◌, subst}
+use Rattle.std.proofs.Common.{ap, sym, ◌∙◌, subst}
 use Rattle.definitions.specs.sequences.Walks.{IsLegal}
 use Rattle.definitions.specs.heard.Costs.{sequence_cost}
 use Rattle.field_tables.specs.Scored.{costs_of}
