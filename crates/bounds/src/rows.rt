@@ -1,7 +1,8 @@
 //! The children of a block with their bounds, which are found one after the other.
 
 ghost use Rattle.std.specs.Prelude.{◌≡◌, ◌≤◌, IfNone, IfSome, [], ◌∷◌};
-ghost use Rattle.definitions.specs.answers.Blocks.{IsBlock, IsBound, children};
+ghost use Rattle.definitions.specs.answers.Blocks.{IsBlock, IsBound, children, first_of};
+ghost use Rattle.definitions.specs.sequences.Walks.{IsSequence};
 ghost use Rattle.field_tables.specs.Scored.{costs_of};
 ghost use Rattle.signal_base.specs.declared.limits.TheConstants.{GREATEST_COST};
 
@@ -20,8 +21,8 @@ pub struct Bounded {
     pub bound: Option<u32>,
 }
 
-/// The children of a block that are left, in order, each to be had with its bound. Contracts see what they see of the
-/// tables by which the children are bounded, and the list of the children.
+/// The children of a block that are left, in order, which are given with their bounds. Contracts see what they see of the
+/// tables that bound them, and the list of them.
 #[derive(Drop)]
 pub struct BoundedChildren<'a> {
     tables: &'a Tables<'a>,
@@ -40,7 +41,7 @@ impl<'a> Model for BoundedChildren<'a> {
     ghost invariant = { λ r. AllByRecursion (IsBlock r.tables.now.window) r.children };
 }
 
-/// The children of a block of the window, to be had with their bounds.
+/// The children of a block of the window, which are given with their bounds.
 pub fn bounded_children<'a>(tables: &'a Tables<'a>, block: &Block) -> BoundedChildren<'a>
     requires { IsBlock tables.now.window block.now }
     ensures tables { result.tables ≡ tables.now }
@@ -56,16 +57,18 @@ pub fn bounded_children<'a>(tables: &'a Tables<'a>, block: &Block) -> BoundedChi
 impl<'a> BoundedChildren<'a> {
     /// The next child and its bound, or None where no child is left.
     pub fn next(&mut self) -> Option<Bounded>
-        ensures end { IfNone result (self.old.left ≡ []) }
+        ensures end { IfNone result ((self.old.left ≡ []) × (self.new.left ≡ [])) }
         ensures child { IfSome result (λ child. self.old.left ≡ child.block ∷ self.new.left) }
 
         // It is a block of the window, with its bound.
         ensures block { IfSome result (λ child. IsBlock self.old.tables.window child.block) }
+        ensures first { IfSome result (λ child. IsSequence (first_of child.block)) }
         ensures bound { IfSome result (λ child. IsBound (costs_of self.old.tables) self.old.tables.window child.block child.bound) }
         ensures small { IfSome result (λ child. IfSome child.bound (λ n. n ≤ GREATEST_COST)) }
 
         ensures tables { self.new.tables ≡ self.old.tables }
     {
+        know_the_window(self.tables);
         let block = self.children.next()?;
         Some(Bounded {
             block,
