@@ -1,9 +1,20 @@
-//! The years of the century, where memory is ample.
+//! The years of the century, and of its last minutes: their order, and the bounds of their parts.
 
-use crate::{Block, Span, items};
+ghost use Rattle.std.specs.Prelude.{◌≡◌, IfOk, length};
+ghost use Rattle.signal_base.specs.Limits.{IsPriced};
+ghost use Rattle.signal_base.specs.declared.station.Station.TheVariants.{Dcf77};
+
+use crate::{
+    Block, Bounded, BoundedChildren, Span, announced_last, bounded_children, items, ranked,
+};
 use civil::Civil;
-use signal_base::{Stations, Window};
+use field_tables::Tables;
+use pulse_log::read_log;
+use signal_base::{CostTable, Station, Stations, Tuning, Window};
+use std::alloc::Global;
+use std::process::Abort;
 use std::test::Fail;
+use symbol_cost::CostGrid;
 
 // The minutes of 2000, which is a leap year, and of 2099, which isn't.
 const YEAR_2000: u32 = 527_040;
@@ -13,34 +24,147 @@ const YEAR_2099: u32 = 525_600;
 // The minutes of a century.
 const CENTURY: u32 = 52_596_000;
 
-#[test]
-fn lists_the_years_of_the_century(rt: HostRuntime) -> Result<(), Fail> {
-    let civil = Civil::make(rt.alloc())?;
-    let window = Window {
+fn window_from(from: u32) -> Window
+    ensures { result ≡ record { stations = record { mask = 1 }; start = 0; phase = 0; seconds = 60; from = from; to = CENTURY } }
+{
+    Window {
         stations: Stations { mask: 1 },
         start: 0,
         phase: 0,
         seconds: 60,
-        from: 0,
+        from,
         to: CENTURY,
-    };
-    let list = items(rt.alloc(), &civil, &window)?;
-    let first = Block {
-        announced: false,
-        second: 0,
+    }
+}
+
+fn year(announced: bool, second: u8, lo: u32, hi: u32) -> Block {
+    Block {
+        announced,
+        second,
         span: Span::Year,
-        lo: 0,
-        hi: YEAR_2000,
-    };
-    let last = Block {
-        announced: true,
-        second: 60,
-        span: Span::Year,
-        lo: CENTURY - YEAR_2099,
-        hi: CENTURY,
-    };
+        lo,
+        hi,
+    }
+}
+
+#[test]
+fn lists_the_years_of_the_century(rt: HostRuntime) -> Result<(), Fail> {
+    let civil = Civil::make(rt.alloc())?;
+    let list = items(rt.alloc(), &civil, &window_from(0))?;
+    let first = year(false, 0, 0, YEAR_2000);
+    let last = year(true, 60, CENTURY - YEAR_2099, CENTURY);
     assert_eq!(rt; list.len(), 12_100);
     assert_eq!(rt; list.first().copied(), Some(first));
     assert_eq!(rt; list.last().copied(), Some(last));
+    Ok(())
+}
+
+fn table() -> CostTable
+    ensures { IsPriced result }
+{
+    let costs = [100; 101];
+    CostTable {
+        low: costs,
+        high: costs,
+    }
+}
+
+// A log without records, of which nothing is known.
+fn silent_grid(alloc: Global) -> Result<CostGrid, Fail>
+    ensures station { IfOk result (λ grid. grid.station ≡ Dcf77) }
+    ensures slots { IfOk result (λ grid. length grid.rows ≡ 60) }
+    ensures receivers { IfOk result (λ grid. grid.receivers ≡ 1) }
+{
+    let log = read_log(alloc, b"")?;
+    let tuning = Tuning {
+        delay: 0,
+        weight: 1,
+    };
+    let grid = CostGrid::make(alloc, Station::Dcf77, &[tuning], &table(), &[log], 0, 0, 60)?;
+    Ok(grid)
+}
+
+// From 22:59Z on the year that DCF77 encodes is 2100, so the walks of 60 seconds that are encoded begin with second 0
+// of 22:58Z.
+const FROM: u32 = 52_595_938;
+
+#[test]
+fn ranks_the_years_of_the_last_minutes(rt: HostRuntime) -> Result<(), Fail> {
+    let civil = Civil::make(rt.alloc())?;
+    let window = window_from(FROM);
+    let grids = [silent_grid(rt.alloc())?];
+    let tables = Tables::make(rt.alloc(), &grids, &civil, &window)?;
+    let list = items(rt.alloc(), &civil, &window)?;
+    let order = ranked(rt.alloc(), &tables, &list)?;
+    assert_eq!(rt; order.len(), 121);
+    for (i, block) in order.iter().enumerate() {
+        // Two have a bound, and then come the others in the order of their first sequences.
+        let place = match i {
+            0 => (false, 0),
+            1 => (true, 0),
+            2..=60 => (false, i - 1),
+            _ => (true, i - 60),
+        };
+        assert_eq!(rt; (block.announced, block.second as usize), place, "at {i}");
+        assert_eq!(rt;
+            (block.span, block.lo, block.hi),
+            (Span::Year, FROM, CENTURY)
+        );
+    }
+    let parted = announced_last(rt.alloc(), &order)?;
+    assert_eq!(rt; parted.len(), 121);
+    for (i, block) in parted.iter().enumerate() {
+        let place = if i < 60 { (false, i) } else { (true, i - 60) };
+        assert_eq!(rt; (block.announced, block.second as usize), place, "at {i}");
+    }
+    Ok(())
+}
+
+// The bounds of the children that are left, and where each child begins and ends.
+fn assert_children(
+    rt: &impl Abort,
+    mut row: BoundedChildren,
+    children: &[(u32, u32, Option<u32>)],
+) {
+    for (lo, hi, bound) in children {
+        let found = row
+            .next()
+            .map(|child| (child.block.lo, child.block.hi, child.bound));
+        assert_eq!(rt; found, Some((*lo, *hi, *bound)));
+    }
+    assert_eq!(rt; row.next(), None);
+}
+
+#[test]
+fn bounds_the_parts_of_the_last_minutes(rt: HostRuntime) -> Result<(), Fail> {
+    let civil = Civil::make(rt.alloc())?;
+    let window = window_from(FROM);
+    let grids = [silent_grid(rt.alloc())?];
+    let tables = Tables::make(rt.alloc(), &grids, &civil, &window)?;
+    let list = items(rt.alloc(), &civil, &window)?;
+    let Some(year) = list.first() else {
+        panic!(rt; "no year");
+    };
+    let Some(day) = bounded_children(&tables, year).next() else {
+        panic!(rt; "no day");
+    };
+    let Some(hour) = bounded_children(&tables, &day.block).next() else {
+        panic!(rt; "no hour");
+    };
+    assert_children(
+        &rt,
+        bounded_children(&tables, year),
+        &[(FROM, CENTURY, Some(0))],
+    );
+    assert_children(
+        &rt,
+        bounded_children(&tables, &day.block),
+        &[(FROM, FROM + 2, Some(0)), (FROM + 2, CENTURY, None)],
+    );
+    assert_children(
+        &rt,
+        bounded_children(&tables, &hour.block),
+        &[(FROM, FROM + 1, Some(0)), (FROM + 1, FROM + 2, None)],
+    );
     Ok(())
 }
