@@ -1,0 +1,5 @@
+pub mod Covering
+pub mod Counting
+pub mod Drawing
+pub mod Ending
+pub mod Closing

@@ -1,0 +1,3 @@
+pub mod Visits
+pub mod Searches
+pub mod Facts

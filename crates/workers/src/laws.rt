@@ -1,0 +1,68 @@
+//! The laws on visits and searches, as plain data.
+
+ghost use Rattle.std.specs.Prelude.{ℕ, ◌≡◌, ◌<◌, ◌≤◌, List, length, All, IsPermutation};
+ghost use Rattle.signal_base.specs.declared.window.Window.{Window};
+ghost use Rattle.signal_base.specs.declared.limits.TheConstants.{GREATEST_COST};
+ghost use Rattle.definitions.specs.declared.block.Block.{Block};
+ghost use Rattle.definitions.specs.time.Calendar.{century_minutes};
+ghost use Rattle.definitions.specs.heard.Costs.{Costs};
+ghost use Rattle.definitions.specs.answers.Blocks.{items, IsBlock};
+ghost use Rattle.definitions.specs.answers.FirstTwo.{AreLeastTwo, IsWindowKey};
+ghost use Rattle.race_words.specs.declared.view.View.{View};
+ghost use Rattle.race_words.specs.Keys.{two_least};
+ghost use Rattle.race_words.specs.Sound.{times, HasEachOnce};
+ghost use Rattle.workers.specs.Facts.{Facts};
+ghost use Rattle.workers.specs.Visits.{AreVisits, IsBlockKey, IsCovered, IsVisit};
+ghost use Rattle.workers.specs.Searches.{AreApart, HasSearched, key_if_any};
+
+use definitions::{
+    bound_is_not_above, bound_is_one, children_share_the_sequences, items_share_the_sequences,
+    keys_differ,
+};
+
+/// Visits by the same reads offer the same keys.
+pub fn visit_is_one()
+    ensures { (costs : Costs) (window : Window) (ceiling : ℕ) (bs : List Block) (reads keys others : List ℕ)
+        → AreVisits costs window ceiling bs reads keys → AreVisits costs window ceiling bs reads others → keys ≡ others }
+{
+    bound_is_one();
+}
+
+// The laws of the definitions, for the costs and the window of a search.
+pub(crate) fn blocks_share_the_sequences()
+    ensures { (costs : Costs) (window : Window) (ceiling : ℕ) → window.to ≤ century_minutes → Facts costs window ceiling }
+{
+    bound_is_not_above();
+    children_share_the_sequences();
+    items_share_the_sequences();
+    keys_differ();
+}
+
+/// A visit covers its block, by the keys that it offers and any floor that none of its reads is below. It offers keys of
+/// admitted sequences of the block, each once.
+pub fn visits_cover_their_blocks()
+    ensures covered { (costs : Costs) (window : Window) (ceiling : ℕ) (b : Block) (reads keys : List ℕ) (floor : ℕ)
+        → window.to ≤ century_minutes → IsBlock window b → IsVisit costs window ceiling b reads keys → All (λ seen. floor ≤ seen) reads
+        → IsCovered costs window ceiling b keys floor }
+    ensures admitted { (costs : Costs) (window : Window) (ceiling : ℕ) (b : Block) (reads keys : List ℕ)
+        → window.to ≤ century_minutes → IsBlock window b → IsVisit costs window ceiling b reads keys
+        → All (IsBlockKey costs window ceiling b) keys }
+    ensures once { (costs : Costs) (window : Window) (ceiling : ℕ) (b : Block) (reads keys : List ℕ)
+        → window.to ≤ century_minutes → IsBlock window b → IsVisit costs window ceiling b reads keys → AreApart keys }
+{
+    blocks_share_the_sequences();
+}
+
+/// Where each number was drawn once, each item was, and the two least of all keys that a search offered are the keys of the
+/// first two admitted sequences.
+pub fn first_two_are_found()
+    ensures drawn { (costs : Costs) (window : Window) (ceiling : ℕ) (list : List Block) (v : View)
+        → window.to ≤ century_minutes → HasSearched costs window ceiling list v → HasEachOnce v.drawn
+        → (number : ℕ) → number < length list → times number v.drawn ≡ 1 }
+    ensures found { (costs : Costs) (window : Window) (ceiling : ℕ) (list : List Block) (v : View)
+        → window.to ≤ century_minutes → HasSearched costs window ceiling list v → HasEachOnce v.drawn
+        → ceiling ≤ GREATEST_COST → IsPermutation (items window) list → (two_least v.offered).second ≤ v.floor
+        → AreLeastTwo (IsWindowKey window costs ceiling) (key_if_any (two_least v.offered).least) (key_if_any (two_least v.offered).second) }
+{
+    blocks_share_the_sequences();
+}
