@@ -23,7 +23,7 @@ use Rattle.workers.specs.Searches.{AreApart, AreNotBelow, HasSearched, key_if_an
 use Rattle.workers.proofs.Covering.{all_weaker, legal_is_sequence, offers_admitted}
 use Rattle.workers.proofs.Counting.{one_in, count_in, in_one_counts, no_times, offers_no_more}
 use Rattle.workers.proofs.Drawing.{drawn_le, drawn_all, place_of, at_most_once, below_is_drawn}
-use Rattle.workers.proofs.Ending.{least_two}
+use Rattle.workers.proofs.TwoLeast.{least_two}
 
 second_of : (s : ℕ) (announced ends : Bool) → s < (if announced && ends then 61 else 60) → s < (if announced then 61 else 60)
 second_of s true true lt = lt

@@ -27,7 +27,7 @@ in_some_then [] ys q is = absurd is
 in_some_then (x ∷ xs) ys q (inl is) = inl is
 in_some_then (x ∷ xs) ys q (inr is) = inr (in_some_then xs ys q is)
 
-then_in_some : (xs ys : List Block) (q : Sequence) → IsInSome ys q → IsInSome (xs ++ ys) q
+pub then_in_some : (xs ys : List Block) (q : Sequence) → IsInSome ys q → IsInSome (xs ++ ys) q
 then_in_some [] ys q is = is
 then_in_some (x ∷ xs) ys q is = inr (then_in_some xs ys q is)
 
@@ -124,7 +124,7 @@ module _ (costs : Costs) (window : Window) (ceiling : ℕ) (facts : Facts costs 
       by_test false e = let above = leb-false (block_key n b) limit e in inr (inr (omega (arith, above, facts.key b n q block bound in_it legal)))
 
   -- a key is among the offered ones, or above the floor
-  abbrev IsMet : List ℕ → ℕ → ℕ → Type 0
+  abbrev pub IsMet : List ℕ → ℕ → ℕ → Type 0
   IsMet keys floor k = Contains keys k ⊎ (floor < k)
 
   pub covers : (reads : List ℕ) (bs : List Block) (keys : List ℕ) (floor : ℕ) → AllByRecursion (IsBlock window) bs

@@ -1,5 +1,10 @@
 pub mod Covering
 pub mod Counting
 pub mod Drawing
-pub mod Ending
+pub mod TwoLeast
 pub mod Closing
+pub mod Walking
+pub mod Taking
+pub mod Working
+pub mod Joining
+pub mod Searching

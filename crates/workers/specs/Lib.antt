@@ -1,3 +1,5 @@
 pub mod Visits
 pub mod Searches
 pub mod Facts
+pub mod Steps
+pub mod Workers

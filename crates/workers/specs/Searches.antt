@@ -1,11 +1,13 @@
 -- What a visit and a whole search do to the view of a seat.
-use Rattle.std.specs.Prelude.{ℕ, ◌≡◌, ◌≤◌, ◌==◌, if◌then◌else◌, List, ◌++◌, length, slice_get, All, Contains, Option, Some, None, MatchOption}
+use Rattle.std.specs.Prelude.{ℕ, ◌≡◌, ◌≤◌, ◌==◌, if◌then◌else◌, List, ◌++◌, slice_get, All, Contains, IsPermutation, Option, Some, None, MatchOption}
 use Rattle.signal_base.specs.declared.window.Window.{Window}
 use Rattle.definitions.specs.declared.block.Block.{Block}
 use Rattle.definitions.specs.heard.Costs.{Costs}
+use Rattle.definitions.specs.answers.Blocks.{items}
 use Rattle.race_words.specs.declared.view.View.{View}
 use Rattle.race_words.specs.Keys.{no_key}
 use Rattle.race_words.specs.Sound.{times}
+use Rattle.workers.specs.Workers.{AreUsedUp}
 use Rattle.workers.specs.Visits.{AreDriven, IsBlockKey, IsCovered, IsVisit}
 
 -- no key stands twice in the list
@@ -30,6 +32,10 @@ pub record HasVisited (costs : Costs) (window : Window) (ceiling : ℕ) (b : Blo
   pub low : w.low ≤ v.low
   pub floor : w.floor ≤ v.floor
 
+-- the list has each item of the window once, in any order
+abbrev pub AreItemsOf : Window → List Block → Type 0
+AreItemsOf window list = IsPermutation (items window) list
+
 -- the view is that of workers who shared the items among them, until none was left
 pub record HasSearched (costs : Costs) (window : Window) (ceiling : ℕ) (items : List Block) (v : View) : Type 0 where
   pub driven : AreDriven costs window ceiling items v.drawn v.reads v.offered
@@ -37,8 +43,7 @@ pub record HasSearched (costs : Costs) (window : Window) (ceiling : ℕ) (items 
       → IsCovered costs window ceiling item v.offered v.floor
   -- what was read is a key, or none
   pub known : All (λ seen. seen ≤ no_key) v.reads
-  -- some number drawn was beyond the last item
-  pub used_up : (number : ℕ) × Contains v.drawn number × (length items ≤ number)
+  pub used_up : AreUsedUp items v.drawn
 
 -- a key of a race, where the greatest u64 stands for none
 abbrev pub key_if_any : ℕ → Option ℕ

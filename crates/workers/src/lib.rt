@@ -1,6 +1,18 @@
 //! Workers that share the items of a search, and the keys of the first two sequences that they find.
 #![tactic(auto)]
 
+mod crew;
+mod ending;
+mod gate;
 mod laws;
+mod recorder;
+mod searches;
+mod sharing;
+mod visitor;
+mod visits;
 
+pub use ending::{Found, finish};
+pub use gate::{Gate, NoGate};
 pub use laws::{first_two_are_found, visit_is_one, visits_cover_their_blocks};
+pub use searches::search;
+pub use visits::visit;

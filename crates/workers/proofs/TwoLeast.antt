@@ -18,7 +18,7 @@ contains_here k ks = Contains-append_left (k ∷ []) ks k (Contains-push [] k)
 contains_later : (k n : ℕ) (ks : List ℕ) → Contains ks n → Contains (k ∷ ks) n
 contains_later k n ks has = Contains-append_right (k ∷ []) ks n has
 
-contains_cases : (k n : ℕ) (ks : List ℕ) → Contains (k ∷ ks) n → (k ≡ n) ⊎ Contains ks n
+pub contains_cases : (k n : ℕ) (ks : List ℕ) → Contains (k ∷ ks) n → (k ≡ n) ⊎ Contains ks n
 contains_cases k n ks has = ⊎_elim (λ first. inl (only k n first)) inr (Contains-append_cases (k ∷ []) ks n has)
   where
     only : (k n : ℕ) → Contains (k ∷ []) n → k ≡ n

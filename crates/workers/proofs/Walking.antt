@@ -1,0 +1,134 @@
+-- How the steps of a visit come about, one block after the other.
+use Rattle.std.proofs.Common.{◌≡◌, ◌≢◌, ℕ, ◌<◌, ◌≤◌, if◌then◌else◌, List, [], ◌∷◌, ◌++◌, append_assoc, Option, Some, None, refl, sym, ap, ◌∙◌, subst, arith}
+use Rattle.std.specs.List.{AllByRecursion, FoldsTo}
+use Rattle.std.proofs.lemmas.Bool.{le-leb, lt-leb}
+use Rattle.std.proofs.lemmas.List.{append-nil}
+use Rattle.signal_base.specs.declared.window.Window.{Window}
+use Rattle.definitions.specs.declared.block.Block.{Block}
+use Rattle.definitions.specs.declared.block.Span.{Span}
+use Rattle.definitions.specs.declared.block.Span.TheVariants.{Year, Day, Hour, Minute}
+use Rattle.definitions.specs.heard.Costs.{Costs}
+use Rattle.definitions.specs.answers.Blocks.{block_key, children, children_by, shorter, IsBound}
+use Rattle.race_words.specs.declared.view.View.{View}
+use Rattle.race_words.specs.Views.{after_limit, after_offer}
+use Rattle.workers.specs.Visits.{limit_at, offered_by, offered_under, opened_under}
+use Rattle.workers.specs.Steps.{Step, depth, AreSteps, HasWalked, Offers, Takes}
+
+pub folds_then : {P X : Type 0} (R : P → X → P → Type 0) (xs ys : List X) (p q r : P) → FoldsTo R p xs q → FoldsTo R q ys r → FoldsTo R p (xs ++ ys) r
+folds_then R [] ys p q r a b = subst (λ p. FoldsTo R p ys r) (sym a) b
+folds_then R (x ∷ xs) ys p q r a b = (a.0, a.1, folds_then R xs ys a.0 q r a.2 b)
+
+-- a block that isn't passed over opens its children
+opened_is : (limit n : ℕ) (b : Block) → block_key n b ≤ limit → opened_under limit b (Some n) ≡ children b
+opened_is limit n b le = ap (λ t. if t then children b else []) (le-leb (block_key n b) limit le)
+
+opened_none : (limit n : ℕ) (b : Block) → limit < block_key n b → opened_under limit b (Some n) ≡ []
+opened_none limit n b over = ap (λ t. if t then children b else []) (lt-leb (block_key n b) limit over)
+
+offered_is : (limit n : ℕ) (b : Block) → block_key n b ≤ limit → offered_under limit b (Some n) ≡ offered_by b.span (block_key n b)
+offered_is limit n b le = ap (λ t. if t then offered_by b.span (block_key n b) else []) (le-leb (block_key n b) limit le)
+
+offers_nothing : (s : Span) (key : ℕ) → s ≢ Minute → offered_by s key ≡ []
+offers_nothing Year key long = refl
+offers_nothing Day key long = refl
+offers_nothing Hour key long = refl
+offers_nothing Minute key long = absurd (long refl)
+
+offered_none : (limit n : ℕ) (b : Block) → limit < block_key n b → offered_under limit b (Some n) ≡ []
+offered_none limit n b over = ap (λ t. if t then offered_by b.span (block_key n b) else []) (lt-leb (block_key n b) limit over)
+
+module _ {P : Type 0} (told : P → Step → P → Type 0) (costs : Costs) (window : Window) (ceiling : ℕ) where
+  pub steps_then : (ss ts : List Step) (bs cs : List Block) → AreSteps costs window ceiling bs ss → AreSteps costs window ceiling cs ts
+      → AreSteps costs window ceiling (bs ++ cs) (ss ++ ts)
+  steps_then [] ts [] cs a b = b
+  steps_then [] ts (x ∷ bs) cs a b = absurd a
+  steps_then (s ∷ ss) ts [] cs a b = absurd a
+  steps_then (s ∷ ss) ts (x ∷ bs) cs a b =
+      let opened = opened_under (limit_at ceiling s.seen) x s.bound in (
+        a.0,
+        a.1,
+        subst (λ bs. AreSteps costs window ceiling bs (ss ++ ts)) (append_assoc opened bs cs) (steps_then ss ts (opened ++ bs) cs a.2 b),
+      )
+
+  -- a visit under way: the steps done, after which those of the blocks that are left make it whole
+  pub record IsWalking (b : Block) (v : View) (p : P) (left : List Block) (w : View) (q : P) : Type 0 where
+    pub done : List Step
+    pub goes : (more : List Step) → AreSteps costs window ceiling left more → AreSteps costs window ceiling (b ∷ []) (done ++ more)
+    pub view : FoldsTo (Takes ceiling) v done w
+    pub kept : FoldsTo told p done q
+
+  module _ (b : Block) (v w : View) (p q : P) (bound : Option ℕ) (seen : ℕ) (is_bound : IsBound costs window b bound) (low : seen ≤ v.floor)
+      (was_told : told p (record { block = b; bound = bound; seen = seen }) q) where
+    abbrev own : Step
+    own = record { block = b; bound = bound; seen = seen }
+
+    -- the block's own step, of which these keys are offered and these blocks opened
+    begun : (keys : List ℕ) (opened : List Block) → offered_under (limit_at ceiling seen) b bound ≡ keys → opened_under (limit_at ceiling seen) b bound ≡ opened
+        → Offers keys (after_limit seen v) w → IsWalking b v p opened w q
+    begun keys opened offers opens after = record {
+      done = own ∷ [];
+      goes = λ more steps. (refl, is_bound, subst (λ bs. AreSteps costs window ceiling bs more) (sym (append-nil _ ∙ opens)) steps);
+      view = (w, (low, subst (λ ks. Offers ks (after_limit seen v) w) (sym offers) after), refl);
+      kept = (q, was_told, refl);
+    }
+
+  pub ended : (b : Block) (v w : View) (p q : P) → IsWalking b v p [] w q → HasWalked told costs window ceiling b v w p q
+  ended b v w p q walking = record {
+    steps = walking.done;
+    are = subst (AreSteps costs window ceiling (b ∷ [])) (append-nil walking.done) (walking.goes [] tt);
+    view = walking.view;
+    kept = walking.kept;
+  }
+
+  pub one_more : (b c : Block) (rest : List Block) (v w u : View) (p q r : P) → IsWalking b v p (c ∷ rest) w q → HasWalked told costs window ceiling c w u q r
+      → IsWalking b v p rest u r
+  one_more b c rest v w u p q r walking child = record {
+    done = walking.done ++ child.steps;
+    goes = λ more steps.
+        subst (AreSteps costs window ceiling (b ∷ [])) (sym (append_assoc walking.done child.steps more))
+        (walking.goes (child.steps ++ more) (steps_then child.steps more (c ∷ []) rest child.are steps));
+    view = folds_then (Takes ceiling) walking.done child.steps v w u walking.view child.view;
+    kept = folds_then told walking.done child.steps p q r walking.kept child.kept;
+  }
+
+  module _ (b : Block) (v w : View) (p q : P) (seen : ℕ) (low : seen ≤ v.floor) where
+    abbrev step : Option ℕ → Step
+    step bound = record { block = b; bound = bound; seen = seen }
+
+    pub passed_none : (bound : Option ℕ) → bound ≡ None → IsBound costs window b bound → told p (step bound) q → w ≡ after_limit seen v
+        → HasWalked told costs window ceiling b v w p q
+    passed_none bound none is_bound was_told is =
+        ended b v w p q (begun b v w p q bound seen is_bound low was_told [] []
+        (ap (offered_under (limit_at ceiling seen) b) none) (ap (opened_under (limit_at ceiling seen) b) none) is)
+
+    module _ (bound : Option ℕ) (n : ℕ) (some : bound ≡ Some n) (is_bound : IsBound costs window b bound) (was_told : told p (step bound) q) where
+      pub passed_above : limit_at ceiling seen < block_key n b → w ≡ after_limit seen v → HasWalked told costs window ceiling b v w p q
+      passed_above over is =
+          ended b v w p q (begun b v w p q bound seen is_bound low was_told [] []
+          (ap (offered_under (limit_at ceiling seen) b) some ∙ offered_none (limit_at ceiling seen) n b over)
+          (ap (opened_under (limit_at ceiling seen) b) some ∙ opened_none (limit_at ceiling seen) n b over) is)
+
+      pub offered_minute : (key least : ℕ) (u : View) → key ≡ block_key n b → block_key n b ≤ limit_at ceiling seen → b.span ≡ Minute
+          → u ≡ after_limit seen v → least ≤ u.low → w ≡ after_offer key least u → HasWalked told costs window ceiling b v w p q
+      offered_minute key least u same le span read under is =
+          ended b v w p q (begun b v w p q bound seen is_bound low was_told (block_key n b ∷ []) []
+          (ap (offered_under (limit_at ceiling seen) b) some ∙ (offered_is (limit_at ceiling seen) n b le ∙ ap (λ s. offered_by s (block_key n b)) span))
+          (ap (opened_under (limit_at ceiling seen) b) some ∙ (opened_is (limit_at ceiling seen) n b le ∙ ap (λ s. children_by s b) span))
+          (least, subst (λ u. least ≤ u.low) read under, is ∙ (ap (λ k. after_offer k least u) same ∙ ap (after_offer (block_key n b) least) read)))
+
+      pub opened_block : block_key n b ≤ limit_at ceiling seen → b.span ≢ Minute → w ≡ after_limit seen v → IsWalking b v p (children b) w q
+      opened_block le long is =
+          begun b v w p q bound seen is_bound low was_told [] (children b)
+          (ap (offered_under (limit_at ceiling seen) b) some ∙ (offered_is (limit_at ceiling seen) n b le ∙ offers_nothing b.span (block_key n b) long))
+          (ap (opened_under (limit_at ceiling seen) b) some ∙ opened_is (limit_at ceiling seen) n b le) is
+
+-- each child is of a shorter span
+shorter_is_less : (s : Span) → s ≢ Minute → depth (shorter s) < depth s
+shorter_is_less Year long = omega arith
+shorter_is_less Day long = omega arith
+shorter_is_less Hour long = omega arith
+shorter_is_less Minute long = absurd (long refl)
+
+pub children_are_shorter : (s : Span) → s ≢ Minute → (bs : List Block) → AllByRecursion (λ c. c.span ≡ shorter s) bs → AllByRecursion (λ c. depth c.span < depth s) bs
+children_are_shorter s long [] all = tt
+children_are_shorter s long (b ∷ bs) all = (subst (λ d. depth d < depth s) (sym all.0) (shorter_is_less s long), children_are_shorter s long bs all.1)

@@ -1,0 +1,39 @@
+//! What keeps the steps of a visit, or doesn't.
+
+ghost use Rattle.std.specs.Prelude.{OnOk};
+ghost use Rattle.workers.specs.Steps.{Step};
+
+use definitions::Block;
+use std::convert::Infallible;
+
+/// Is told of each block that a visit comes to.
+pub(crate) trait Recorder {
+    /// Why a step can't be kept.
+    type Fault: Drop;
+
+    // what it is before it is told of a step, and after
+    ghost told: { Self → Step → Self → Type 0 };
+
+    /// Keeps a step: the block, its bound, and what was read there.
+    fn record(&mut self, block: &Block, bound: Option<u32>, seen: u64) -> Result<(), Self::Fault>
+        ensures { OnOk result (told self.old (record { block = block.now; bound = bound; seen = seen }) self.new) };
+}
+
+/// Keeps nothing.
+#[derive(Drop)]
+pub(crate) struct NoRecord;
+
+impl Recorder for NoRecord {
+    type Fault = Infallible;
+
+    ghost told = { λ before step after. Unit {0} };
+
+    fn record(
+        &mut self,
+        _block: &Block,
+        _bound: Option<u32>,
+        _seen: u64,
+    ) -> Result<(), Infallible> {
+        Ok(())
+    }
+}

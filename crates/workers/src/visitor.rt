@@ -1,0 +1,84 @@
+//! Visits of blocks, down to the minutes.
+
+ghost use Rattle.std.specs.Prelude.{◌≡◌, ◌≤◌, OnOk};
+ghost use Rattle.std.specs.Option.{ForSome};
+ghost use Rattle.definitions.specs.answers.Blocks.{IsBlock, IsBound};
+ghost use Rattle.field_tables.specs.Scored.{costs_of};
+ghost use Rattle.signal_base.specs.declared.limits.TheConstants.{GREATEST_COST};
+ghost use Rattle.workers.specs.Steps.{HasWalked};
+
+use crate::recorder::Recorder;
+use bounds::{Bounded, block_key, bound, bounded_children};
+use definitions::{Block, Span, children_share_the_sequences};
+use field_tables::Tables;
+use race_words::{Race, Seat};
+use sequence::ceiling_key;
+
+/// What is the same for all visits of a search.
+#[derive(Drop)]
+pub(crate) struct Visitor<'a> {
+    pub race: &'a Race,
+    pub tables: &'a Tables<'a>,
+    pub ceiling: u32,
+    pub ghost ceiling_is_a_cost: { ceiling ≤ GREATEST_COST },
+}
+
+impl Visitor<'_> {
+    /// Visits a block of the window.
+    pub(crate) fn visit_item<K: Recorder>(
+        &self,
+        seat: &mut Seat,
+        item: &Block,
+        recorder: &mut K,
+    ) -> Result<(), K::Fault>
+        requires race { seat.old.race ≡ self.now.race.now.id }
+        requires block { IsBlock self.now.tables.now.window item.now }
+        ensures race { seat.new.race ≡ seat.old.race }
+        ensures walked { OnOk result (HasWalked K.told (costs_of self.now.tables.now) self.now.tables.now.window self.now.ceiling item.now
+            seat.old.view seat.new.view recorder.old recorder.new) }
+    {
+        let found = Bounded {
+            block: *item,
+            bound: bound(self.tables, item),
+        };
+        self.visit_block(seat, &found, recorder)
+    }
+
+    // Visits a block whose bound is known. It reads the race's limit once, and then passes the block over, or offers its
+    // key, or visits its children.
+    fn visit_block<K: Recorder>(
+        &self,
+        seat: &mut Seat,
+        found: &Bounded,
+        recorder: &mut K,
+    ) -> Result<(), K::Fault>
+        requires race { seat.old.race ≡ self.now.race.now.id }
+        requires block { IsBlock self.now.tables.now.window found.now.block }
+        requires bound { IsBound (costs_of self.now.tables.now) self.now.tables.now.window found.now.block found.now.bound }
+        requires small { ForSome found.now.bound (λ n. n ≤ GREATEST_COST) }
+        ensures race { seat.new.race ≡ seat.old.race }
+        ensures walked { OnOk result (HasWalked K.told (costs_of self.now.tables.now) self.now.tables.now.window self.now.ceiling found.now.block
+            seat.old.view seat.new.view recorder.old recorder.new) }
+    {
+        children_share_the_sequences();
+        prove!(found.block.hi <= self.tables.window().to);
+        let seen = self.race.limit(seat);
+        recorder.record(&found.block, found.bound, seen)?;
+        let Some(bound) = found.bound else {
+            return Ok(());
+        };
+        let key = block_key(bound, &found.block);
+        if key > seen.min(ceiling_key(self.ceiling)) {
+            return Ok(());
+        }
+        if found.block.span == Span::Minute {
+            self.race.offer(seat, key);
+            return Ok(());
+        }
+        let mut children = bounded_children(self.tables, &found.block);
+        while let Some(child) = children.next() {
+            self.visit_block(seat, &child, recorder)?;
+        }
+        Ok(())
+    }
+}

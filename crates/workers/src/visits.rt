@@ -1,0 +1,40 @@
+//! The visit of one block of a window, over a seat of a race.
+
+ghost use Rattle.std.specs.Prelude.{◌≡◌, ◌≤◌};
+ghost use Rattle.definitions.specs.answers.Blocks.{IsBlock};
+ghost use Rattle.field_tables.specs.Scored.{costs_of};
+ghost use Rattle.signal_base.specs.declared.limits.TheConstants.{GREATEST_COST};
+ghost use Rattle.workers.specs.Searches.{HasVisited};
+
+use crate::laws::blocks_share_the_sequences;
+use crate::recorder::NoRecord;
+use crate::visitor::Visitor;
+use definitions::Block;
+use field_tables::Tables;
+use race_words::{Race, Seat};
+
+/// Visits a block of the tables' window under a ceiling of at most 1,920,000,000, and offers the keys of its cheapest
+/// sequences to the race.
+///
+/// Each block that it comes to takes one read of the race's limit. A block that has no bound, or whose key is above the
+/// lesser of the limit and the ceiling's key, is passed over. Of any other block the children are visited in their order,
+/// and of a minute the key is offered. So each admitted sequence of the block has its key among those that were offered, or
+/// a key above what the seat knows as its floor.
+pub fn visit(race: &Race, seat: &mut Seat, tables: &Tables, item: &Block, ceiling: u32)
+    requires race { seat.old.race ≡ race.now.id }
+    requires block { IsBlock tables.now.window item.now }
+    requires ceiling { ceiling ≤ GREATEST_COST }
+    ensures race { seat.new.race ≡ seat.old.race }
+    ensures visited { HasVisited (costs_of tables.now) tables.now.window ceiling item.now seat.old.view seat.new.view }
+{
+    blocks_share_the_sequences();
+    prove!(item.hi <= tables.window().to);
+    let visitor = Visitor {
+        race,
+        tables,
+        ceiling,
+    };
+    match visitor.visit_item(seat, item, &mut NoRecord) {
+        Ok(()) => {}
+    }
+}
