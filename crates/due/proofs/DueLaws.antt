@@ -4,7 +4,7 @@ use Rattle.definitions.specs.declared.answer.Answer.{Answer}
 use Rattle.definitions.specs.time.Calendar.{century_days}
 use Rattle.definitions.specs.heard.Logs.{Records}
 use Rattle.formats.specs.declared.refusal.Refusal.{Refusal}
-use Rattle.formats.specs.declared.refusal.Refusal.TheVariants.{WordsUsage, LogTooLarge, LogLine}
+use Rattle.formats.specs.declared.refusal.Refusal.TheVariants.{WordsUsage, WordsBad, WordsEmptyRange, ConfigTooLarge, ConfigNotToml, ConfigMissing, ConfigWrongKind, ConfigOutOfRange, ConfigUnknownKey, LogTooLarge, LogLine}
 use Rattle.definitions.specs.declared.answer.Answer.TheVariants as answers
 use Rattle.due.specs.declared.status.Status.TheVariants as statuses
 use Rattle.due.specs.declared.due.Due.{Due}
@@ -90,6 +90,14 @@ answered day records answers.Nothing century is e =
 
 refused : (refusal : Refusal) → refusal_status refusal ≢ statuses.Nothing
 refused WordsUsage e = cc
+refused (WordsBad option) e = cc
+refused WordsEmptyRange e = cc
+refused ConfigTooLarge e = cc
+refused ConfigNotToml e = cc
+refused (ConfigMissing key receiver) e = cc
+refused (ConfigWrongKind key receiver) e = cc
+refused (ConfigOutOfRange key receiver) e = cc
+refused ConfigUnknownKey e = cc
 refused (LogTooLarge receiver name) e = cc
 refused (LogLine receiver name line fault) e = cc
 

@@ -3,16 +3,24 @@ use Rattle.std.specs.Prelude.{ℕ, List}
 use Rattle.definitions.specs.declared.answer.Answer.{Answer}
 use Rattle.definitions.specs.declared.answer.Answer.TheVariants as answers
 use Rattle.formats.specs.declared.refusal.Refusal.{Refusal}
-use Rattle.formats.specs.declared.refusal.Refusal.TheVariants.{WordsUsage, LogTooLarge, LogLine}
+use Rattle.formats.specs.declared.refusal.Refusal.TheVariants.{WordsUsage, WordsBad, WordsEmptyRange, ConfigTooLarge, ConfigNotToml, ConfigMissing, ConfigWrongKind, ConfigOutOfRange, ConfigUnknownKey, LogTooLarge, LogLine}
 use Rattle.formats.specs.Refusals.{refusal_text}
 use Rattle.formats.specs.Reports.{report}
 use Rattle.due.specs.declared.due.Due.{Due}
 use Rattle.due.specs.declared.due.Due.TheVariants.{Refused, Report}
 use Rattle.due.specs.declared.status.Status.{Status}
-use Rattle.due.specs.declared.status.Status.TheVariants.{Decided, Undecided, Nothing, BadWords, BadLog}
+use Rattle.due.specs.declared.status.Status.TheVariants.{Decided, Undecided, Nothing, BadWords, BadConfiguration, BadLog}
 
 abbrev pub refusal_status : Refusal → Status
 refusal_status WordsUsage = BadWords
+refusal_status (WordsBad option) = BadWords
+refusal_status WordsEmptyRange = BadWords
+refusal_status ConfigTooLarge = BadConfiguration
+refusal_status ConfigNotToml = BadConfiguration
+refusal_status (ConfigMissing key receiver) = BadConfiguration
+refusal_status (ConfigWrongKind key receiver) = BadConfiguration
+refusal_status (ConfigOutOfRange key receiver) = BadConfiguration
+refusal_status ConfigUnknownKey = BadConfiguration
 refusal_status (LogTooLarge receiver name) = BadLog
 refusal_status (LogLine receiver name line fault) = BadLog
 

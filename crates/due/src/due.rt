@@ -34,7 +34,15 @@ impl Due {
     {
         match self {
             Due::Refused { refusal } => match refusal {
-                Refusal::WordsUsage => Status::BadWords,
+                Refusal::WordsUsage | Refusal::WordsBad { .. } | Refusal::WordsEmptyRange => {
+                    Status::BadWords
+                }
+                Refusal::ConfigTooLarge
+                | Refusal::ConfigNotToml
+                | Refusal::ConfigMissing { .. }
+                | Refusal::ConfigWrongKind { .. }
+                | Refusal::ConfigOutOfRange { .. }
+                | Refusal::ConfigUnknownKey => Status::BadConfiguration,
                 Refusal::LogTooLarge { .. } | Refusal::LogLine { .. } => Status::BadLog,
             },
             Due::Report { answer, .. } => match answer {

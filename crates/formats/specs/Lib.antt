@@ -6,5 +6,6 @@ pub mod Listing
 pub mod Feed
 pub mod Trials
 pub mod Options
+pub mod Keys
 pub mod Refusals
 pub mod Examples

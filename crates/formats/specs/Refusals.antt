@@ -4,9 +4,11 @@ use Rattle.std.specs.Fmt.{decimal}
 use Rattle.formats.specs.declared.fault.LineFault.{LineFault}
 use Rattle.formats.specs.declared.fault.LineFault.TheVariants.{Shape, NotRising, TooManyRecords}
 use Rattle.formats.specs.declared.refusal.Refusal.{Refusal}
-use Rattle.formats.specs.declared.refusal.Refusal.TheVariants.{WordsUsage, LogTooLarge, LogLine}
+use Rattle.formats.specs.declared.refusal.Refusal.TheVariants.{WordsUsage, WordsBad, WordsEmptyRange, ConfigTooLarge, ConfigNotToml, ConfigMissing, ConfigWrongKind, ConfigOutOfRange, ConfigUnknownKey, LogTooLarge, LogLine}
 use Rattle.definitions.specs.time.Spelling.{dash}
 use Rattle.formats.specs.Bytes.{space, line}
+use Rattle.formats.specs.Options.{option_text}
+use Rattle.formats.specs.Keys.{key_word}
 
 -- a text that is larger than it may be
 abbrev pub too_large : List ℕ
@@ -97,5 +99,13 @@ certificate_fault_line fault = line (codes "certificate: " ++ certificate_fault_
 -- the line of a refusal
 abbrev pub refusal_text : Refusal → List ℕ
 refusal_text WordsUsage = usage_line
+refusal_text (WordsBad option) = bad_word_line (option_text option)
+refusal_text WordsEmptyRange = empty_range_line
+refusal_text ConfigTooLarge = configuration_fault_line TooLarge
+refusal_text ConfigNotToml = configuration_fault_line NotToml
+refusal_text (ConfigMissing key receiver) = configuration_fault_line (MissingKey receiver (key_word key))
+refusal_text (ConfigWrongKind key receiver) = configuration_fault_line (WrongKind receiver (key_word key))
+refusal_text (ConfigOutOfRange key receiver) = configuration_fault_line (OutOfRange receiver (key_word key))
+refusal_text ConfigUnknownKey = configuration_fault_line UnknownKey
 refusal_text (LogTooLarge receiver name) = log_line receiver name too_large
 refusal_text (LogLine receiver name at fault) = log_line receiver name (at_line at (fault_text fault))

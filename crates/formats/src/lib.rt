@@ -5,6 +5,7 @@
 
 mod examples;
 mod fault;
+mod key;
 mod limits;
 mod log_law;
 mod name;
@@ -17,6 +18,7 @@ pub use examples::{
     reports_without_a_decision, sentences, summaries_of_trials,
 };
 pub use fault::LineFault;
+pub use key::KeyName;
 pub use limits::{LOG_LIMIT, LONGEST_NAME, MOST_RECORDS, TIME_LIMIT};
 pub use log_law::log_has_one_outcome;
 pub use name::Name;

@@ -4,26 +4,32 @@
 ghost use Rattle.std.specs.Prelude.{◌≡◌, codes, Some, None};
 ghost use Rattle.formats.specs.Bytes.{line};
 ghost use Rattle.formats.specs.declared.fault.LineFault.TheVariants.{Shape, NotRising, TooManyRecords};
-ghost use Rattle.formats.specs.declared.refusal.Refusal.TheVariants.{WordsUsage, LogTooLarge, LogLine};
-ghost use Rattle.formats.specs.Refusals.ConfigurationFault.{TooLarge, NotToml, MissingKey, WrongKind, OutOfRange, UnknownKey};
-ghost use Rattle.formats.specs.Refusals.CertificateFault.{BadLine, NotAbove, OtherWindow, TooLarge as CertificateTooLarge, TooManySteps, Uncovered, WrongBound, WrongEnds};
-ghost use Rattle.formats.specs.Refusals.{bad_word_line, certificate_fault_line, configuration_fault_line, empty_range_line, refusal_text};
+ghost use Rattle.formats.specs.declared.key.KeyName.TheVariants.{Delay, Low, Receiver, Station, Weight};
+ghost use Rattle.formats.specs.declared.option.OptionName.TheVariants.{Minute, Number, Seconds};
+ghost use Rattle.formats.specs.declared.refusal.Refusal.TheVariants.{ConfigMissing, ConfigNotToml, ConfigOutOfRange, ConfigTooLarge, ConfigUnknownKey, ConfigWrongKind, LogLine, LogTooLarge, WordsBad, WordsEmptyRange, WordsUsage};
+ghost use Rattle.formats.specs.Refusals.CertificateFault.{BadLine, NotAbove, OtherWindow, TooLarge, TooManySteps, Uncovered, WrongBound, WrongEnds};
+ghost use Rattle.formats.specs.Refusals.{certificate_fault_line, refusal_text};
 
 /// Words.
 pub fn refused_words()
     ensures usage { refusal_text WordsUsage ≡ line (codes "words: usage") }
-    ensures value { bad_word_line (codes "--seconds") ≡ line (codes "words: bad --seconds") }
-    ensures range { empty_range_line ≡ line (codes "words: --to is before --from") }
+    ensures number { refusal_text (WordsBad Number) ≡ line (codes "words: bad NUMBER") }
+    ensures minute { refusal_text (WordsBad Minute) ≡ line (codes "words: bad MINUTE") }
+    ensures option { refusal_text (WordsBad Seconds) ≡ line (codes "words: bad --seconds") }
+    ensures range { refusal_text WordsEmptyRange ≡ line (codes "words: --to is before --from") }
 {}
 
 /// Configurations.
 pub fn refused_configurations()
-    ensures large { configuration_fault_line TooLarge ≡ line (codes "configuration: too large") }
-    ensures toml { configuration_fault_line NotToml ≡ line (codes "configuration: not toml") }
-    ensures missing { configuration_fault_line (MissingKey None (codes "station")) ≡ line (codes "configuration: missing station") }
-    ensures kind { configuration_fault_line (WrongKind None (codes "low")) ≡ line (codes "configuration: wrong kind low") }
-    ensures range { configuration_fault_line (OutOfRange (Some 2) (codes "weight")) ≡ line (codes "configuration: out of range receiver 2 weight") }
-    ensures other { configuration_fault_line UnknownKey ≡ line (codes "configuration: unknown key") }
+    ensures large { refusal_text ConfigTooLarge ≡ line (codes "configuration: too large") }
+    ensures toml { refusal_text ConfigNotToml ≡ line (codes "configuration: not toml") }
+    ensures missing { refusal_text (ConfigMissing Station None) ≡ line (codes "configuration: missing station") }
+    ensures list { refusal_text (ConfigMissing Receiver None) ≡ line (codes "configuration: missing receiver") }
+    ensures kind { refusal_text (ConfigWrongKind Low None) ≡ line (codes "configuration: wrong kind low") }
+    ensures delay { refusal_text (ConfigWrongKind Delay (Some 1)) ≡ line (codes "configuration: wrong kind receiver 1 delay_ms") }
+    ensures range { refusal_text (ConfigOutOfRange Weight (Some 2)) ≡ line (codes "configuration: out of range receiver 2 weight") }
+    ensures station { refusal_text (ConfigOutOfRange Station (Some 1)) ≡ line (codes "configuration: out of range receiver 1 station") }
+    ensures other { refusal_text ConfigUnknownKey ≡ line (codes "configuration: unknown key") }
 {}
 
 /// Logs.
@@ -36,7 +42,7 @@ pub fn refused_logs()
 
 /// Certificates.
 pub fn refused_certificates()
-    ensures large { certificate_fault_line CertificateTooLarge ≡ line (codes "certificate: too large") }
+    ensures large { certificate_fault_line TooLarge ≡ line (codes "certificate: too large") }
     ensures shape { certificate_fault_line (BadLine 143) ≡ line (codes "certificate: line 143: shape") }
     ensures many { certificate_fault_line (TooManySteps 2000012) ≡ line (codes "certificate: line 2000012: too many steps") }
     ensures window { certificate_fault_line OtherWindow ≡ line (codes "certificate: other window") }
