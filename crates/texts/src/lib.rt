@@ -2,13 +2,21 @@
 //! by one append where standard output takes it whole.
 #![tactic(auto)]
 
+mod feed;
+mod lines;
+mod listing;
+mod minutes;
 mod page;
 mod pieces;
 mod refusal;
 mod report;
 #[cfg(test)]
 mod tests;
+mod trial;
 
+pub use feed::write_feed;
 pub use formats::Refusal;
+pub use listing::write_listing;
 pub use refusal::write_refusal;
 pub use report::write_report;
+pub use trial::write_trial;

@@ -1,16 +1,17 @@
-//! Pieces of lines: dates, minutes and sequences, and how they are written.
+//! Pieces of lines: dates, minutes, sequences and names of stations, and how they are written.
 
-ghost use Rattle.std.specs.Prelude.{◌≡◌, ◌+◌, ◌<◌, ◌≤◌, ◌++◌, ◌∷◌, []};
+ghost use Rattle.std.specs.Prelude.{◌≡◌, ◌+◌, ◌<◌, ◌≤◌, ◌++◌, ◌∷◌, [], length};
 ghost use Rattle.arrayvec.specs.ArrayString.{array_string_len};
 ghost use Rattle.definitions.specs.time.Calendar.{century_minutes};
 ghost use Rattle.definitions.specs.time.Spelling.{date_text, digit_zero, fields_text, minute_text, two_digits};
 ghost use Rattle.definitions.specs.sequences.Walks.{IsSequence};
-ghost use Rattle.formats.specs.Bytes.{sequence_text};
+ghost use Rattle.formats.specs.Bytes.{sequence_text, station_name};
 
 use crate::page::{LINE_ROOM, Line};
 use bank_files::push_number;
 use civil::{Civil, Fields};
 use sequence::Sequence;
+use signal_base::Station;
 
 /// Adds the last two digits of a number.
 pub fn push_two_digits(line: &mut Line, n: u16)
@@ -28,7 +29,17 @@ fn push_digit(line: &mut Line, digit: u16)
     ensures bytes { line.new.bytes ≡ line.old.bytes ++ (digit_zero + digit) ∷ [] }
     ensures len { array_string_len line.new ≡ array_string_len line.old + 1 }
 {
-    line.push((b'0' + digit as u8) as char);
+    push_ascii(line, b'0' + digit as u8);
+}
+
+/// Adds an ASCII character.
+pub fn push_ascii(line: &mut Line, byte: u8)
+    requires ascii { byte < 128 }
+    requires room { array_string_len line.old < LINE_ROOM }
+    ensures bytes { line.new.bytes ≡ line.old.bytes ++ byte ∷ [] }
+    ensures len { array_string_len line.new ≡ array_string_len line.old + 1 }
+{
+    line.push(byte as char);
 }
 
 /// Adds a date, as `2024-06-10`.
@@ -79,4 +90,17 @@ pub fn push_sequence(line: &mut Line, civil: &Civil, q: &Sequence)
     line.push_str(" ");
     push_number(line, q.second as u64);
     line.push_str(if q.announced { " yes" } else { " no" });
+}
+
+/// A station's name.
+pub fn name_of(station: Station) -> &'static str
+    ensures name { result.now ≡ station_name station }
+    ensures short { length result.now ≤ 5 }
+{
+    match station {
+        Station::Dcf77 => "dcf77",
+        Station::Msf => "msf",
+        Station::Wwvb => "wwvb",
+        Station::Jjy => "jjy",
+    }
 }

@@ -1,29 +1,25 @@
 //! The report of an answer.
 
 ghost use Rattle.std.specs.Prelude.{◌≡◌, ◌+◌, ◌<◌, ◌≤◌, ◌++◌, length};
-ghost use Rattle.std.specs.Fmt.{decimal};
 ghost use Rattle.bank_files.specs.Told.{output_name};
 ghost use Rattle.bank_files.specs.Seen.{Writes};
-ghost use Rattle.definitions.specs.sequences.Walks.{IsSequence, IsWalkable};
 ghost use Rattle.definitions.specs.time.Calendar.{century_minutes};
-ghost use Rattle.formats.specs.Bytes.{line, station_name};
-ghost use Rattle.formats.specs.Reports.{at_minute, at_minutes, dut_line, dut_lines, minute_line, next_line, phase_line, report, sequence_line};
+ghost use Rattle.formats.specs.Reports.{dut_line, dut_lines, minute_line, next_line, phase_line, report};
 ghost use Rattle.formats.specs.declared.limits.TheConstants.{TIME_LIMIT};
 ghost use Rattle.texts.specs.Reportable.{IsReportable};
 
-use crate::page::{LINE_ROOM, Line, MOST_LINES, Page};
-use crate::pieces::{push_minute, push_sequence};
+use crate::lines::{number_line, sequence_line, words_line};
+use crate::minutes::{MinuteText, push_minutes};
+use crate::page::{Line, MOST_LINES, Page};
+use crate::pieces::{name_of, push_minute};
 use bank_files::{Failed, Files, push_number};
 use civil::Civil;
 use itoa::Buffer;
-use sequence::{Answer, Sequence, next_place};
-use signal_base::{Dut, MOST_SECONDS, Station, StationDut, Window};
+use sequence::Answer;
+use signal_base::{Dut, StationDut, Window};
 
 // The most stations of a window.
 const MOST_STATIONS: usize = 4;
-
-// The most minutes that begin in a window.
-const MOST_MINUTES: usize = 20;
 
 /// Writes the report of an answer to standard output. The answer's sequences are walkable in the window, and `duts`
 /// has what each station of the window tells of DUT1, in the order DCF77, MSF, WWVB, JJY.
@@ -57,48 +53,31 @@ fn report_of(civil: &Civil, window: &Window, answer: &Answer, duts: &[StationDut
             sequence,
             next,
         } => {
-            page.push(&cost_line("decided ", *cost));
+            page.push(&number_line("decided ", *cost));
             page.push(&phase_line(window));
-            page.push(&sequence_line(civil, sequence));
+            page.push(&sequence_line("sequence ", civil, sequence));
             page.push(&next_line(*next));
             push_duts(&mut page, duts);
-            push_minutes(&mut page, civil, window, sequence);
+            push_minutes(
+                &mut page,
+                &ReportMinutes { window: *window },
+                civil,
+                window,
+                sequence,
+            );
         }
         Answer::Undecided {
             cost,
             sequence,
             other,
         } => {
-            page.push(&cost_line("undecided ", *cost));
+            page.push(&number_line("undecided ", *cost));
             page.push(&phase_line(window));
-            page.push(&sequence_line(civil, sequence));
-            page.push(&sequence_line(civil, other));
+            page.push(&sequence_line("sequence ", civil, sequence));
+            page.push(&sequence_line("sequence ", civil, other));
         }
     }
     page
-}
-
-// A line of these words.
-fn words_line(words: &str) -> Line
-    requires { length words.now < LINE_ROOM }
-    ensures { result.bytes ≡ line words.now }
-{
-    let mut text = Line::new();
-    text.push_str(words);
-    text.push_str("\n");
-    text
-}
-
-// A line of a word, with the space after it, and a cost.
-fn cost_line(word: &str, cost: u32) -> Line
-    requires { length word.now ≤ 10 }
-    ensures { result.bytes ≡ line (word.now ++ decimal cost) }
-{
-    let mut text = Line::new();
-    text.push_str(word);
-    push_number(&mut text, cost as u64);
-    text.push_str("\n");
-    text
 }
 
 fn phase_line(window: &Window) -> Line
@@ -107,17 +86,6 @@ fn phase_line(window: &Window) -> Line
     let mut text = Line::new();
     text.push_str("phase ");
     push_number(&mut text, window.phase as u64);
-    text.push_str("\n");
-    text
-}
-
-fn sequence_line(civil: &Civil, q: &Sequence) -> Line
-    requires { IsSequence q.now }
-    ensures { result.bytes ≡ sequence_line q.now }
-{
-    let mut text = Line::new();
-    text.push_str("sequence ");
-    push_sequence(&mut text, civil, q);
     text.push_str("\n");
     text
 }
@@ -169,47 +137,21 @@ fn dut_line(several: bool, dut: &StationDut) -> Line
     text
 }
 
-fn name_of(station: Station) -> &'static str
-    ensures name { result.now ≡ station_name station }
-    ensures short { length result.now ≤ 5 }
-{
-    match station {
-        Station::Dcf77 => "dcf77",
-        Station::Msf => "msf",
-        Station::Wwvb => "wwvb",
-        Station::Jjy => "jjy",
-    }
+// The minutes of a report.
+#[derive(Drop)]
+struct ReportMinutes {
+    window: Window,
+    ghost start: { window.start < TIME_LIMIT },
 }
 
-// Adds a line for each minute that begins in the window.
-fn push_minutes(page: &mut Page, civil: &Civil, window: &Window, q: &Sequence)
-    requires room { page.old.lines + MOST_MINUTES ≤ MOST_LINES }
-    requires seconds { window.now.seconds ≤ MOST_SECONDS }
-    requires start { window.now.start < TIME_LIMIT }
-    requires sequence { IsSequence q.now }
-    requires walkable { IsWalkable window.now q.now }
-    ensures { page.new.text.bytes ≡ page.old.text.bytes ++ at_minutes (minute_line window.now) q.now window.now.seconds }
-{
-    let mut place = (q.first, q.second);
-    for slot in 0..window.seconds {
-        push_slot(page, civil, window, place, slot);
-        place = next_place(civil, q.announced, place);
-    }
-}
+impl MinuteText for ReportMinutes {
+    ghost use Rattle.formats.specs.Reports.{minute_line};
 
-// Adds the line of a slot, where a minute begins there.
-fn push_slot(page: &mut Page, civil: &Civil, window: &Window, place: (u32, u8), slot: u16)
-    requires century { place.0 < century_minutes }
-    requires start { window.now.start < TIME_LIMIT }
-    requires room { place.1 ≡ 0 → page.old.lines < MOST_LINES }
-    ensures bytes { page.new.text.bytes ≡ page.old.text.bytes ++ at_minute (minute_line window.now) place slot }
-    ensures begins { place.1 ≡ 0 → page.new.lines ≡ page.old.lines + 1 }
-    ensures goes_on { 0 < place.1 → page.new.lines ≡ page.old.lines }
-{
-    if place.1 != 0 {
-        return;
+    ghost text = { λ minutes. minute_line minutes.window };
+
+    fn line(&self, civil: &Civil, t: u32, slot: u16) -> Line {
+        minute_line(civil, &self.window, t, slot)
     }
-    page.push(&minute_line(civil, window, place.0, slot));
 }
 
 // The line of a minute that begins in a slot.

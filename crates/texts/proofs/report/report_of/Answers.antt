@@ -15,7 +15,7 @@ returns-in-Decided c =
       c.push-in-Decided-2.ensures.bytes,
       c.phase_line-in-Decided.ensures,
       c.push-in-Decided.ensures.bytes,
-      c.cost_line.ensures,
+      c.number_line.ensures,
       c.new-page.ensures.bytes,
     )
 
@@ -30,6 +30,6 @@ returns-in-Undecided c =
       c.push-in-Undecided-2.ensures.bytes,
       c.phase_line-in-Undecided.ensures,
       c.push-in-Undecided.ensures.bytes,
-      c.cost_line-in-Undecided.ensures,
+      c.number_line-in-Undecided.ensures,
       c.new-page.ensures.bytes,
     ) (sym (append-nil _))

@@ -1,4 +1,4 @@
--- The minutes of a report: how a walk goes on, and how many lines it takes.
+-- The minutes of a window: how a walk goes on, and how many lines it takes.
 use Rattle.std.proofs.Common.{◌≡◌, ℕ, zero, suc, ◌+◌, ◌*◌, ◌<◌, ◌≤◌, Bool, true, false, nat_lt, cond, List, ◌++◌, ◌&&◌, refl, sym, ap, ◌∙◌, append_assoc, add-one, arith}
 use Rattle.std.proofs.lemmas.Bool.{ltb-true, ltb-false}
 use Rattle.definitions.specs.declared.sequence.Sequence.{Sequence}
