@@ -1,16 +1,47 @@
-//! Each text is one append, which no clause says: a reader who stops after the first line makes no fault.
+//! What no clause says of the texts: how they look, and that each is one append, so that a reader who stops after the
+//! first line makes no fault.
 
-use crate::{write_refusal, write_report};
-use bank_files::{Failed, MemoryFiles, OUTPUT};
-use civil::Civil;
+ghost use Rattle.std.specs.Prelude.{◌≡◌};
+
+use crate::{write_feed, write_listing, write_refusal, write_report, write_trial};
+use bank_files::{Failed, Files, MemoryFiles, OUTPUT, OneByte};
+use civil::{Civil, parse_minute};
+use definitions::CENTURY_MINUTES;
 use formats::{LineFault, Name, Refusal};
-use sequence::{Answer, Sequence};
-use signal_base::{Station, Stations, Window};
+use sequence::{Answer, Sequence, telegram, walkable};
+use signal_base::{MOST_SECONDS, Station, Stations, Window};
 use std::alloc::Global;
 use std::test::Fail;
 
+mod feeds;
+mod listings;
+mod trials;
+
 // The last minute of June 2015, 23:59 of the 5,659th day after 2000-01-01.
 const JUNE_2015: u32 = 5_659 * 1_440 + 1_439;
+
+// So many seconds of JJY, from any minute of the century on.
+fn window_of(seconds: u16) -> Window
+    ensures { result.seconds ≡ seconds }
+{
+    Window {
+        stations: Stations::one(Station::Jjy),
+        start: 0,
+        phase: 0,
+        seconds,
+        from: 0,
+        to: CENTURY_MINUTES,
+    }
+}
+
+// The sequence from a second of a minute on.
+fn sequence_from(minute: &str, second: u8, announced: bool) -> Option<Sequence> {
+    Some(Sequence {
+        first: parse_minute(minute)?,
+        second,
+        announced,
+    })
+}
 
 // Files of which only the first call succeeds.
 fn one_call(alloc: Global) -> Result<MemoryFiles, Fail> {
@@ -31,14 +62,7 @@ fn printed(files: &MemoryFiles, text: &str) -> bool {
 fn a_report_is_one_append(rt: HostRuntime) -> Result<(), Fail> {
     let civil = Civil::make(rt.alloc())?;
     let mut files = one_call(rt.alloc())?;
-    let window = Window {
-        stations: Stations::one(Station::Jjy),
-        start: 0,
-        phase: 0,
-        seconds: 60,
-        from: 0,
-        to: 52_596_000,
-    };
+    let window = window_of(60);
     let sequence = Sequence {
         first: JUNE_2015,
         second: 29,

@@ -1,4 +1,4 @@
-use Rattle.std.proofs.Common.{◌≡◌, ◌+◌, ◌*◌, ◌≤◌, ℕ, ◌∙◌, zero, suc, ap, add-one, refl, sym, arith}
+use Rattle.std.proofs.Common.{◌+◌, ◌*◌, ◌≤◌, ℕ, ◌∙◌, zero, suc, ap, add-one, refl, sym, arith}
 use Rattle.std.proofs.lemmas.List.{append-nil}
 use Rattle.definitions.specs.sequences.Walks.{place_at, next_place}
 use Rattle.formats.specs.Reports.{at_minutes}

@@ -1,0 +1,3 @@
+pub mod CleanLaws
+pub mod SymbolLaws
+pub mod TrialLaws

@@ -1,0 +1,16 @@
+//! Trials: logs that are made up by a number, to decode what was sent for certain. A station sends a sequence, and up to
+//! eight receivers hear it for twenty minutes, each with a noise of its own that moves edges by up to 20 ms.
+#![tactic(auto)]
+
+mod clean;
+mod noisy;
+mod symbol;
+#[cfg(test)]
+mod tests;
+mod text;
+mod trial;
+
+pub use trial::{
+    FIRST_MINUTES, FIRST_SECONDS, MINUTE_STEP, MOST_SHIFT, STATIONS, TRIAL_SECONDS, Trial,
+    TrialFault, make,
+};
