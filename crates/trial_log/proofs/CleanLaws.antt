@@ -56,6 +56,9 @@ module _ (station : Station) (q : Sequence) (k j : ℕ) (early : j < 10) where
       let tenth : (start + i) % 1000 / 100 ≡ j = omega arith in
       ap (λ (s : ℕ). level_in s ((start + i) % 1000 / 100)) slot ∙ ap (level_in k) tenth
 
+  pub steady_tenth : (i : ℕ) → i < 100 → clean_level station q (start + i) ≡ clean_level station q start
+  steady_tenth i lt = tenth_level i lt ∙ sym (tenth_level 0 (omega arith)) ∙ ap (clean_level station q) (add-zero start)
+
   -- one more tenth
   pub next_tenth : (old new : Records) (before now : Level) → old ≡ changes (clean_level station q) start → before ≡ level_before (clean_level station q) start
       → now ≡ level_in k j → new ≡ old ++ new_record start before now

@@ -3,6 +3,7 @@
 #![tactic(auto)]
 
 mod clean;
+mod laws;
 mod noisy;
 mod symbol;
 #[cfg(test)]
@@ -10,6 +11,7 @@ mod tests;
 mod text;
 mod trial;
 
+pub use laws::{clean_logs_tell_what_is_sent, trials_are_logs};
 pub use trial::{
     FIRST_MINUTES, FIRST_SECONDS, MINUTE_STEP, MOST_SHIFT, STATIONS, TRIAL_SECONDS, Trial,
     TrialFault, make,
