@@ -7,5 +7,10 @@ pub mod Feed
 pub mod Trials
 pub mod Options
 pub mod Keys
+pub mod Words
+pub mod WordValues
+pub mod Orders
+pub mod OrderRanges
+pub mod WordExamples
 pub mod Refusals
 pub mod Examples

@@ -11,6 +11,9 @@ mod log_law;
 mod name;
 mod option;
 mod refusal;
+mod word_examples;
+mod word_law;
+mod words;
 
 pub use examples::{
     bad_lines, feeds, good_logs, heads_of_reports, lines_of_texts, listed_minutes,
@@ -24,3 +27,15 @@ pub use log_law::log_has_one_outcome;
 pub use name::Name;
 pub use option::OptionName;
 pub use refusal::Refusal;
+pub use word_examples::{
+    bad_values, defaults, defaults_beyond_a_run, kinds, minutes_that_no_station_sends, numbers,
+    options, options_beyond_a_run, usage,
+};
+pub use word_law::{
+    last_minutes_suit, minutes_have_one_text, numbers_have_one_text, orders_are_in_range,
+};
+pub use words::{
+    Asked, Command, DEFAULT_COUNT, DEFAULT_READERS, DEFAULT_SECONDS, DEFAULT_STEP, DEFAULT_WORKERS,
+    LEAST_COUNT, LEAST_READERS, LEAST_STEP, LEAST_WORKERS, MOST_COUNT, MOST_NUMBER, MOST_READERS,
+    MOST_STEP, MOST_WORKERS, ValueKind, Values, WordFault,
+};

@@ -1,0 +1,232 @@
+-- What words ask for is in its ranges.
+use Rattle.std.proofs.Common.{◌≡◌, ℕ, ◌<◌, ◌≤◌, Bool, true, false, ◌&&◌, nat_le, nat_lt, if◌then◌else◌, List, [], ◌∷◌, length, bytes_eq, Option, Some, None, option_map, unwrap_or, Ok, Err, ok_or, slice_index_or, IfSome, is_some, refl, ap, subst, ◌∙◌, inl, inr, arith, eqb-true, ltb-true}
+use Rattle.std.specs.Option.{option_and_then}
+use Rattle.std.specs.List.{find, list_all}
+use Rattle.std.proofs.lemmas.List.Folds.{list_all_at}
+use Rattle.std.proofs.lemmas.Option.{slice_get-get_or}
+use Rattle.std.proofs.lemmas.Bool.{and_parts, cases_Bool, leb-true, ltb-false}
+use Rattle.signal_base.specs.declared.limits.TheConstants.{START_LIMIT}
+use Rattle.signal_base.specs.declared.station.Station.{Station}
+use Rattle.definitions.specs.time.Calendar.{century_minutes}
+use Rattle.definitions.specs.codes.Allowed.{encoded_year}
+use Rattle.formats.specs.declared.option.OptionName.{OptionName}
+use Rattle.formats.specs.declared.option.OptionName.TheVariants as value
+use Rattle.formats.specs.declared.words.Command.{Command}
+use Rattle.formats.specs.declared.words.Command.TheVariants as command
+use Rattle.formats.specs.declared.words.ValueKind.{ValueKind}
+use Rattle.formats.specs.declared.words.ValueKind.TheVariants.{Number, Minute}
+use Rattle.formats.specs.declared.words.Values.{Values}
+use Rattle.formats.specs.declared.words.WordFault.TheVariants.{EmptyRange, Usage}
+use Rattle.formats.specs.OrderRanges.{IsOfKind, IsIn, IsAsked, IsFile, IsInRange}
+use Rattle.formats.specs.Orders.{Checked, ◌>>=◌, Order, certificate_of, file_at, given, judged, order_of, order_on, order_with, said_by, text_in, valued, values_of}
+use Rattle.formats.specs.Words.{Line, are_pairs, begins, certificate_option, form_of, is_line, is_value, line_of, parts_of, value_behind}
+use Rattle.formats.specs.WordValues.{default_of, kind_of, number_of, passing, read_as, suits}
+use Rattle.formats.proofs.WordMinuteLaws.{minute_of-text}
+use Rattle.formats.proofs.WordNumberLaws.{passed}
+
+-- a chain of checks that ends well, at its first check and behind it
+pub along : {A B P : Type 0} (check : Checked A) (next : A → Checked B) (b : B) → (check >>= next) ≡ Ok b → ((a : A) → check ≡ Ok a → next a ≡ Ok b → P) → P
+along (Ok a) next b e step = step a refl e
+along (Err fault) next b e step = absurd cc
+
+-- what a text says is of its kind
+said_of_kind : (kind : ValueKind) (text : List ℕ) (n : ℕ) → read_as kind text ≡ Some n → IsOfKind kind n
+said_of_kind (Number least most) text n e = by_number (number_of text) e
+  where
+    by_number : (o : Option ℕ) → option_and_then (passing (λ m. nat_le least m && nat_le m most)) o ≡ Some n → (least ≤ n) × (n ≤ most)
+    by_number None f = absurd cc
+    by_number (Some m) f =
+        let good = and_parts _ _ (passed (λ k. nat_le least k && nat_le k most) m n f).1 in
+        (leb-true _ _ good.0, leb-true _ _ good.1)
+said_of_kind Minute text n e = (minute_of-text text n e).0
+
+-- and suits the command
+said : (name : OptionName) (line : Line) (text : List ℕ) (n : ℕ) → said_by name line text ≡ Some n → IsIn name n × (suits line.command name n ≡ true)
+said name line text n = by_value (read_as (kind_of name) text) refl
+  where
+    by_value : (o : Option ℕ) → read_as (kind_of name) text ≡ o → option_and_then (passing (suits line.command name)) o ≡ Some n → IsIn name n × (suits line.command name n ≡ true)
+    by_value None is e = absurd cc
+    by_value (Some m) is e =
+        let good = passed (suits line.command name) m n e in
+        (said_of_kind (kind_of name) text n (is ∙ ap Some good.0), good.1)
+
+-- a value that is given
+given_by : (name : OptionName) (line : Line) (text : Option (List ℕ)) (o : Option ℕ) → judged name (option_map (said_by name line) text) ≡ Ok o
+    → IfSome o (λ n. IsIn name n × (suits line.command name n ≡ true))
+given_by name line None o e = let none : None ≡ o = cc in subst (λ (p : Option ℕ). IfSome p (λ n. IsIn name n × (suits line.command name n ≡ true))) none tt
+given_by name line (Some text) o e = by_said (said_by name line text) refl e
+  where
+    by_said : (p : Option ℕ) → said_by name line text ≡ p → judged name (Some p) ≡ Ok o → IfSome o (λ n. IsIn name n × (suits line.command name n ≡ true))
+    by_said None is f = absurd cc
+    by_said (Some n) is f = let some : Some n ≡ o = cc in subst (λ (p : Option ℕ). IfSome p (λ n. IsIn name n × (suits line.command name n ≡ true))) some (said name line text n is)
+
+default_in : (name : OptionName) → IsIn name (default_of name)
+default_in value.Number = (omega arith, omega arith)
+default_in value.Minute = omega arith
+default_in value.Start = (omega arith, omega arith)
+default_in value.Seconds = (omega arith, omega arith)
+default_in value.From = omega arith
+default_in value.To = omega arith
+default_in value.Workers = (omega arith, omega arith)
+default_in value.Leap = (omega arith, omega arith)
+default_in value.Step = (omega arith, omega arith)
+default_in value.Count = (omega arith, omega arith)
+default_in value.Readers = (omega arith, omega arith)
+
+-- a value or its default
+valued_in : (name : OptionName) (line : Line) (n : ℕ) → valued name line ≡ Ok n → IsIn name n
+valued_in name line n e =
+    along (given name line) (λ o. Ok (unwrap_or o (default_of name))) n e (λ o is f.
+    let same : unwrap_or o (default_of name) ≡ n = cc in
+    subst (IsIn name) same (by_given o (given_by name line (text_in line.command name line) o is)))
+  where
+    by_given : (o : Option ℕ) → IfSome o (λ n. IsIn name n × (suits line.command name n ≡ true)) → IsIn name (unwrap_or o (default_of name))
+    by_given None h = default_in name
+    by_given (Some n) h = h.0
+
+-- all values of a line
+record AreValues (line : Line) (v : Values) : Type 0 where
+  number : IsIn value.Number v.number
+  minute : valued value.Minute line ≡ Ok v.minute
+  asked : IsAsked v.asked
+  workers : IsIn value.Workers v.workers
+  step : IsIn value.Step v.step
+  count : IsIn value.Count v.count
+  readers : IsIn value.Readers v.readers
+
+-- the range isn't empty
+in_order : (b : Bool) (v w : Values) → (if b then Err EmptyRange else Ok w) ≡ Ok v → (b ≡ false) × (w ≡ v)
+in_order true v w e = absurd cc
+in_order false v w e = (refl, cc)
+
+are_values : (line : Line) (v : Values) → values_of line ≡ Ok v → AreValues line v
+are_values line v e =
+    along (valued value.Number line) _ v e (λ number number_is e1.
+    along (valued value.Minute line) _ v e1 (λ minute minute_is e2.
+    along (given value.Start line) _ v e2 (λ start start_is e3.
+    along (valued value.Seconds line) _ v e3 (λ seconds seconds_is e4.
+    along (valued value.From line) _ v e4 (λ from from_is e5.
+    along (valued value.To line) _ v e5 (λ to to_is e6.
+    along (valued value.Workers line) _ v e6 (λ workers workers_is e7.
+    along (valued value.Leap line) _ v e7 (λ leap leap_is e8.
+    along (valued value.Step line) _ v e8 (λ step step_is e9.
+    along (valued value.Count line) _ v e9 (λ count count_is e10.
+    along (valued value.Readers line) _ v e10 (λ readers readers_is e11.
+    let last = in_order (nat_lt to from) v _ e11 in
+    subst (AreValues line) last.1 (record {
+      number = valued_in value.Number line number number_is;
+      minute = minute_is;
+      asked = record {
+        start = given_range line start start_is;
+        not_short = (valued_in value.Seconds line seconds seconds_is).0;
+        not_long = (valued_in value.Seconds line seconds seconds_is).1;
+        not_empty = let le = ltb-false to from last.0 in omega arith;
+        century = let early = valued_in value.To line to to_is in omega arith;
+      };
+      workers = valued_in value.Workers line workers workers_is;
+      step = valued_in value.Step line step step_is;
+      count = valued_in value.Count line count count_is;
+      readers = valued_in value.Readers line readers readers_is;
+    }))))))))))))
+  where
+    given_range : (line : Line) (o : Option ℕ) → given value.Start line ≡ Ok o → IfSome o (λ ms. ms < START_LIMIT)
+    given_range line o is = by_given o (given_by value.Start line (text_in line.command value.Start line) o is)
+      where
+        by_given : (p : Option ℕ) → IfSome p (λ n. IsIn value.Start n × (suits line.command value.Start n ≡ true)) → IfSome p (λ ms. ms < START_LIMIT)
+        by_given None h = tt
+        by_given (Some n) h = omega (arith, h.0)
+
+-- the lines of words follow the grammar
+line_good : (commands : List Command) (words : List (List ℕ)) (line : Line) → line_of commands words ≡ Some line → is_line line ≡ true
+line_good commands words line = by_command (find (begins words) commands)
+  where
+    by_test : (b : Bool) (parts : Line) → is_line parts ≡ b → (if b then Some parts else None) ≡ Some line → is_line line ≡ true
+    by_test true parts good e = let same : parts ≡ line = cc in subst (λ l. is_line l ≡ true) same good
+    by_test false parts bad e = absurd cc
+
+    by_command : (o : Option Command) → option_and_then (λ c. let parts = parts_of c words in if is_line parts then Some parts else None) o ≡ Some line → is_line line ≡ true
+    by_command None e = absurd cc
+    by_command (Some c) e = by_test (is_line (parts_of c words)) (parts_of c words) refl e
+
+-- what stands behind an option is a value
+value_good : (options : List (List ℕ)) (option : List ℕ) (words : List (List ℕ)) → are_pairs options words ≡ true → IfSome (value_behind option words) IsFile
+value_good options option [] good = tt
+value_good options option (word ∷ []) good = absurd cc
+value_good options option (word ∷ value ∷ words) good =
+    let first = and_parts _ _ good in
+    let second = and_parts _ _ first.0 in
+    let third = and_parts _ _ second.0 in
+    by_name (bytes_eq word option) third.1 (value_good options option words first.1)
+  where
+    by_name : (b : Bool) → IsFile value → IfSome (value_behind option words) IsFile → IfSome (if b then Some value else value_behind option words) IsFile
+    by_name true here later = here
+    by_name false here later = later
+
+-- and so is what stands at a place
+place_good : (places : List (List ℕ)) (i : ℕ) → list_all is_value places ≡ true → i < length places → IsFile (slice_index_or places i [])
+place_good places i good lt =
+    elim (cases_Bool (is_value (slice_index_or places i []))) [
+      | inl fine ↦ fine
+      | inr other ↦ absurd (let bad = list_all_at is_value places i [] lt other in cc)
+    ]
+
+-- the order of a line with values that were checked
+module _ (line : Line) (v : Values) (good : is_line line ≡ true) (are : AreValues line v) where
+  counted : length line.places ≡ (form_of line.command).places
+  counted = eqb-true _ _ (and_parts _ _ (and_parts _ _ good).0).0
+
+  file_good : (i : ℕ) → i < length line.places → IsFile (file_at i line)
+  file_good i lt = place_good line.places i (and_parts _ _ (and_parts _ _ good).0).1 lt
+
+  certificate_good : IfSome (certificate_of line) IsFile
+  certificate_good = value_good (form_of line.command).options certificate_option line.pairs (and_parts _ _ good).1
+
+  -- what stands at the place of a minute suits the station
+  minute_good : (station : Station) → line.command ≡ command.Encode station → (v.minute < century_minutes) × (encoded_year station v.minute ≤ 2099)
+  minute_good station is =
+      along (given value.Minute line) (λ o. Ok (unwrap_or o (default_of value.Minute))) v.minute are.minute (λ o o_is f.
+      let there : 0 < length line.places = omega (arith, counted, ap (λ c. (form_of c).places) is) in
+      let told : text_in line.command value.Minute line ≡ Some (slice_index_or line.places 0 []) =
+      ap (λ c. text_in c value.Minute line) is ∙ slice_get-get_or line.places 0 [] there in
+      let judgement : judged value.Minute (Some (said_by value.Minute line (slice_index_or line.places 0 []))) ≡ Ok o =
+      subst (λ (t : Option (List ℕ)). judged value.Minute (option_map (said_by value.Minute line) t) ≡ Ok o) told o_is in
+      let same : unwrap_or o (default_of value.Minute) ≡ v.minute = cc in
+      by_given o same (given_by value.Minute line (Some (slice_index_or line.places 0 [])) o judgement) (some_given _ o judgement))
+    where
+      some_given : (p o : Option ℕ) → judged value.Minute (Some p) ≡ Ok o → is_some o ≡ true
+      some_given None o e = absurd cc
+      some_given (Some n) o e = let some : Some n ≡ o = cc in subst (λ (q : Option ℕ). is_some q ≡ true) some refl
+
+      by_given : (o : Option ℕ) → unwrap_or o (default_of value.Minute) ≡ v.minute → IfSome o (λ n. IsIn value.Minute n × (suits line.command value.Minute n ≡ true)) → is_some o ≡ true
+          → (v.minute < century_minutes) × (encoded_year station v.minute ≤ 2099)
+      by_given None f fine some = absurd cc
+      by_given (Some n) f fine some =
+          let early : nat_lt (encoded_year station n) 2100 ≡ true = subst (λ c. suits c value.Minute n ≡ true) is fine.1 in
+          subst (λ m. (m < century_minutes) × (encoded_year station m ≤ 2099)) f (fine.0, let lt = ltb-true _ _ early in omega arith)
+
+  order_good : (c : Command) → line.command ≡ c → IsInRange (order_with c line v)
+  order_good c is = by_command c is (counted ∙ ap (λ d. (form_of d).places) is)
+    where
+      by_command : (c : Command) → line.command ≡ c → length line.places ≡ (form_of c).places → IsInRange (order_with c line v)
+      by_command command.Decode is n = (file_good 0 (omega arith), are.asked, are.workers, certificate_good)
+      by_command command.Check is n = (file_good 0 (omega arith), file_good 1 (omega arith), are.asked)
+      by_command command.Feed is n = (file_good 0 (omega arith), are.asked, are.workers)
+      by_command (command.Encode station) is n = minute_good station is
+      by_command command.Trial is n = (are.number, are.workers)
+      by_command command.Follow is n = (file_good 0 (omega arith), are.asked, are.workers, are.step, are.count)
+      by_command command.Sweep is n = (file_good 0 (omega arith), are.asked, are.workers, certificate_good)
+      by_command command.Judge is n = (file_good 0 (omega arith), file_good 1 (omega arith), are.asked)
+      by_command command.Board is n = (file_good 0 (omega arith), file_good 1 (omega arith), are.asked, are.workers, are.step, are.count, are.readers)
+      by_command command.Irig is n = (file_good 0 (omega arith), are.asked, are.workers)
+      by_command command.IrigRead is n = file_good 0 (omega arith)
+
+pub order_in_range : (commands : List Command) (words : List (List ℕ)) (order : Order) → order_of commands words ≡ Ok order → IsInRange order
+order_in_range commands words order e =
+    along (ok_or (line_of commands words) Usage) order_on order e (λ line is f.
+    along (values_of line) _ order f (λ v v_is g.
+    let same : order_with line.command line v ≡ order = cc in
+    subst IsInRange same (order_good line v (line_good commands words line (found (line_of commands words) line is)) (are_values line v v_is) line.command refl)))
+  where
+    found : (o : Option Line) (line : Line) → ok_or o Usage ≡ Ok line → o ≡ Some line
+    found None line e = absurd cc
+    found (Some l) line e = cc

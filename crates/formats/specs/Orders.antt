@@ -1,0 +1,129 @@
+-- What words ask for: the values, in the order in which they are checked, and the order that they make.
+use Rattle.std.specs.Prelude.{ℕ, ◌+◌, ◌==◌, Bool, nat_lt, if◌then◌else◌, List, [], Option, Some, None, option_map, unwrap_or, Result, Ok, Err, slice_get, slice_index_or, ok_or}
+use Rattle.std.specs.Option.{option_and_then}
+use Rattle.signal_base.specs.declared.station.Station.{Station}
+use Rattle.formats.specs.declared.option.OptionName.{OptionName}
+use Rattle.formats.specs.declared.option.OptionName.TheVariants as value
+use Rattle.formats.specs.declared.words.Asked.{Asked}
+use Rattle.formats.specs.declared.words.Command.{Command}
+use Rattle.formats.specs.declared.words.Command.TheVariants as command
+use Rattle.formats.specs.declared.words.ValueKind.{ValueKind}
+use Rattle.formats.specs.declared.words.ValueKind.TheVariants.{Number, Minute}
+use Rattle.formats.specs.declared.words.Values.{Values}
+use Rattle.formats.specs.declared.words.WordFault.{WordFault}
+use Rattle.formats.specs.declared.words.WordFault.TheVariants.{Usage, BadNumber, BadMinute, EmptyRange}
+use Rattle.formats.specs.Options.{option_text}
+use Rattle.formats.specs.Words.{Line, certificate_option, line_of, value_behind}
+use Rattle.formats.specs.WordValues.{default_of, kind_of, passing, read_as, suits}
+
+-- what a check comes to: a value, or the first fault
+abbrev pub Checked : Type 0 → Type 0
+Checked A = Result A WordFault
+
+-- the next check, of what the check before it found
+abbrev pub and_then : {A B : Type 0} → Checked A → (A → Checked B) → Checked B
+and_then (Ok x) next = next x
+and_then (Err fault) next = Err fault
+
+infixl 10 ◌>>=◌
+abbrev pub ◌>>=◌ : {A B : Type 0} → Checked A → (A → Checked B) → Checked B
+check >>= next = and_then check next
+
+-- the text of a value, if it is given: NUMBER and MINUTE stand at places, all others behind their options
+abbrev pub text_in : Command → OptionName → Line → Option (List ℕ)
+text_in command.Trial value.Number line = slice_get line.places 0
+text_in (command.Encode station) value.Minute line = slice_get line.places 0
+text_in other name line = value_behind (option_text name) line.pairs
+
+-- the value that its text says, if it suits the command
+abbrev pub said_by : OptionName → Line → List ℕ → Option ℕ
+said_by name line text = option_and_then (passing (suits line.command name)) (read_as (kind_of name) text)
+
+-- the fault of a bad value
+abbrev pub bad : ValueKind → OptionName → WordFault
+bad (Number least most) name = BadNumber name
+bad Minute name = BadMinute name
+
+-- what comes of a text that may be given, and may say a value
+abbrev pub judged : OptionName → Option (Option ℕ) → Checked (Option ℕ)
+judged name None = Ok None
+judged name (Some None) = Err (bad (kind_of name) name)
+judged name (Some (Some n)) = Ok (Some n)
+
+-- the value, if it is given
+abbrev pub given : OptionName → Line → Checked (Option ℕ)
+given name line = judged name (option_map (said_by name line) (text_in line.command name line))
+
+-- the value or its default
+abbrev pub valued : OptionName → Line → Checked ℕ
+valued name line = given name line >>= (λ n. Ok (unwrap_or n (default_of name)))
+
+-- All values, checked in this order. The range goes to the end of the minute `--to`, and comes last.
+abbrev pub values_of : Line → Checked Values
+values_of line =
+    valued value.Number line >>= (λ number.
+    valued value.Minute line >>= (λ minute.
+    given value.Start line >>= (λ start.
+    valued value.Seconds line >>= (λ seconds.
+    valued value.From line >>= (λ from.
+    valued value.To line >>= (λ to.
+    valued value.Workers line >>= (λ workers.
+    valued value.Leap line >>= (λ leap.
+    valued value.Step line >>= (λ step.
+    valued value.Count line >>= (λ count.
+    valued value.Readers line >>= (λ readers.
+    if nat_lt to from then Err EmptyRange
+    else Ok (record {
+      number = number;
+      minute = minute;
+      asked = record { start = start; seconds = seconds; from = from; to = to + 1 };
+      workers = workers;
+      leap = leap == 1;
+      step = step;
+      count = count;
+      readers = readers;
+    }))))))))))))
+
+-- what words ask for
+pub data Order : Type 0 where
+  Decode : (config : List ℕ) → Asked → (workers : ℕ) → (certificate : Option (List ℕ)) → Order
+  Check : (config certificate : List ℕ) → Asked → Order
+  Feed : (config : List ℕ) → Asked → (workers : ℕ) → Order
+  Encode : Station → (minute : ℕ) → (leap : Bool) → Order
+  Trial : (number workers : ℕ) → Order
+  Follow : (config : List ℕ) → Asked → (workers step count : ℕ) → Order
+  Sweep : (config : List ℕ) → Asked → (workers : ℕ) → (certificate : Option (List ℕ)) → Order
+  Judge : (config certificate : List ℕ) → Asked → Order
+  Board : (config queries : List ℕ) → Asked → (workers step count readers : ℕ) → Order
+  Irig : (config : List ℕ) → Asked → (workers : ℕ) → Order
+  IrigRead : (file : List ℕ) → Order
+
+-- the name of a file at a place
+abbrev pub file_at : ℕ → Line → List ℕ
+file_at place line = slice_index_or line.places place []
+
+-- the name of the file for a certificate, if one is asked for
+abbrev pub certificate_of : Line → Option (List ℕ)
+certificate_of line = value_behind certificate_option line.pairs
+
+-- the order of a command with these values
+abbrev pub order_with : Command → Line → Values → Order
+order_with command.Decode line v = Decode (file_at 0 line) v.asked v.workers (certificate_of line)
+order_with command.Check line v = Check (file_at 0 line) (file_at 1 line) v.asked
+order_with command.Feed line v = Feed (file_at 0 line) v.asked v.workers
+order_with (command.Encode station) line v = Encode station v.minute v.leap
+order_with command.Trial line v = Trial v.number v.workers
+order_with command.Follow line v = Follow (file_at 0 line) v.asked v.workers v.step v.count
+order_with command.Sweep line v = Sweep (file_at 0 line) v.asked v.workers (certificate_of line)
+order_with command.Judge line v = Judge (file_at 0 line) (file_at 1 line) v.asked
+order_with command.Board line v = Board (file_at 0 line) (file_at 1 line) v.asked v.workers v.step v.count v.readers
+order_with command.Irig line v = Irig (file_at 0 line) v.asked v.workers
+order_with command.IrigRead line v = IrigRead (file_at 0 line)
+
+-- the order of a line
+abbrev pub order_on : Line → Checked Order
+order_on line = values_of line >>= (λ values. Ok (order_with line.command line values))
+
+-- the order that words with one of these commands give, or why they are refused
+abbrev pub order_of : List Command → List (List ℕ) → Checked Order
+order_of commands words = ok_or (line_of commands words) Usage >>= order_on
