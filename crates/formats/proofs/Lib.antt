@@ -6,3 +6,4 @@ pub mod WordMinuteLaws
 pub mod WordLimitLaws
 pub mod OrderRangeLaws
 pub mod WordExampleLaws
+pub mod LineOfLaws

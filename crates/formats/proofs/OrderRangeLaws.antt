@@ -1,5 +1,5 @@
 -- What words ask for is in its ranges.
-use Rattle.std.proofs.Common.{◌≡◌, ℕ, ◌<◌, ◌≤◌, Bool, true, false, ◌&&◌, nat_le, nat_lt, if◌then◌else◌, List, [], ◌∷◌, length, bytes_eq, Option, Some, None, option_map, unwrap_or, Ok, Err, ok_or, slice_index_or, IfSome, is_some, refl, ap, subst, ◌∙◌, inl, inr, arith, eqb-true, ltb-true}
+use Rattle.std.proofs.Common.{◌≡◌, ℕ, ◌<◌, ◌≤◌, Bool, true, false, ◌&&◌, nat_le, nat_lt, if◌then◌else◌, List, [], ◌∷◌, length, take, drop, bytes_eq, Option, Some, None, option_map, unwrap_or, Ok, Err, ok_or, slice_index_or, IfSome, is_some, refl, ap, subst, ◌∙◌, inl, inr, arith, eqb-true, ltb-true}
 use Rattle.std.specs.Option.{option_and_then}
 use Rattle.std.specs.List.{find, list_all}
 use Rattle.std.proofs.lemmas.List.Folds.{list_all_at}
@@ -17,10 +17,11 @@ use Rattle.formats.specs.declared.words.ValueKind.{ValueKind}
 use Rattle.formats.specs.declared.words.ValueKind.TheVariants.{Number, Minute}
 use Rattle.formats.specs.declared.words.Values.{Values}
 use Rattle.formats.specs.declared.words.WordFault.TheVariants.{EmptyRange, Usage}
-use Rattle.formats.specs.OrderRanges.{IsOfKind, IsIn, IsAsked, IsFile, IsInRange}
+use Rattle.formats.specs.OrderRanges.{IsOfKind, IsIn, IsAsked, IsFile, IsInRange, is_run_order}
 use Rattle.formats.specs.Orders.{Checked, ◌>>=◌, Order, certificate_of, file_at, given, judged, order_of, order_on, order_with, said_by, text_in, valued, values_of}
-use Rattle.formats.specs.Words.{Line, are_pairs, begins, certificate_option, form_of, is_line, is_value, line_of, parts_of, value_behind}
+use Rattle.formats.specs.Words.{Line, are_pairs, begins, certificate_option, form_of, good_line, is_line, is_run, is_value, line_of, reach_commands, run_commands, value_behind}
 use Rattle.formats.specs.WordValues.{default_of, kind_of, number_of, passing, read_as, suits}
+use Rattle.formats.proofs.LineOfLaws.{line_good, reach_line, run_line}
 use Rattle.formats.proofs.WordMinuteLaws.{minute_of-text}
 use Rattle.formats.proofs.WordNumberLaws.{passed}
 
@@ -41,7 +42,7 @@ said_of_kind (Number least most) text n e = by_number (number_of text) e
 said_of_kind Minute text n e = (minute_of-text text n e).0
 
 -- and suits the command
-said : (name : OptionName) (line : Line) (text : List ℕ) (n : ℕ) → said_by name line text ≡ Some n → IsIn name n × (suits line.command name n ≡ true)
+said : (name : OptionName) (line : Line) (text : List ℕ) (n : ℕ) → said_by line.command name text ≡ Some n → IsIn name n × (suits line.command name n ≡ true)
 said name line text n = by_value (read_as (kind_of name) text) refl
   where
     by_value : (o : Option ℕ) → read_as (kind_of name) text ≡ o → option_and_then (passing (suits line.command name)) o ≡ Some n → IsIn name n × (suits line.command name n ≡ true)
@@ -51,12 +52,12 @@ said name line text n = by_value (read_as (kind_of name) text) refl
         (said_of_kind (kind_of name) text n (is ∙ ap Some good.0), good.1)
 
 -- a value that is given
-given_by : (name : OptionName) (line : Line) (text : Option (List ℕ)) (o : Option ℕ) → judged name (option_map (said_by name line) text) ≡ Ok o
+given_by : (name : OptionName) (line : Line) (text : Option (List ℕ)) (o : Option ℕ) → judged name (option_map (said_by line.command name) text) ≡ Ok o
     → IfSome o (λ n. IsIn name n × (suits line.command name n ≡ true))
 given_by name line None o e = let none : None ≡ o = cc in subst (λ (p : Option ℕ). IfSome p (λ n. IsIn name n × (suits line.command name n ≡ true))) none tt
-given_by name line (Some text) o e = by_said (said_by name line text) refl e
+given_by name line (Some text) o e = by_said (said_by line.command name text) refl e
   where
-    by_said : (p : Option ℕ) → said_by name line text ≡ p → judged name (Some p) ≡ Ok o → IfSome o (λ n. IsIn name n × (suits line.command name n ≡ true))
+    by_said : (p : Option ℕ) → said_by line.command name text ≡ p → judged name (Some p) ≡ Ok o → IfSome o (λ n. IsIn name n × (suits line.command name n ≡ true))
     by_said None is f = absurd cc
     by_said (Some n) is f = let some : Some n ≡ o = cc in subst (λ (p : Option ℕ). IfSome p (λ n. IsIn name n × (suits line.command name n ≡ true))) some (said name line text n is)
 
@@ -78,7 +79,7 @@ valued_in : (name : OptionName) (line : Line) (n : ℕ) → valued name line ≡
 valued_in name line n e =
     along (given name line) (λ o. Ok (unwrap_or o (default_of name))) n e (λ o is f.
     let same : unwrap_or o (default_of name) ≡ n = cc in
-    subst (IsIn name) same (by_given o (given_by name line (text_in line.command name line) o is)))
+    subst (IsIn name) same (by_given o (given_by name line (text_in name line) o is)))
   where
     by_given : (o : Option ℕ) → IfSome o (λ n. IsIn name n × (suits line.command name n ≡ true)) → IsIn name (unwrap_or o (default_of name))
     by_given None h = default_in name
@@ -130,23 +131,11 @@ are_values line v e =
     }))))))))))))
   where
     given_range : (line : Line) (o : Option ℕ) → given value.Start line ≡ Ok o → IfSome o (λ ms. ms < START_LIMIT)
-    given_range line o is = by_given o (given_by value.Start line (text_in line.command value.Start line) o is)
+    given_range line o is = by_given o (given_by value.Start line (text_in value.Start line) o is)
       where
         by_given : (p : Option ℕ) → IfSome p (λ n. IsIn value.Start n × (suits line.command value.Start n ≡ true)) → IfSome p (λ ms. ms < START_LIMIT)
         by_given None h = tt
         by_given (Some n) h = omega (arith, h.0)
-
--- the lines of words follow the grammar
-line_good : (commands : List Command) (words : List (List ℕ)) (line : Line) → line_of commands words ≡ Some line → is_line line ≡ true
-line_good commands words line = by_command (find (begins words) commands)
-  where
-    by_test : (b : Bool) (parts : Line) → is_line parts ≡ b → (if b then Some parts else None) ≡ Some line → is_line line ≡ true
-    by_test true parts good e = let same : parts ≡ line = cc in subst (λ l. is_line l ≡ true) same good
-    by_test false parts bad e = absurd cc
-
-    by_command : (o : Option Command) → option_and_then (λ c. let parts = parts_of c words in if is_line parts then Some parts else None) o ≡ Some line → is_line line ≡ true
-    by_command None e = absurd cc
-    by_command (Some c) e = by_test (is_line (parts_of c words)) (parts_of c words) refl e
 
 -- what stands behind an option is a value
 value_good : (options : List (List ℕ)) (option : List ℕ) (words : List (List ℕ)) → are_pairs options words ≡ true → IfSome (value_behind option words) IsFile
@@ -186,10 +175,10 @@ module _ (line : Line) (v : Values) (good : is_line line ≡ true) (are : AreVal
   minute_good station is =
       along (given value.Minute line) (λ o. Ok (unwrap_or o (default_of value.Minute))) v.minute are.minute (λ o o_is f.
       let there : 0 < length line.places = omega (arith, counted, ap (λ c. (form_of c).places) is) in
-      let told : text_in line.command value.Minute line ≡ Some (slice_index_or line.places 0 []) =
-      ap (λ c. text_in c value.Minute line) is ∙ slice_get-get_or line.places 0 [] there in
-      let judgement : judged value.Minute (Some (said_by value.Minute line (slice_index_or line.places 0 []))) ≡ Ok o =
-      subst (λ (t : Option (List ℕ)). judged value.Minute (option_map (said_by value.Minute line) t) ≡ Ok o) told o_is in
+      let told : text_in value.Minute line ≡ Some (slice_index_or line.places 0 []) =
+      rw is (slice_get-get_or line.places 0 [] there) in
+      let judgement : judged value.Minute (Some (said_by line.command value.Minute (slice_index_or line.places 0 []))) ≡ Ok o =
+      subst (λ (t : Option (List ℕ)). judged value.Minute (option_map (said_by line.command value.Minute) t) ≡ Ok o) told o_is in
       let same : unwrap_or o (default_of value.Minute) ≡ v.minute = cc in
       by_given o same (given_by value.Minute line (Some (slice_index_or line.places 0 [])) o judgement) (some_given _ o judgement))
     where
@@ -220,13 +209,42 @@ module _ (line : Line) (v : Values) (good : is_line line ≡ true) (are : AreVal
       by_command command.Irig is n = (file_good 0 (omega arith), are.asked, are.workers)
       by_command command.IrigRead is n = file_good 0 (omega arith)
 
-pub order_in_range : (commands : List Command) (words : List (List ℕ)) (order : Order) → order_of commands words ≡ Ok order → IsInRange order
-order_in_range commands words order e =
+-- the line of an order, and its values
+of_line : {P : Type 0} (commands : List Command) (words : List (List ℕ)) (order : Order) → order_of commands words ≡ Ok order
+    → ((line : Line) (v : Values) → line_of commands words ≡ Some line → values_of line ≡ Ok v → order_with line.command line v ≡ order → P) → P
+of_line commands words order e step =
     along (ok_or (line_of commands words) Usage) order_on order e (λ line is f.
-    along (values_of line) _ order f (λ v v_is g.
-    let same : order_with line.command line v ≡ order = cc in
-    subst IsInRange same (order_good line v (line_good commands words line (found (line_of commands words) line is)) (are_values line v v_is) line.command refl)))
+    along (values_of line) _ order f (λ v v_is g. step line v (found (line_of commands words) line is) v_is cc))
   where
     found : (o : Option Line) (line : Line) → ok_or o Usage ≡ Ok line → o ≡ Some line
     found None line e = absurd cc
     found (Some l) line e = cc
+
+pub order_in_range : (commands : List Command) (words : List (List ℕ)) (order : Order) → order_of commands words ≡ Ok order → IsInRange order
+order_in_range commands words order e =
+    of_line commands words order e (λ line v is v_is same.
+    subst IsInRange same (order_good line v (line_good commands words line is) (are_values line v v_is) line.command refl))
+
+-- an order is one of a run if its command is
+order_runs : (c : Command) (line : Line) (v : Values) → is_run_order (order_with c line v) ≡ is_run c
+order_runs command.Decode line v = refl
+order_runs command.Check line v = refl
+order_runs command.Feed line v = refl
+order_runs (command.Encode station) line v = refl
+order_runs command.Trial line v = refl
+order_runs command.Follow line v = refl
+order_runs command.Sweep line v = refl
+order_runs command.Judge line v = refl
+order_runs command.Board line v = refl
+order_runs command.Irig line v = refl
+order_runs command.IrigRead line v = refl
+
+pub run_order : (words : List (List ℕ)) (order : Order) → order_of run_commands words ≡ Ok order → is_run_order order ≡ true
+run_order words order e =
+    of_line run_commands words order e (λ line v is v_is same.
+    subst (λ o. is_run_order o ≡ true) same (order_runs line.command line v ∙ run_line words line is))
+
+pub reach_order : (words : List (List ℕ)) (order : Order) → order_of reach_commands words ≡ Ok order → is_run_order order ≡ false
+reach_order words order e =
+    of_line reach_commands words order e (λ line v is v_is same.
+    subst (λ o. is_run_order o ≡ false) same (order_runs line.command line v ∙ reach_line words line is))

@@ -1,5 +1,5 @@
 -- The ranges of what words ask for.
-use Rattle.std.specs.Prelude.{ℕ, ◌≡◌, ◌<◌, ◌≤◌, true, List, IfSome}
+use Rattle.std.specs.Prelude.{ℕ, ◌≡◌, ◌<◌, ◌≤◌, Bool, false, true, List, IfSome}
 use Rattle.signal_base.specs.declared.limits.TheConstants.{LEAST_SECONDS, MOST_SECONDS, START_LIMIT}
 use Rattle.definitions.specs.time.Calendar.{century_minutes}
 use Rattle.definitions.specs.codes.Allowed.{encoded_year}
@@ -49,3 +49,13 @@ IsInRange (Board config queries asked workers step count readers) =
     × IsIn value.Readers readers
 IsInRange (Irig config asked workers) = IsFile config × IsAsked asked × IsIn value.Workers workers
 IsInRange (IrigRead file) = IsFile file
+
+-- whether an order is one of a run
+abbrev pub is_run_order : Order → Bool
+is_run_order (Follow config asked workers step count) = false
+is_run_order (Sweep config asked workers certificate) = false
+is_run_order (Judge config certificate asked) = false
+is_run_order (Board config queries asked workers step count readers) = false
+is_run_order (Irig config asked workers) = false
+is_run_order (IrigRead file) = false
+is_run_order other = true

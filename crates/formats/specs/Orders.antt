@@ -1,5 +1,5 @@
 -- What words ask for: the values, in the order in which they are checked, and the order that they make.
-use Rattle.std.specs.Prelude.{ℕ, ◌+◌, ◌==◌, Bool, nat_lt, if◌then◌else◌, List, [], Option, Some, None, option_map, unwrap_or, Result, Ok, Err, slice_get, slice_index_or, ok_or}
+use Rattle.std.specs.Prelude.{ℕ, ◌+◌, ◌==◌, Bool, false, true, nat_lt, if◌then◌else◌, List, [], Option, Some, None, option_map, unwrap_or, Result, Ok, Err, slice_get, slice_index_or, ok_or}
 use Rattle.std.specs.Option.{option_and_then}
 use Rattle.signal_base.specs.declared.station.Station.{Station}
 use Rattle.formats.specs.declared.option.OptionName.{OptionName}
@@ -29,15 +29,19 @@ infixl 10 ◌>>=◌
 abbrev pub ◌>>=◌ : {A B : Type 0} → Checked A → (A → Checked B) → Checked B
 check >>= next = and_then check next
 
--- the text of a value, if it is given: NUMBER and MINUTE stand at places, all others behind their options
-abbrev pub text_in : Command → OptionName → Line → Option (List ℕ)
-text_in command.Trial value.Number line = slice_get line.places 0
-text_in (command.Encode station) value.Minute line = slice_get line.places 0
-text_in other name line = value_behind (option_text name) line.pairs
+-- NUMBER of a trial and MINUTE of an encode stand at a place, all other values behind their options
+abbrev pub is_placed : Command → OptionName → Bool
+is_placed command.Trial value.Number = true
+is_placed (command.Encode station) value.Minute = true
+is_placed other name = false
 
--- the value that its text says, if it suits the command
-abbrev pub said_by : OptionName → Line → List ℕ → Option ℕ
-said_by name line text = option_and_then (passing (suits line.command name)) (read_as (kind_of name) text)
+-- the text of a value, if it is given
+abbrev pub text_in : OptionName → Line → Option (List ℕ)
+text_in name line = if is_placed line.command name then slice_get line.places 0 else value_behind (option_text name) line.pairs
+
+-- the value that a text says, if it suits the command
+abbrev pub said_by : Command → OptionName → List ℕ → Option ℕ
+said_by command name text = option_and_then (passing (suits command name)) (read_as (kind_of name) text)
 
 -- the fault of a bad value
 abbrev pub bad : ValueKind → OptionName → WordFault
@@ -52,7 +56,7 @@ judged name (Some (Some n)) = Ok (Some n)
 
 -- the value, if it is given
 abbrev pub given : OptionName → Line → Checked (Option ℕ)
-given name line = judged name (option_map (said_by name line) (text_in line.command name line))
+given name line = judged name (option_map (said_by line.command name) (text_in name line))
 
 -- the value or its default
 abbrev pub valued : OptionName → Line → Checked ℕ

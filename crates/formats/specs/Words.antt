@@ -50,6 +50,16 @@ run_commands = Decode ∷ Check ∷ Feed ∷ Encode Dcf77 ∷ Encode Msf ∷ Enc
 abbrev pub reach_commands : List Command
 reach_commands = Follow ∷ Sweep ∷ Judge ∷ Board ∷ Irig ∷ IrigRead ∷ []
 
+-- whether a command is one of a run
+abbrev pub is_run : Command → Bool
+is_run Follow = false
+is_run Sweep = false
+is_run Judge = false
+is_run Board = false
+is_run Irig = false
+is_run IrigRead = false
+is_run other = true
+
 -- what stands at a place or behind an option isn't empty and doesn't begin with -
 abbrev pub is_value : List ℕ → Bool
 is_value [] = false
@@ -80,19 +90,22 @@ is_line line =
     length line.places == (form_of line.command).places && list_all is_value line.places
     && are_pairs (form_of line.command).options line.pairs
 
--- the words that begin so, as the line of this command
-abbrev pub parts_of : Command → List (List ℕ) → Line
-parts_of command words =
-    let behind = drop (length (form_of command).words) words in
-    record { command = command; places = take (form_of command).places behind; pairs = drop (form_of command).places behind }
+-- the line, if it follows the grammar
+abbrev pub good_line : Line → Option Line
+good_line line = if is_line line then Some line else None
+
+-- the line of this command with these words behind its own
+abbrev pub line_behind : Command → List (List ℕ) → Option Line
+line_behind command behind =
+    good_line (record { command = command; places = take (form_of command).places behind; pairs = drop (form_of command).places behind })
 
 -- the words begin with those of the command
 abbrev pub begins : List (List ℕ) → Command → Bool
 begins words command = starts_with bytes_eq words (form_of command).words
 
--- the line of the one of these commands with which the words begin, if they follow the grammar
+-- the line of the one of these commands with which the words begin
 abbrev pub line_of : List Command → List (List ℕ) → Option Line
 line_of commands words =
     option_and_then
-    (λ command. let line = parts_of command words in if is_line line then Some line else None)
+    (λ command. line_behind command (drop (length (form_of command).words) words))
     (find (begins words) commands)

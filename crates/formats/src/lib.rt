@@ -33,6 +33,7 @@ pub use word_examples::{
 };
 pub use word_law::{
     last_minutes_suit, minutes_have_one_text, numbers_have_one_text, orders_are_in_range,
+    words_keep_to_their_commands,
 };
 pub use words::{
     Asked, Command, DEFAULT_COUNT, DEFAULT_READERS, DEFAULT_SECONDS, DEFAULT_STEP, DEFAULT_WORKERS,

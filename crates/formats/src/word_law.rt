@@ -1,6 +1,6 @@
 //! Laws of the command line: a number and a minute have one text each, and what words ask for is in its ranges.
 
-ghost use Rattle.std.specs.Prelude.{ℕ, ◌≡◌, ◌<◌, ◌-◌, ◌^◌, List, Ok, Some, nat_le};
+ghost use Rattle.std.specs.Prelude.{ℕ, ◌≡◌, ◌<◌, ◌-◌, ◌^◌, List, Ok, Some, false, nat_le, true};
 ghost use Rattle.std.specs.Fmt.{decimal};
 ghost use Rattle.definitions.specs.time.Calendar.{century_minutes};
 ghost use Rattle.definitions.specs.time.Spelling.{minute_text};
@@ -8,8 +8,9 @@ ghost use Rattle.signal_base.specs.declared.station.Station.TheVariants.{Dcf77, 
 ghost use Rattle.formats.specs.declared.option.OptionName.TheVariants.{Minute};
 ghost use Rattle.formats.specs.declared.words.Command.{Command};
 ghost use Rattle.formats.specs.declared.words.Command.TheVariants.{Encode};
-ghost use Rattle.formats.specs.OrderRanges.{IsInRange};
+ghost use Rattle.formats.specs.OrderRanges.{IsInRange, is_run_order};
 ghost use Rattle.formats.specs.Orders.{Order, order_of};
+ghost use Rattle.formats.specs.Words.{Line, is_run, line_of, reach_commands, run_commands};
 ghost use Rattle.formats.specs.WordValues.{minute_of, number_of, suits};
 
 /// A text says a number only if it is the decimal text of it, and each number of 64 bits is said by that text.
@@ -37,4 +38,12 @@ pub fn last_minutes_suit()
 /// their option, some minutes of the century are asked for, and a minute to be sent is one that the station can send.
 pub fn orders_are_in_range()
     ensures { (commands : List Command) (words : List (List ℕ)) (order : Order) → order_of commands words ≡ Ok order → IsInRange order }
+{}
+
+/// Words for a run have a command of a run and ask for an order of a run, and words beyond it don't.
+pub fn words_keep_to_their_commands()
+    ensures run { (words : List (List ℕ)) (line : Line) → line_of run_commands words ≡ Some line → is_run line.command ≡ true }
+    ensures reach { (words : List (List ℕ)) (line : Line) → line_of reach_commands words ≡ Some line → is_run line.command ≡ false }
+    ensures run_order { (words : List (List ℕ)) (order : Order) → order_of run_commands words ≡ Ok order → is_run_order order ≡ true }
+    ensures reach_order { (words : List (List ℕ)) (order : Order) → order_of reach_commands words ≡ Ok order → is_run_order order ≡ false }
 {}

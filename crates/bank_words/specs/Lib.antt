@@ -1,0 +1,4 @@
+pub mod Gives
+pub mod Own
+pub mod Plain
+pub mod Seen
