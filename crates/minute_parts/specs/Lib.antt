@@ -1,0 +1,5 @@
+pub mod Overlay
+pub mod Dates
+pub mod Pieces
+pub mod Runs
+pub mod Parts
