@@ -4,3 +4,4 @@ pub mod PieceLaws
 pub mod RunLaws
 pub mod EndLaws
 pub mod PartLaws
+pub mod FillLaws

@@ -8,9 +8,10 @@ use Rattle.definitions.specs.codes.Allowed.{allowed, encoded_year}
 use Rattle.minute_parts.specs.declared.dates.DateFacts.{DateFacts}
 use Rattle.minute_parts.specs.declared.runs.Run.{Run}
 use Rattle.minute_parts.specs.Overlay.{overlay}
-use Rattle.minute_parts.specs.Dates.{date_facts, date_part, date_set, facts_where, shift_by, time_part, time_set}
+use Rattle.minute_parts.specs.Dates.{date_facts, date_part, date_set, facts_where, shift_by, some_date, time_part, time_set}
 use Rattle.minute_parts.specs.Runs.{Covers, first_of, last_of, run_at, run_by}
 use Rattle.minute_parts.specs.Parts.{IsInRun, IsPartTable, PartTable, local_time, part_where, set_in_run, times_at}
+use Rattle.minute_parts.proofs.SplitLaws.{sent_code}
 use Rattle.minute_parts.proofs.FactLaws.{allowed_by_parts, in_date_part, in_time_part}
 
 long_time : (station : Station) (u : ℕ) → length (time_part station u) ≡ 60
@@ -49,6 +50,15 @@ module _ (station : Station) (times : List (List ℕ)) (runs : List Run) (date :
       let last : i ≡ last_of runs = omega (arith, over) in
       omega (arith, ap (first_of runs) last, begun)
 
+  -- what the parts tell of a second
+  time_at : (u s : ℕ) → u < 1440 → s < 60 → get_or (times_at table u) s 0 ≡ time_set station u s
+  time_at u s lt within = ap (λ xs. get_or xs s 0) (each u lt) ∙ in_time_part station u s within
+
+  date_at : (announced : Bool) (i s : ℕ) → i < length runs → s < 60
+      → get_or (part_where announced (run_at runs i)) s 0 ≡ date_set station (facts_where announced (facts i)) s
+  date_at announced i s lt within =
+      ap (λ xs. get_or xs s 0) (part_at announced i lt) ∙ in_date_part station (facts_where announced (facts i)) s within
+
   -- what a second carries by the parts of any facts that are the run's
   by_run : (announced : Bool) (i t s : ℕ) → IsInRun table t i → minute_length announced t ≡ 60 → s < 60
       → allowed station announced (t, s) ≡ set_in_run table announced (run_at runs i) t s
@@ -73,9 +83,9 @@ module _ (station : Station) (times : List (List ℕ)) (runs : List Run) (date :
     begins = covered.begins;
     rise = λ i lt. rise_by i lt _ refl;
     ends = ends;
-    time_alone = λ u s lt within e.
-        ap (λ xs. get_or xs s 0) (each u lt) ∙ in_time_part station u s within ∙ rw e refl;
-    date_alone = λ announced i s lt within e.
-        ap (λ xs. get_or xs s 0) (part_at announced i lt) ∙ in_date_part station (facts_where announced (facts i)) s within ∙ rw e refl;
+    time_told = λ u s lt within e. rw (time_at u s lt within, e) (sent_code station some_date u s within);
+    time_alone = λ u s lt within e. time_at u s lt within ∙ rw e refl;
+    date_told = λ announced i s lt within e. rw (date_at announced i s lt within, e) (sent_code station (facts_where announced (facts i)) 0 s within);
+    date_alone = λ announced i s lt within e. date_at announced i s lt within ∙ rw e refl;
     tells = by_run;
   }

@@ -50,7 +50,7 @@ one_symbol x = pow_pos x
 abbrev IsSent : ℕ → Type 0
 IsSent set = 0 < set
 
-sent_code : (station : Station) (f : DateFacts) (u s : ℕ) → s < 60 → 0 < set_by station f u s
+pub sent_code : (station : Station) (f : DateFacts) (u s : ℕ) → s < 60 → 0 < set_by station f u s
 sent_code Dcf77 f u s lt =
     sent_in_minute s _ lt
     (either IsSent (s == 59) _ _ (one_symbol dcf.no_reduction)

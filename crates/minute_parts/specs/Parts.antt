@@ -48,8 +48,12 @@ pub record IsPartTable (p : PartTable) : Type 0 where
   pub begins : first_of p.runs 0 ≡ 0
   pub rise : (i : ℕ) → i < length p.runs → first_of p.runs i < end_of_run p.runs p.end i
   pub ends : (t : ℕ) → t < p.end ↔ ((t < century_minutes) × (encoded_year p.station t ≤ 2099))
-  -- each part tells of its own seconds alone
+  -- each part tells something of its own seconds, and nothing of the others; those that JJY gives up for its call sign the
+  -- date tells too
+  pub time_told : (u s : ℕ) → u < minutes_per_day → s < 60 → tells_time p.station u s ≡ true → 0 < slice_index (times_at p u) s
   pub time_alone : (u s : ℕ) → u < minutes_per_day → s < 60 → tells_time p.station u s ≡ false → slice_index (times_at p u) s ≡ 0
+  pub date_told : (announced : Bool) (i s : ℕ) → i < length p.runs → s < 60 → is_time_second p.station s ≡ false
+      → 0 < slice_index (part_where announced (run_at p.runs i)) s
   pub date_alone : (announced : Bool) (i s : ℕ) → i < length p.runs → s < 60 → is_time_second p.station s ≡ true
       → slice_index (part_where announced (run_at p.runs i)) s ≡ 0
   -- and both together tell what it may carry

@@ -2,6 +2,7 @@
 //! for each run of minutes over which it stays the same.
 #![tactic(auto)]
 
+mod date_parts;
 mod dates;
 mod parts;
 mod pieces;
@@ -9,6 +10,7 @@ mod runs;
 mod seconds;
 #[cfg(test)]
 mod tests;
+mod times;
 
 pub use parts::{Parts, PartsFault};
 pub use runs::Run;

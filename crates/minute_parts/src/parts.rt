@@ -9,7 +9,8 @@ ghost use Rattle.minute_parts.specs.Runs.{end_of_run, run_at};
 
 use crate::dates::winter_shift;
 use crate::runs::{Run, Runs, runs_of};
-use crate::seconds::{Part, time_part};
+use crate::seconds::Part;
+use crate::times::time_part;
 use civil::Civil;
 use definitions::{CENTURY_MINUTES, MINUTES_PER_DAY};
 use signal_base::Station;

@@ -6,9 +6,10 @@ ghost use Rattle.definitions.specs.time.Calendar.{century_minutes};
 ghost use Rattle.minute_parts.specs.Dates.{AreInRange, date_facts, unannounced};
 ghost use Rattle.minute_parts.specs.Runs.{Covers, Extends, Points, days_before, first_of, last_of, run_by};
 
+use crate::date_parts::date_part;
 use crate::dates::{DateFacts, date_facts, shift_by};
 use crate::pieces::piece_end;
-use crate::seconds::{Part, date_part};
+use crate::seconds::Part;
 use civil::Civil;
 use definitions::{CENTURY_DAYS, MINUTES_PER_DAY};
 use signal_base::Station;

@@ -1,7 +1,7 @@
 use Rattle.std.proofs.Common.{rules}
 use Rattle.telegram_fields.proofs.Calls.{made_by_calls}
 use Rattle.minute_parts.specs.Dates.{time_part, time_set}
-use Rattle.minute_parts.proofs.seconds.time_part.Goals as goal
+use Rattle.minute_parts.proofs.times.time_part.Goals as goal
 
 pub returns : goal.returns
 unfolding time_part
