@@ -1,0 +1,5 @@
+pub mod ColumnLaws
+pub mod MinuteLaws
+pub mod RowLaws
+pub mod SetLaws
+pub mod SumLaws

@@ -1,0 +1,137 @@
+//! What sets cost in the slots of a window, and sums of it.
+
+ghost use Rattle.std.specs.Prelude.{◌≡◌, ◌*◌, ◌<◌, ◌≤◌, IfOk, length};
+ghost use Rattle.signal_base.specs.declared.limits.TheConstants.{MOST_RECEIVERS, MOST_SECONDS};
+ghost use Rattle.definitions.specs.heard.Costs.{set_cost};
+ghost use Rattle.symbol_cost.specs.Grid.{HasCosts, cost_at};
+ghost use Rattle.symbol_cost.specs.declared.limits.TheConstants.{RECEIVER_COST};
+ghost use Rattle.slot_columns.specs.Parts.{layered_cost, minute_cost, most_cost};
+
+use crate::limits::SECONDS_PER_MINUTE;
+use crate::part::Part;
+use crate::rows::{Row, index_of, rows_of};
+use crate::sums::{sum_of_columns, sum_of_minute};
+use crate::tables::{first_columns, later_columns};
+use signal_base::Station;
+use std::alloc::{AllocError, Global};
+use std::marker::Model;
+use symbol_cost::CostGrid;
+
+/// Why the tables can't be made.
+#[derive(Clone, Copy, Debug, PartialEq, Eq)]
+pub enum ColumnsFault {
+    /// Memory wasn't found.
+    NoMemory,
+}
+
+impl From<AllocError> for ColumnsFault {
+    fn from(_fault: AllocError) -> ColumnsFault {
+        ColumnsFault::NoMemory
+    }
+}
+
+/// What each set of a station's symbols costs in the slots of a window, added up by seconds for each second in which
+/// the walk may begin.
+#[derive(Drop)]
+pub struct SlotColumns {
+    station: Station,
+    receivers: u8,
+    rows: Vec<Row>,
+    first: Vec<Row>,
+    later: Vec<Row>,
+}
+
+impl Model for SlotColumns {
+    ghost use Rattle.std.specs.Prelude.{map};
+    ghost use Rattle.symbol_cost.specs.Grid.{Grid};
+    ghost use Rattle.slot_columns.specs.Rows.{AreTables, by_symbol};
+
+    ghost Value = { Grid };
+
+    ghost view = { λ c. record { station = c.station; receivers = c.receivers; rows = map by_symbol c.rows.items } };
+
+    ghost invariant = { λ c. AreTables c.station c.receivers c.rows.items c.first.items c.later.items };
+}
+
+impl SlotColumns {
+    /// Adds up the costs of a grid.
+    pub fn make(alloc: Global, grid: &CostGrid) -> Result<SlotColumns, ColumnsFault>
+        ensures costs { IfOk result (λ columns. HasCosts columns grid.now.station (length grid.now.rows) (cost_at grid.now.rows)) }
+        ensures receivers { IfOk result (λ columns. columns.receivers ≡ grid.now.receivers) }
+    {
+        let station = grid.station();
+        let receivers = grid.receivers();
+        let rows = rows_of(alloc, grid)?;
+        let first = first_columns(alloc, &rows)?;
+        let later = later_columns(alloc, &rows)?;
+        Ok(SlotColumns {
+            station,
+            receivers,
+            rows,
+            first,
+            later,
+        })
+    }
+
+    /// Whose symbols are scored.
+    pub fn station(&self) -> Station
+        ensures { result ≡ self.now.station }
+    {
+        self.station
+    }
+
+    /// How many receivers there are, at most 8.
+    pub fn receivers(&self) -> u8
+        ensures count { result ≡ self.now.receivers }
+        ensures bound { result ≤ MOST_RECEIVERS }
+    {
+        self.receivers
+    }
+
+    /// How many slots there are, at most 1,200.
+    pub fn seconds(&self) -> u16
+        ensures count { result ≡ length self.now.rows }
+        ensures bound { result ≤ MOST_SECONDS }
+    {
+        self.rows.len() as u16
+    }
+
+    /// What a set costs in a slot: its cheapest symbol, and nothing where the second isn't scored or the set has none of
+    /// the station's symbols. It is at most 200,000 for each receiver.
+    pub fn cost(&self, slot: u16, set: u8) -> u32
+        requires { slot < length self.now.rows }
+        ensures cost { result ≡ set_cost self.now.station (cost_at self.now.rows slot) set }
+        ensures bound { result ≤ self.now.receivers * RECEIVER_COST }
+    {
+        self.rows[slot as usize][index_of(set)]
+    }
+
+    /// What the window costs where the walk begins in second `p` of a minute, below 60, that minute carries the one part
+    /// and each later minute the other. It is at most 200,000 for each slot and receiver.
+    pub fn layered_cost(&self, p: u8, first: &Part, rest: &Part) -> u32
+        requires { p < SECONDS_PER_MINUTE }
+        ensures cost { result ≡ layered_cost self.now.station (cost_at self.now.rows) (length self.now.rows) p first.now rest.now }
+        ensures bound { result ≤ most_cost self.now }
+    {
+        sum_of_columns(&self.first, &self.later, p as usize, first, rest)
+    }
+
+    /// What it costs where each minute of the walk carries this part.
+    pub fn part_cost(&self, p: u8, part: &Part) -> u32
+        requires { p < SECONDS_PER_MINUTE }
+        ensures cost { result ≡ layered_cost self.now.station (cost_at self.now.rows) (length self.now.rows) p part.now part.now }
+        ensures bound { result ≤ most_cost self.now }
+    {
+        self.layered_cost(p, part, part)
+    }
+
+    /// What the part costs in walk minute `m` alone: in those slots of the window that lie in it. It is at most 200,000
+    /// for each of 60 seconds and receiver.
+    pub fn minute_cost(&self, p: u8, m: u8, part: &Part) -> u32
+        requires { p < SECONDS_PER_MINUTE }
+        ensures cost { result ≡ minute_cost self.now.station (cost_at self.now.rows) (length self.now.rows) p m part.now }
+        ensures bound { result ≤ SECONDS_PER_MINUTE * (self.now.receivers * RECEIVER_COST) }
+    {
+        sum_of_minute(&self.rows, p as usize, m as usize, part)
+    }
+}

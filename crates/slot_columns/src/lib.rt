@@ -1,0 +1,17 @@
+//! What the sets of a window's slots cost where each minute of the walk has 60 seconds, added up second by second.
+//!
+//! A bound sums the costs of up to 1,200 slots, and a search asks for hundreds of millions of bounds. Where each second
+//! carries the same set in all minutes of the walk, or in all but the first, that sum is one over 60 seconds of sums that
+//! were made once.
+#![tactic(auto)]
+
+mod columns;
+mod limits;
+mod part;
+mod rows;
+mod sums;
+mod tables;
+
+pub use columns::{ColumnsFault, SlotColumns};
+pub use limits::SECONDS_PER_MINUTE;
+pub use part::Part;

@@ -1,0 +1,16 @@
+//! How large the tables are.
+
+/// The seconds of a minute, but for one that a leap second ends.
+pub const SECONDS_PER_MINUTE: usize = 60;
+
+/// How many sets a row of costs has: those of at most five symbols.
+pub(crate) const SETS: usize = 32;
+
+/// The most minutes of a walk after its first: 1,200 slots from second 59 on.
+pub(crate) const LATER_MINUTES: usize = 20;
+
+/// A column for each first second of a walk and each second.
+pub(crate) const COLUMNS: usize = SECONDS_PER_MINUTE * SECONDS_PER_MINUTE;
+
+/// The minutes of a day, and after them those that a walk from the day's last minute may reach.
+pub(crate) const REACHED_MINUTES: usize = 1440 + LATER_MINUTES;
