@@ -3,3 +3,4 @@ pub mod MinuteLaws
 pub mod RowLaws
 pub mod SetLaws
 pub mod SumLaws
+pub mod WalkLaws

@@ -1,18 +1,21 @@
 -- Entries of rows.
 use Rattle.std.proofs.Common.{◌≡◌, ℕ, ◌+◌, ◌-◌, ◌<◌, ◌≤◌, inl, inr, List, [], length, get_or, replicate, ap, arith}
-use Rattle.std.proofs.lemmas.Bool.{cases_order}
+use Rattle.std.proofs.lemmas.Bool.{cases_lt}
 use Rattle.std.proofs.lemmas.List.{get_or-replicate, get_or_past, length-replicate}
 use Rattle.slot_columns.specs.Rows.{at_place, entry}
 
+-- one number again and again, and 0 after it
+pub repeated : (n v k : ℕ) → get_or (replicate n v) k 0 ≤ v
+repeated n v k =
+    let long : length (replicate n v) ≡ n = length-replicate n v in
+    elim (cases_lt k n) [
+      | inl lt ↦ omega (arith, get_or-replicate n k v 0 lt)
+      | inr le ↦ omega (arith, get_or_past (replicate n v) k 0 (omega arith))
+    ]
+
 -- a row of zeros
 pub none_costs : (n set : ℕ) → ◌≡◌ {A = ℕ} (get_or (replicate n 0) set 0) 0
-none_costs n set =
-    let long : length (replicate {A = ℕ} n 0) ≡ n = length-replicate {A = ℕ} n 0 in
-    elim (cases_order set n) [
-      | inl same ↦ get_or_past (replicate n 0) set 0 (omega arith)
-      | inr (inl lt) ↦ get_or-replicate n set 0 0 lt
-      | inr (inr gt) ↦ get_or_past (replicate n 0) set 0 (omega arith)
-    ]
+none_costs n set = omega (arith, repeated n 0 set)
 
 -- past the last row
 pub past_rows : (rows : List (List ℕ)) (k set : ℕ) → length rows ≤ k → entry rows k set ≡ 0

@@ -32,7 +32,7 @@ scored station costs set is =
     (low_bit set 3 (omega arith)) (low_bit set 4 (omega arith)) in
     rw (other, is) (ap (λ xs. unwrap_or (least (map costs xs)) 0) same)
 
-none_chosen : (station : Station) (costs : ℕ → ℕ) → set_cost station costs 0 ≡ 0
+pub none_chosen : (station : Station) (costs : ℕ → ℕ) → set_cost station costs 0 ≡ 0
 none_chosen Dcf77 costs = refl
 none_chosen Msf costs = refl
 none_chosen Wwvb costs = refl

@@ -1,12 +1,14 @@
 -- Rows of costs by sets: what each set of symbols costs in a slot, or in some slots together.
-use Rattle.std.specs.Prelude.{ℕ, ◌≡◌, ◌+◌, ◌*◌, ◌-◌, ◌/◌, ◌%◌, ◌<◌, ◌≤◌, ◌==◌, nat_le, if◌then◌else◌, List, [], ◌∷◌, length, map, slice_index, slice_index_or}
+use Rattle.std.specs.Prelude.{ℕ, ◌≡◌, ◌+◌, ◌*◌, ◌-◌, ◌/◌, ◌%◌, ◌<◌, ◌≤◌, ◌==◌, Bool, false, nat_le, if◌then◌else◌, List, [], ◌∷◌, length, map, slice_index, slice_index_or}
 use Rattle.signal_base.specs.declared.station.Station.{Station}
 use Rattle.signal_base.specs.declared.limits.TheConstants.{MOST_RECEIVERS, MOST_SECONDS}
 use Rattle.definitions.specs.codes.Vocabulary.{unscored}
+use Rattle.definitions.specs.time.Calendar.{minutes_per_day}
 use Rattle.definitions.specs.heard.Costs.{set_cost, sum_below}
 use Rattle.symbol_cost.specs.Grid.{cost_at}
 use Rattle.symbol_cost.specs.declared.limits.TheConstants.{RECEIVER_COST}
-use Rattle.slot_columns.specs.declared.limits.TheConstants.{SETS, LATER_MINUTES, SECONDS_PER_MINUTE, COLUMNS}
+use Rattle.slot_columns.specs.Parts.{walk_set}
+use Rattle.slot_columns.specs.declared.limits.TheConstants.{COLUMNS, LATER_MINUTES, REACHED_MINUTES, SECONDS_PER_MINUTE, SETS}
 
 -- where a set stands in a row: at its own number, of which the five lowest bits are symbols. A second that isn't scored
 -- costs nothing, as the set without symbols
@@ -69,3 +71,33 @@ pub record AreTables (station : Station) (receivers : ℕ) (rows first later : L
   pub slots : AreSlotRows rows station receivers (cost_at (map by_symbol rows))
   pub in_first : AreColumns first (in_first rows)
   pub in_later : AreColumns later (in_later rows)
+
+-- A column of the day has, for one second, where the set of each minute stands in a row: of the minutes of a day, and of
+-- as many after it as a walk may reach, which are the day's first again.
+-- these are places in rows, for each second
+pub record AreIndices (day : List (List ℕ)) : Type 0 where
+  pub count : length day ≡ SECONDS_PER_MINUTE
+  pub bound : (s i : ℕ) → s < SECONDS_PER_MINUTE → i < REACHED_MINUTES → entry day s i < SETS
+
+-- and those of the parts of a day's minutes
+abbrev pub AreOfDay : List (List ℕ) → List (List ℕ) → Type 0
+AreOfDay day times =
+    (s i : ℕ) → s < SECONDS_PER_MINUTE → i < REACHED_MINUTES
+    → entry day s i ≡ index_of (slice_index (slice_index_or times (i % minutes_per_day) []) s)
+
+-- of these seconds no minute has a set that costs anything
+abbrev pub AreUnused : List Bool → List (List ℕ) → Type 0
+AreUnused used day = (s i : ℕ) → s < SECONDS_PER_MINUTE → slice_index_or used s false ≡ false → i < REACHED_MINUTES → entry day s i ≡ 0
+
+-- what stands in the rows for slot k of a walk that begins in second p of minute u of the day
+abbrev pub day_cost : List (List ℕ) → List (List ℕ) → ℕ → ℕ → ℕ → ℕ
+day_cost rows day p u k = entry rows k (entry day ((p + k) % SECONDS_PER_MINUTE) (u + (p + k) / SECONDS_PER_MINUTE))
+
+-- what stands there for the sets of the walk
+abbrev pub walk_sum : List (List ℕ) → List (List ℕ) → ℕ → ℕ → ℕ
+walk_sum rows times p u = sum_below (length rows) (λ k. entry rows k (index_of (walk_set times u p k)))
+
+-- the sums of all walks
+pub record AreWalkSums (table rows times : List (List ℕ)) : Type 0 where
+  pub count : length table ≡ SECONDS_PER_MINUTE
+  pub each : (p u : ℕ) → p < SECONDS_PER_MINUTE → u < minutes_per_day → entry table p u ≡ walk_sum rows times p u

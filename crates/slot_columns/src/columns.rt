@@ -36,7 +36,7 @@ impl From<AllocError> for ColumnsFault {
 pub struct SlotColumns {
     station: Station,
     receivers: u8,
-    rows: Vec<Row>,
+    pub(crate) rows: Vec<Row>,
     first: Vec<Row>,
     later: Vec<Row>,
 }

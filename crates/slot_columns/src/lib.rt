@@ -6,12 +6,18 @@
 #![tactic(auto)]
 
 mod columns;
+mod day;
 mod limits;
 mod part;
 mod rows;
 mod sums;
 mod tables;
+#[cfg(test)]
+mod tests;
+#[cfg(test)]
+mod walks;
 
 pub use columns::{ColumnsFault, SlotColumns};
 pub use limits::SECONDS_PER_MINUTE;
 pub use part::Part;
+pub use walks::WalkTable;

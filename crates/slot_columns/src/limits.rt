@@ -1,5 +1,7 @@
 //! How large the tables are.
 
+use definitions::MINUTES_PER_DAY;
+
 /// The seconds of a minute, but for one that a leap second ends.
 pub const SECONDS_PER_MINUTE: usize = 60;
 
@@ -12,5 +14,8 @@ pub(crate) const LATER_MINUTES: usize = 20;
 /// A column for each first second of a walk and each second.
 pub(crate) const COLUMNS: usize = SECONDS_PER_MINUTE * SECONDS_PER_MINUTE;
 
+/// The minutes of a day, as a length.
+pub(crate) const DAY_MINUTES: usize = MINUTES_PER_DAY as usize;
+
 /// The minutes of a day, and after them those that a walk from the day's last minute may reach.
-pub(crate) const REACHED_MINUTES: usize = 1440 + LATER_MINUTES;
+pub(crate) const REACHED_MINUTES: usize = DAY_MINUTES + LATER_MINUTES;

@@ -1,0 +1,106 @@
+//! A window of 62 seconds whose costs were worked out by hand.
+
+ghost use Rattle.signal_base.specs.Limits.{IsPriced};
+
+use crate::{Part, SlotColumns, WalkTable};
+use pulse_log::{Log, LogFault, read_log};
+use signal_base::{CostTable, Station, Tuning};
+use std::process::Abort;
+use std::test::Fail;
+use symbol_cost::CostGrid;
+
+// A low tenth costs 20 and a high one 10, so the symbols 0 to 4 of MSF cost 110, 120, 120, 130 and 150.
+fn table() -> CostTable
+    ensures { IsPriced result }
+{
+    CostTable {
+        low: [20; 101],
+        high: [10; 101],
+    }
+}
+
+fn read(rt: &(impl Abort + AllocGlobal), text: &[u8]) -> Result<Log, LogFault> {
+    assert!(rt; text.len() <= 1000);
+    read_log(rt.alloc(), text)
+}
+
+// The slots 0, 2, 60 and 61 are known, and the others cost nothing.
+const SOME_SLOTS: &[u8] = b"0 H\n1000 X\n2000 H\n3000 X\n60000 H\n62000 H\n";
+
+fn grid(rt: &(impl Abort + AllocGlobal)) -> Result<CostGrid, Fail> {
+    let logs = [read(rt, SOME_SLOTS)?];
+    let tunings = [Tuning {
+        delay: 0,
+        weight: 1,
+    }];
+    let grid = CostGrid::make(
+        rt.alloc(),
+        Station::Msf,
+        &tunings,
+        &table(),
+        &logs,
+        0,
+        0,
+        62,
+    )?;
+    Ok(grid)
+}
+
+// From second 59 on the slots 0, 2, 60 and 61 are second 59 of walk minute 0, the seconds 1 and 59 of minute 1, and
+// second 0 of minute 2.
+#[test]
+fn adds_up_parts(rt: HostRuntime) -> Result<(), Fail> {
+    let grid = grid(&rt)?;
+    let columns = SlotColumns::make(rt.alloc(), &grid)?;
+    assert_eq!(rt; columns.station(), Station::Msf);
+    assert_eq!(rt; columns.receivers(), 1);
+    let seconds = columns.seconds();
+    assert!(rt; seconds == 62);
+    for (slot, set, cost) in [
+        (0, 31, 110),
+        (0, 24, 130),
+        (1, 16, 0),
+        (2, 16, 150),
+        (61, 0, 0),
+        (61, 255, 0),
+    ] {
+        assert_eq!(rt; columns.cost(slot, set), cost, "set {set} in slot {slot}");
+    }
+
+    let zeros = [1; 60];
+    let fours = [16; 60];
+    assert_eq!(rt; columns.layered_cost(59, &zeros, &fours), 110 + 3 * 150);
+    assert_eq!(rt; columns.layered_cost(0, &zeros, &fours), 2 * 110 + 2 * 150);
+
+    let mut part: Part = [0; 60];
+    part[0] = 8;
+    part[1] = 255;
+    part[59] = 2;
+    assert_eq!(rt; columns.part_cost(59, &part), 120 + 120 + 130);
+
+    for (minute, cost) in [(0, 150), (1, 300), (2, 150), (3, 0)] {
+        assert_eq!(rt;
+            columns.minute_cost(59, minute, &fours),
+            cost,
+            "minute {minute}"
+        );
+    }
+    Ok(())
+}
+
+// The walk from the day's last minute goes on in its first two.
+#[test]
+fn walks_through_midnight(rt: HostRuntime) -> Result<(), Fail> {
+    let grid = grid(&rt)?;
+    let columns = SlotColumns::make(rt.alloc(), &grid)?;
+    let mut times = vec![in rt.alloc(); [0; 60]; 1440]?;
+    times[1439][59] = 16;
+    times[0][1] = 2;
+    times[0][59] = 8;
+    times[1][0] = 1;
+    let walks = WalkTable::make(rt.alloc(), &columns, &times)?;
+    assert_eq!(rt; walks.cost(59, 1439), 150 + 120 + 130 + 110);
+    assert_eq!(rt; walks.cost(59, 1438), 150);
+    assert_eq!(rt; walks.cost(0, 0), 110);
+    Ok(())
+}
