@@ -16,6 +16,9 @@ minute_is_long : (b : Bool) → (60 ≤ cond b 61 60) × (cond b 61 60 ≤ 61)
 minute_is_long true = (omega arith, omega arith)
 minute_is_long false = (omega arith, omega arith)
 
+pub at_most_61 : (announced : Bool) (t : ℕ) → minute_length announced t ≤ 61
+at_most_61 announced t = (minute_is_long (announced && is_leap_end t)).1
+
 module _ (announced : Bool) (place : ℕ × ℕ) (small : place.1 ≤ 60) where
   -- the seconds of a walk are at most 60
   pub next_second : (next_place announced place).1 ≤ 60

@@ -17,7 +17,8 @@ use sequence::{Answer, Sequence};
 use signal_base::Station;
 
 /// Writes the summary of a trial to standard output: its number, its station, how many receivers heard it, the sequence
-/// that was sent, and the answer that it led to.
+/// that was sent, and the answer that it led to. It takes the parts of a trial, so that this crate needn't stand on the one
+/// that makes trials.
 pub fn write_trial<F: Files>(
     files: &mut F,
     civil: &Civil,

@@ -1,8 +1,8 @@
--- The text of records that rise is a log of them.
-use Rattle.std.proofs.Common.{◌≡◌, ◌≢◌, ℕ, suc, ◌+◌, ◌<◌, ◌≤◌, inr, List, [], ◌∷◌, ◌++◌, length, get_or, refl, sym, ◌∙◌, ap, subst, arith, append_assoc, length-append}
+-- The text of records that rise is a log of them, and not too long.
+use Rattle.std.proofs.Common.{◌≡◌, ◌≢◌, ℕ, suc, ◌+◌, ◌*◌, ◌<◌, ◌≤◌, inr, List, [], ◌∷◌, ◌++◌, length, get_or, refl, sym, ◌∙◌, ap, subst, arith, append_assoc, length-append}
 use Rattle.std.specs.Fmt.{decimal}
 use Rattle.std.proofs.lemmas.Bool.{ne_eqb}
-use Rattle.std.proofs.lemmas.Fmt.{decimal_is_IsNumeral}
+use Rattle.std.proofs.lemmas.Fmt.{decimal_is_IsNumeral, length-decimal-le}
 use Rattle.std.proofs.lemmas.List.{append-nil}
 use Rattle.std.proofs.lemmas.Str.Parse.{digit_at}
 use Rattle.definitions.specs.declared.level.Level.{Level}
@@ -78,3 +78,18 @@ reads before (r ∷ rs) all from until spaced low few later e =
 
 pub is_log : (records : Records) (until : ℕ) → AreSpaced 1 0 until records → until ≤ TIME_LIMIT → length records ≤ MOST_RECORDS → IsLog (log_text records) records
 is_log records until spaced low few = reads [] records records 0 until spaced low (omega arith) (λ time le. tt) refl
+
+-- a record's line has at most 15 bytes
+short_line : (r : ℕ × Level) → r.0 < TIME_LIMIT → length (spelled r ++ line_feed ∷ []) ≤ 15
+short_line r small =
+    omega (arith, length-append (spelled r) (line_feed ∷ []), length-append (decimal r.0) (space ∷ letter r.1 ∷ []), length-decimal-le 12 r.0 (omega arith) (omega (arith, small)) (omega (arith, small)))
+
+pub short_text : (records : Records) (from until : ℕ) → AreSpaced 1 from until records → until ≤ TIME_LIMIT → length (log_text records) ≤ 15 * length records
+short_text [] from until spaced low = omega arith
+short_text (r ∷ rs) from until spaced low =
+    omega (
+      arith,
+      length-append (spelled r ++ line_feed ∷ []) (log_text rs),
+      short_line r (omega (arith, start_before_end 1 (r.0 + 1) until rs spaced.1)),
+      short_text rs (r.0 + 1) until spaced.1 low,
+    )
