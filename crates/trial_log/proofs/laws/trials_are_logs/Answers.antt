@@ -18,12 +18,12 @@ end_of_trial = 1000 * TRIAL_SECONDS + 100
 
 module _ (number receiver : ℕ) where
   heard_spaced : AreSpaced 1 0 (end_of_trial + 20) (trial_records number receiver)
-  heard_spaced = moved_spaced (noise_of number receiver) (end_of_trial) _ (clean_spaced (trial_station number) (trial_sequence number) TRIAL_SECONDS)
+  heard_spaced = moved_spaced (noise_of number receiver) end_of_trial _ (clean_spaced (trial_station number) (trial_sequence number) TRIAL_SECONDS)
 
   heard_few : length (trial_records number receiver) ≤ 12001
   heard_few =
       let clean = clean_log (trial_station number) (trial_sequence number) TRIAL_SECONDS in
-      let few = few_records 0 (end_of_trial) clean (clean_spaced (trial_station number) (trial_sequence number) TRIAL_SECONDS) in
+      let few = few_records 0 end_of_trial clean (clean_spaced (trial_station number) (trial_sequence number) TRIAL_SECONDS) in
       omega (arith, few, moved_length (noise_of number receiver) clean)
 
 pub returns-clause-heard : goal.returns-clause-heard
