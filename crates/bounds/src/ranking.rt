@@ -81,8 +81,9 @@ fn rank(bound: Option<u32>, block: &Block) -> u64
     }
 }
 
-/// The same blocks, each in its order, but all that aren't announced before all that are. A search that begins with
-/// announced years may go through all minutes of one of them before it finds a legal sequence; the others have some at once.
+/// The same blocks, those that aren't announced before those that are, and else in their order. Announced years have the
+/// least bounds, as near a leap second their unions are wide, and yet hardly a legal sequence: a search that begins with
+/// them goes through all their minutes before it finds a key to prune by.
 pub fn announced_last(alloc: Global, blocks: &[Block]) -> Result<Vec<Block>, ItemsFault>
     ensures same { IfOk result (λ list. IsPermutation blocks.now list.items) }
     ensures parted { IfOk result (λ list. list.items ≡ filter (λ b. not b.announced) blocks.now ++ filter (λ b. b.announced) blocks.now) }
@@ -91,6 +92,7 @@ pub fn announced_last(alloc: Global, blocks: &[Block]) -> Result<Vec<Block>, Ite
     Ok(list)
 }
 
+// The same list.
 fn parted(alloc: Global, blocks: &[Block]) -> Result<Vec<Block>, AllocError>
     ensures { IfOk result (λ list. list.items ≡ filter (λ b. not b.announced) blocks.now ++ filter (λ b. b.announced) blocks.now) }
 {
