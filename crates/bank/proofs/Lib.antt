@@ -3,4 +3,5 @@ pub mod SearchLaws
 pub mod KeyLaws
 pub mod WordLaws
 pub mod DayLaws
+pub mod FirstTwoLaws
 pub mod EndingLaws

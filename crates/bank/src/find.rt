@@ -7,7 +7,7 @@ ghost use Rattle.definitions.specs.time.Calendar.{century_days};
 ghost use Rattle.due.specs.Days.{day_window, no_duts};
 ghost use Rattle.bank.specs.Finding.{CanBeTold, IsDueForLog, IsFound};
 
-use crate::decide::{decide, window_of};
+use crate::day::{decide_day, window_of};
 use crate::stop::Stop;
 use crate::words::Order;
 use bank_files::{Files, ReadWhole, read_whole};
@@ -61,7 +61,7 @@ fn due_for(alloc: Global, civil: &Civil, day: u32, bytes: &[u8]) -> Result<Due, 
     ensures memory { IfErr result (λ stop. stop ≡ Stop.NoMemory) }
 {
     match read_log(alloc, bytes) {
-        Ok(log) => match decide(alloc, civil, day, log) {
+        Ok(log) => match decide_day(alloc, civil, day, log) {
             Ok(answer) => Ok(report_of(day, answer)),
             Err(_) => Err(Stop::NoMemory),
         },

@@ -1,9 +1,10 @@
 //! The program as one call over files: what is printed is what is due.
 #![tactic(auto)]
 
-mod decide;
+mod day;
 mod deliver;
 mod find;
+mod first_two;
 mod found;
 mod program;
 mod search;
@@ -12,4 +13,5 @@ mod stop;
 mod tests;
 mod words;
 
+pub use first_two::{DecideFault, decide};
 pub use program::run;

@@ -6,10 +6,10 @@ use Rattle.due.specs.LogFiles.{Bad_line}
 use Rattle.due.specs.Rules.{Bad_log, Answered}
 use Rattle.bank.proofs.find.due_for.Goals as goal
 
-pub returns-in-Ok-decide-clause-due : goal.returns-in-Ok-decide-clause-due
-returns-in-Ok-decide-clause-due c = λ words log is.
+pub returns-in-Ok-decide_day-clause-due : goal.returns-in-Ok-decide_day-clause-due
+returns-in-Ok-decide_day-clause-due c = λ words log is.
     Answered c.args.day log is c.in-Ok.log (record { fits = c.requires.limit; is_log = c.in-Ok.ensures.accepted }, refl)
-    c.in-Ok-decide.answer c.in-Ok-decide.ensures.answer c.report_of.ensures
+    c.in-Ok-decide_day.answer c.in-Ok-decide_day.ensures.answer c.report_of.ensures
 
 pub returns-in-Some-clause-due : goal.returns-in-Some-clause-due
 returns-in-Some-clause-due c = λ words log is.

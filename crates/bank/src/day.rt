@@ -33,7 +33,7 @@ pub fn window_of(day: u32) -> Window
 }
 
 /// Which sequence of the day was sent, by the log of one receiver.
-pub fn decide(alloc: Global, civil: &Civil, day: u32, log: Log) -> Result<Answer, AllocError>
+pub fn decide_day(alloc: Global, civil: &Civil, day: u32, log: Log) -> Result<Answer, AllocError>
     requires { day < century_days }
     ensures answer { IfOk result (IsDayAnswer day log) }
     ensures reportable { IfOk result (IsReportable (day_window day)) }

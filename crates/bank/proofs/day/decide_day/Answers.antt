@@ -9,7 +9,7 @@ use Rattle.due.specs.Days.{IsDayAnswer, bank_of, day_cost}
 use Rattle.symbol_cost.specs.Grid.{HasCosts}
 use Rattle.bank.specs.Plain.{IsPlain, row_cost}
 use Rattle.bank.proofs.DayLaws.{day_answer, reportable}
-use Rattle.bank.proofs.decide.decide.Goals as goal
+use Rattle.bank.proofs.day.decide_day.Goals as goal
 
 pub returns-clause-answer : goal.returns-clause-answer
 returns-clause-answer c =

@@ -1,0 +1,26 @@
+-- What the search of a window is handed, and what it finds.
+use Rattle.std.proofs.Common.{◌≡◌, ℕ, List, Option, IsPermutation, sym, subst}
+use Rattle.std.proofs.lemmas.List.Sorted.{IsPermutation-trans}
+use Rattle.signal_base.specs.declared.window.Window.{Window}
+use Rattle.definitions.specs.declared.block.Block.{Block}
+use Rattle.definitions.specs.answers.Blocks.{items}
+use Rattle.definitions.specs.answers.FirstTwo.{AreLeastTwo, IsWindowKey}
+use Rattle.symbol_cost.specs.Grid.{Grid}
+use Rattle.field_tables.specs.Grids.{grid_costs}
+use Rattle.field_tables.specs.Scored.{Scored, costs_of}
+use Rattle.workers.specs.Searches.{AreItemsOf}
+
+-- a list that is in another order than the items is one of them still
+pub still_items : (window : Window) (tables : Scored) (ws xs ys zs : List Block) → tables.window ≡ window → ws ≡ items window → xs ≡ ws → IsPermutation xs ys → IsPermutation ys zs
+    → AreItemsOf tables.window zs
+still_items window tables ws xs ys zs same are copied first second =
+    subst (λ (w : Window). AreItemsOf w zs) (sym same)
+    (subst (λ (list : List Block). IsPermutation list zs) are
+    (subst (λ (list : List Block). IsPermutation list zs) copied (IsPermutation-trans xs ys zs first second)))
+
+-- what is found by tables is found by their window and grids
+pub found_by : (window : Window) (grids : List Grid) (tables : Scored) (ceiling : ℕ) (first second : Option ℕ) → tables.window ≡ window → tables.grids ≡ grids
+    → AreLeastTwo (IsWindowKey tables.window (costs_of tables) ceiling) first second → AreLeastTwo (IsWindowKey window (grid_costs grids) ceiling) first second
+found_by window grids tables ceiling first second same_window same_grids found =
+    subst (λ (g : List Grid). AreLeastTwo (IsWindowKey window (grid_costs g) ceiling) first second) same_grids
+    (subst (λ (w : Window). AreLeastTwo (IsWindowKey w (costs_of tables) ceiling) first second) same_window found)

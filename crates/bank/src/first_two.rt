@@ -1,0 +1,90 @@
+//! The first two sequences of a window, by workers beside each other.
+
+ghost use Rattle.std.specs.Prelude.{◌≡◌, ◌≤◌, IfOk};
+ghost use Rattle.signal_base.specs.declared.limits.TheConstants.{GREATEST_COST};
+ghost use Rattle.definitions.specs.sequences.Windows.{IsWindow};
+ghost use Rattle.definitions.specs.answers.FirstTwo.{AreLeastTwo, IsWindowKey};
+ghost use Rattle.field_tables.specs.Grids.{AreGrids, grid_costs};
+ghost use Rattle.workers.specs.Searches.{AreItemsOf};
+
+use bounds::{Block, ItemsFault, announced_last, items, ranked};
+use civil::Civil;
+use field_tables::{Tables, TablesFault};
+use race_words::{Race, RaceFault};
+use signal_base::Window;
+use std::alloc::Global;
+use std::thread::Threads;
+use symbol_cost::CostGrid;
+use workers::{Found, Gate, finish, search};
+
+/// Why a window can't be decided.
+#[derive(Clone, Copy, Debug, PartialEq, Eq)]
+pub enum DecideFault {
+    /// Memory wasn't found.
+    NoMemory,
+}
+
+impl From<TablesFault> for DecideFault {
+    fn from(_fault: TablesFault) -> DecideFault {
+        DecideFault::NoMemory
+    }
+}
+
+impl From<ItemsFault> for DecideFault {
+    fn from(_fault: ItemsFault) -> DecideFault {
+        DecideFault::NoMemory
+    }
+}
+
+impl From<RaceFault> for DecideFault {
+    fn from(_fault: RaceFault) -> DecideFault {
+        DecideFault::NoMemory
+    }
+}
+
+/// The keys of the first two sequences that the window admits under the ceiling, which is at most 1,920,000,000, as far as
+/// there are any. There is one grid for each station of the window, in the order DCF77, MSF, WWVB, JJY, each with the
+/// window's slots, and all made from at most 8 receivers together. 1 to 8 workers search beside each other; how many, and
+/// in which order they come to what, doesn't change the keys. It waits for its workers, and takes all memory before they
+/// begin.
+pub fn decide<R: Threads + Sync, G: Gate + Sync>(
+    rt: &R,
+    alloc: Global,
+    civil: &Civil,
+    grids: &[CostGrid],
+    window: &Window,
+    ceiling: u32,
+    workers: u8,
+    gate: &G,
+) -> Result<Found, DecideFault>
+    requires window { IsWindow window.now }
+    requires grids { AreGrids window.now grids.now }
+    requires ceiling { ceiling ≤ GREATEST_COST }
+    requires workers { (1 ≤ workers) × (workers ≤ 8) }
+    ensures { IfOk result (λ found. AreLeastTwo (IsWindowKey window.now (grid_costs grids.now) ceiling) found.first found.second) }
+{
+    let tables = Tables::make(alloc, grids, civil, window)?;
+    let items = search_order(alloc, civil, &tables, window)?;
+    let (race, mut seat) = Race::make(alloc, workers)?;
+    search(
+        rt, &race, &mut seat, &tables, &items, ceiling, workers, gate,
+    );
+    Ok(finish(race, seat, &tables, &items, ceiling))
+}
+
+// The items of the window in the order in which they are searched: the least bounds first, and those that announce a leap
+// second after all others.
+fn search_order(
+    alloc: Global,
+    civil: &Civil,
+    tables: &Tables,
+    window: &Window,
+) -> Result<Vec<Block>, ItemsFault>
+    requires window { IsWindow window.now }
+    requires same { tables.now.window ≡ window.now }
+    ensures { IfOk result (λ list. AreItemsOf tables.now.window list.items) }
+{
+    let items = items(alloc, civil, window)?;
+    let ranked = ranked(alloc, tables, &items)?;
+    announced_last(alloc, &ranked)
+}
