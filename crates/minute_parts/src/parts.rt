@@ -33,6 +33,9 @@ impl From<AllocError> for PartsFault {
 /// What a station's seconds may carry in each minute of 60 seconds, in two parts. The one tells of the seconds that
 /// depend on the time of day, the other of those that depend on the date. What a second carries is what the first tells
 /// of it, or, where that is 0, what the second tells.
+///
+/// Contracts see the parts, the runs and where they end, as a `PartTable`. What these mean stands in `IsPartTable`, which
+/// `make` and `end` promise.
 #[derive(Drop)]
 pub struct Parts {
     station: Station,
