@@ -4,3 +4,4 @@ pub mod Agreement
 pub mod Tenths
 pub mod WalkCosts
 pub mod Unions
+pub mod Made

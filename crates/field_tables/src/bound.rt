@@ -10,7 +10,7 @@ ghost use Rattle.symbol_cost.specs.Grid.{cost_at};
 ghost use Rattle.field_tables.specs.Grids.{AreGrids, grid_costs};
 ghost use Rattle.field_tables.specs.Unions.{AreUnions};
 
-use crate::unions::{Sets, has_walk, unions};
+use crate::unions::{Sets, has_walk, unions_of};
 use civil::Civil;
 use definitions::Block;
 use signal_base::{GREATEST_COST, MOST_RECEIVERS, MOST_SECONDS, Station, Window};
@@ -41,7 +41,7 @@ fn cost_of_unions(grids: &[CostGrid], civil: &Civil, window: &Window, block: &Bl
 {
     let mut total = 0;
     for grid in grids {
-        let sets = unions(civil, grid.station(), window, block);
+        let sets = unions_of(civil, grid.station(), window, block);
         total += cost_of_sets(grid, &sets, window.seconds);
     }
     total

@@ -9,16 +9,16 @@ ghost use Rattle.definitions.specs.heard.Costs.{dut_among, dut_of, least};
 ghost use Rattle.symbol_cost.specs.Grid.{cost_at};
 ghost use Rattle.field_tables.specs.Tenths.{AreByValue, tenths_at, with_value};
 
-use crate::tenths::{ByValue, has_dut1, tenths_at, value_count};
+use crate::tenths::{ByValue, MOST_VALUES, has_dut1, tenths_at, value_count};
 use crate::walk::walk_cost;
 use civil::Civil;
 use definitions::Sequence;
 use signal_base::{Dut, Station, Window};
 use symbol_cost::CostGrid;
 
-/// What the station tells of DUT1 in a walkable sequence of the window: the tenths of a second that alone cost least, or
-/// that several do; nothing where its slots lie in two UTC days, and `Absent` where the station doesn't send it. The grid is
-/// that of the station, a station of the window, with the window's slots.
+/// What a station of the window tells of DUT1 in a walkable sequence, by the station's grid of the window's slots: `Tenths`
+/// where one value alone costs least, `Tied` where several do, `Free` where the sequence walks through two UTC days, and
+/// `Absent` where the station doesn't send it.
 pub fn dut1(grid: &CostGrid, civil: &Civil, station: Station, window: &Window, q: &Sequence) -> Dut
     requires station { grid.now.station ≡ station }
     requires heard { has_station window.now.stations station ≡ true }
@@ -56,7 +56,7 @@ fn dut_told(station: Station, told: &ByValue) -> Dut
 
 // What is told where value `i` costs least too.
 fn with_value(found: Dut, station: Station, i: usize) -> Dut
-    requires { i < 19 }
+    requires { i < MOST_VALUES }
     ensures { result ≡ with_value found (tenths_at station i) }
 {
     match found {

@@ -8,6 +8,8 @@ mod laws;
 mod plain;
 mod tables;
 mod tenths;
+#[cfg(test)]
+mod tests;
 mod unions;
 mod walk;
 

@@ -12,7 +12,7 @@ ghost use Rattle.field_tables.specs.Scored.{costs_of};
 use crate::bound::union_bound;
 use crate::grids::grid_of;
 use crate::plain::plain_cost;
-use crate::unions::{has_walk, unions};
+use crate::unions::{has_walk, unions_of};
 use civil::Civil;
 use definitions::{Block, Sequence};
 use signal_base::{GREATEST_COST, Station, Window};
@@ -50,7 +50,7 @@ impl<'a> Model for Tables<'a> {
 
 impl<'a> Tables<'a> {
     /// Tables of a window. There is one grid for each station of the window, in the order DCF77, MSF, WWVB, JJY, each with
-    /// the window's slots, and all made from at most 8 receivers together.
+    /// the window's slots, and all made from at most 8 receivers together. `NoMemory` comes only for want of memory.
     pub fn make(
         _alloc: Global,
         grids: &'a [CostGrid],
@@ -120,7 +120,7 @@ impl<'a> Tables<'a> {
         if !has_walk(self.civil, &self.window, block) {
             return None;
         }
-        Some(unions(self.civil, station, &self.window, block)[slot as usize])
+        Some(unions_of(self.civil, station, &self.window, block)[slot as usize])
     }
 
     /// What the unions of the sets that the walkable sequences of a block of the window allow cost, over all stations and

@@ -6,8 +6,11 @@ ghost use Rattle.field_tables.specs.Tenths.{tenths_at, value_count};
 
 use signal_base::Station;
 
+/// The most values of DUT1 that a station sends.
+pub const MOST_VALUES: usize = 19;
+
 /// A number for each value of DUT1, from the least on. A station that sends fewer values has the first of them.
-pub type ByValue = [u32; 19];
+pub type ByValue = [u32; MOST_VALUES];
 
 /// Whether the station sends DUT1.
 pub fn has_dut1(station: Station) -> bool
@@ -24,8 +27,8 @@ pub fn is_dut1_second(station: Station, second: u8) -> bool
     ensures { result ≡ is_dut1_second station second }
 {
     match station {
-        Station::Msf => 1 <= second && second <= 16,
-        Station::Wwvb => 36 <= second && second <= 38 || 40 <= second && second <= 43,
+        Station::Msf => matches!(second, 1..=16),
+        Station::Wwvb => matches!(second, 36..=38 | 40..=43),
         Station::Dcf77 | Station::Jjy => false,
     }
 }
@@ -33,7 +36,7 @@ pub fn is_dut1_second(station: Station, second: u8) -> bool
 /// How many values the station sends: those from -0.8 to 0.8 s at MSF, and from -0.9 to 0.9 s at WWVB.
 pub fn value_count(station: Station) -> usize
     ensures count { result ≡ value_count station }
-    ensures bound { result ≤ 19 }
+    ensures bound { result ≤ MOST_VALUES }
 {
     match station {
         Station::Msf => 17,
@@ -44,7 +47,7 @@ pub fn value_count(station: Station) -> usize
 
 /// The tenths of a second of value `i`.
 pub fn tenths_at(station: Station, i: usize) -> i8
-    requires { i < 19 }
+    requires { i < MOST_VALUES }
     ensures { result ≡ tenths_at station i }
 {
     match station {
@@ -55,7 +58,7 @@ pub fn tenths_at(station: Station, i: usize) -> i8
 
 /// The symbol, 0 or 1, by which the station tells value `i` in a second of DUT1.
 pub fn symbol_of(station: Station, i: usize, second: u8) -> u8
-    requires value { i < 19 }
+    requires value { i < MOST_VALUES }
     requires second { second ≤ 60 }
     ensures symbol { result ≡ dut1_symbol station (tenths_at station i) second }
     ensures bit { result < 2 }
@@ -68,7 +71,7 @@ pub fn symbol_of(station: Station, i: usize, second: u8) -> u8
     }
 }
 
-// MSF tells them by as many ones on end, from second 1 on where they are positive, and from second 9 on where they are
+// MSF tells tenths by as many ones on end, from second 1 on where they are positive, and from second 9 on where they are
 // negative.
 fn msf_symbol(tenths: i8, second: u8) -> u8
     requires { second ≤ 60 }
@@ -83,26 +86,24 @@ fn msf_symbol(tenths: i8, second: u8) -> u8
     }
 }
 
-// WWVB tells their sign in the seconds 36 to 38, and how many they are in binary in the seconds 40 to 43.
+// WWVB tells their sign in the seconds 36 to 38, and their number in binary in the seconds 40 to 43.
 fn wwvb_symbol(tenths: i8, second: u8) -> u8
     requires { second ≤ 60 }
     ensures symbol { result ≡ wwvb_dut1 tenths second }
     ensures bit { result < 2 }
 {
-    if 36 <= second && second <= 38 {
-        return sign_symbol(tenths, second);
-    }
-    let count = tenths.unsigned_abs() % 10;
+    let digit = tenths.unsigned_abs() % 10;
     match second {
-        40 => count / 8 % 2,
-        41 => count / 4 % 2,
-        42 => count / 2 % 2,
-        43 => count % 2,
+        36..=38 => sign_symbol(tenths, second),
+        40 => digit / 8 % 2,
+        41 => digit / 4 % 2,
+        42 => digit / 2 % 2,
+        43 => digit % 2,
         _ => 0,
     }
 }
 
-// 1 0 1 from 0 on, and 0 1 0 below.
+// The sign: 1 0 1 from 0 on, and 0 1 0 below.
 fn sign_symbol(tenths: i8, second: u8) -> u8
     ensures symbol { result ≡ wwvb_sign tenths second }
     ensures bit { result < 2 }

@@ -31,7 +31,7 @@ pub fn has_walk(civil: &Civil, window: &Window, block: &Block) -> bool
 
 /// In each slot the union of the sets that the block's walkable sequences allow the station. Where one of them isn't
 /// scored the union isn't either, since that set has all bits.
-pub fn unions(civil: &Civil, station: Station, window: &Window, block: &Block) -> Sets
+pub fn unions_of(civil: &Civil, station: Station, window: &Window, block: &Block) -> Sets
     requires window { IsWindow window.now }
     requires block { IsBlock window.now block.now }
     requires heard { has_station window.now.stations station ≡ true }

@@ -8,7 +8,7 @@ ghost use Rattle.symbol_cost.specs.Grid.{cost_at};
 ghost use Rattle.field_tables.specs.Tenths.{tenths_at, value_count};
 ghost use Rattle.field_tables.specs.WalkCosts.{IsSmall, IsWalkCost};
 
-use crate::tenths::{ByValue, is_dut1_second, symbol_of, value_count};
+use crate::tenths::{ByValue, MOST_VALUES, is_dut1_second, symbol_of, value_count};
 use civil::Civil;
 use definitions::{MINUTES_PER_DAY, Sequence};
 use sequence::{next_place, set_in};
@@ -55,7 +55,7 @@ pub fn walk_cost(
     prove!(grid.receivers() as usize <= MOST_RECEIVERS);
     let mut all = 0;
     let mut outside = 0;
-    let mut told = [0; 19];
+    let mut told = [0; MOST_VALUES];
     let mut one_day = true;
     let mut place = (q.first, q.second);
     for slot in 0..window.seconds {

@@ -10,8 +10,8 @@ use Rattle.field_tables.proofs.GridLaws.{heard_station, sum_by_station}
 use Rattle.field_tables.proofs.WalkLaws.{more_receivers}
 use Rattle.field_tables.proofs.bound.cost_of_unions.Goals as goal
 
-pub unions-sets-requires-clause-heard : goal.unions-sets-requires-clause-heard
-unions-sets-requires-clause-heard c =
+pub unions_of-sets-requires-clause-heard : goal.unions_of-sets-requires-clause-heard
+unions_of-sets-requires-clause-heard c =
     heard_station c.args.window.now c.args.grids.now c.requires.grids c.loop-grid.grid-index c.grid-item.result c.station.result c.loop-grid-test.true c.grid-item.is c.station.ensures
 
 pub loop-grid-preserved : goal.loop-grid-preserved
@@ -29,9 +29,9 @@ loop-grid-preserved c =
     record {
       cost = λ unions are.
           let price = λ (h : Grid). sum_below n (λ k. set_cost h.station (cost_at h.rows k) (unions h.station k)) in
-          let same = sum_below_same n (λ k. set_cost g.station (cost_at g.rows k) (slice_index c.unions-sets.result k)) (λ k. set_cost g.station (cost_at g.rows k) (unions g.station k))
+          let same = sum_below_same n (λ k. set_cost g.station (cost_at g.rows k) (slice_index c.unions_of-sets.result k)) (λ k. set_cost g.station (cost_at g.rows k) (unions g.station k))
           (λ k lt.
-          let one = unions_one window b station k (slice_index c.unions-sets.result k) (unions station k) (c.unions-sets.ensures k lt) (are station k heard lt) in
+          let one = unions_one window b station k (slice_index c.unions_of-sets.result k) (unions station k) (c.unions_of-sets.ensures k lt) (are station k heard lt) in
           ap (set_cost g.station (cost_at g.rows k)) (one ∙ ap (λ (s : Station). unions s k) c.station.ensures)) in
           let here : c.cost_of_sets-total.result ≡ price (get_or grids i g) = c.cost_of_sets-total.ensures.cost ∙ same ∙ ap price c.grid-item.is in
           omega (arith, sum_by_more price grids i g c.loop-grid-test.true, here, c.loop-grid.invariant.cost unions are);

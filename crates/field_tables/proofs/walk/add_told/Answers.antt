@@ -4,6 +4,7 @@ use Rattle.definitions.specs.heard.Dut1.{dut1_symbol}
 use Rattle.symbol_cost.specs.Grid.{cost_at}
 use Rattle.symbol_cost.specs.declared.limits.TheConstants.{RECEIVER_COST}
 use Rattle.symbol_cost.proofs.RowLaws.{grown_more}
+use Rattle.field_tables.specs.declared.tenths.TheConstants.{MOST_VALUES}
 use Rattle.field_tables.specs.Tenths.{tenths_at}
 use Rattle.field_tables.proofs.BitLaws.{bit_cost, bit_cost_bound, only_one, only_zero}
 use Rattle.field_tables.proofs.walk.add_told.Goals as goal
@@ -20,7 +21,7 @@ loop-i-preserved c =
     let costs = cost_at g.rows c.args.slot in
     let i = c.loop-i.i in
     let told = c.loop-i.told in
-    let long : length told ≡ 19 = c.loop-i.invariant.long in
+    let long : length told ≡ MOST_VALUES = c.loop-i.invariant.long in
     let within : i < length told = omega arith in
     let small = bit_cost_bound c.symbol_of.result c.cost-zero.result c.cost-one.result (g.receivers * RECEIVER_COST) c.cost-zero.ensures.bound c.cost-one.ensures.bound in
     let zero = c.cost-zero.ensures.cost ∙ only_zero g.station costs in

@@ -8,6 +8,7 @@ use Rattle.definitions.specs.heard.Dut1.{is_dut1_second}
 use Rattle.sequence.proofs.Walking.{place_at-zero, walked_on}
 use Rattle.symbol_cost.specs.Grid.{cost_at}
 use Rattle.symbol_cost.specs.declared.limits.TheConstants.{RECEIVER_COST}
+use Rattle.field_tables.specs.declared.tenths.TheConstants.{MOST_VALUES}
 use Rattle.field_tables.proofs.WalkLaws.{few_slots, more, more_small, none, part_le, zeros}
 use Rattle.field_tables.proofs.walk.walk_cost.Goals as goal
 
@@ -18,8 +19,8 @@ loop-slot-init c =
       here = sym (place_at-zero q);
       second = c.requires.sequence.first_second;
       long = refl;
-      cost = none c.args.station (cost_at c.args.grid.now.rows) q _ (zeros 19);
-      small = record { all = omega arith; parted = λ i. omega (arith, zeros 19 i) };
+      cost = none c.args.station (cost_at c.args.grid.now.rows) q _ (zeros MOST_VALUES);
+      small = record { all = omega arith; parted = λ i. omega (arith, zeros MOST_VALUES i) };
     }
 
 pub overflow_add-outside : goal.overflow_add-outside

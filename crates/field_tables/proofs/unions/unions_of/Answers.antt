@@ -2,8 +2,8 @@ use Rattle.std.proofs.Common.{◌+◌, ℕ, bit_or, slice_index, List, sym, ap, 
 use Rattle.definitions.specs.declared.sequence.Sequence.{Sequence}
 use Rattle.definitions.specs.sequences.Walks.{IsWalkable, set_at}
 use Rattle.field_tables.proofs.UnionLaws.{IsUnitedTo, refutes, united_all, united_none, united_with, united_without}
-use Rattle.field_tables.proofs.unions.unions.Goals.{then-walkable, else-walkable}
-use Rattle.field_tables.proofs.unions.unions.Goals as goal
+use Rattle.field_tables.proofs.unions.unions_of.Goals.{then-walkable, else-walkable}
+use Rattle.field_tables.proofs.unions.unions_of.Goals as goal
 
 pub loop-first-init : goal.loop-first-init
 loop-first-init c = λ k lt.
