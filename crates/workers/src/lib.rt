@@ -8,6 +8,8 @@ mod laws;
 mod recorder;
 mod searches;
 mod sharing;
+#[cfg(test)]
+mod tests;
 mod visitor;
 mod visits;
 

@@ -2,6 +2,7 @@
 
 ghost use Rattle.std.specs.Prelude.{◌≡◌, ◌≤◌, OnOk};
 ghost use Rattle.std.specs.Option.{ForSome};
+ghost use Rattle.definitions.specs.sequences.Windows.{IsWindow};
 ghost use Rattle.definitions.specs.answers.Blocks.{IsBlock, IsBound};
 ghost use Rattle.field_tables.specs.Scored.{costs_of};
 ghost use Rattle.signal_base.specs.declared.limits.TheConstants.{GREATEST_COST};
@@ -21,6 +22,7 @@ pub(crate) struct Visitor<'a> {
     pub tables: &'a Tables<'a>,
     pub ceiling: u32,
     pub ghost ceiling_is_a_cost: { ceiling ≤ GREATEST_COST },
+    pub ghost window_is_in_range: { IsWindow tables.now.window },
 }
 
 impl Visitor<'_> {
@@ -61,7 +63,6 @@ impl Visitor<'_> {
             seat.old.view seat.new.view recorder.old recorder.new) }
     {
         children_share_the_sequences();
-        prove!(found.block.hi <= self.tables.window().to);
         let seen = self.race.limit(seat);
         recorder.record(&found.block, found.bound, seen)?;
         let Some(bound) = found.bound else {

@@ -28,7 +28,7 @@ pub fn visit(race: &Race, seat: &mut Seat, tables: &Tables, item: &Block, ceilin
     ensures visited { HasVisited (costs_of tables.now) tables.now.window ceiling item.now seat.old.view seat.new.view }
 {
     blocks_share_the_sequences();
-    prove!(item.hi <= tables.window().to);
+    let _window = tables.window();
     let visitor = Visitor {
         race,
         tables,

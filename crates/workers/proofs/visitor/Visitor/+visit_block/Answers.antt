@@ -1,8 +1,6 @@
 -- Each return of a visit has walked its block.
-use Rattle.std.proofs.Common.{◌≡◌, ◌≢◌, ◌<◌, ◌≤◌, ap, ◌∙◌, subst, arith, rules}
+use Rattle.std.proofs.Common.{◌≡◌, ◌≢◌, ◌<◌, ◌≤◌, ◌∙◌, subst, arith, rules}
 use Rattle.std.specs.List.{AllByRecursion}
-use Rattle.signal_base.specs.declared.window.Window.{Window}
-use Rattle.definitions.specs.time.Calendar.{century_minutes}
 use Rattle.definitions.specs.declared.block.Span.TheVariants.{Minute}
 use Rattle.definitions.specs.answers.Blocks.{block_key, children}
 use Rattle.field_tables.specs.Scored.{costs_of}
@@ -46,11 +44,10 @@ loop-child-init g t c =
     let within : block_key c.in-Some.bound c.args.found.now.block ≤ limit_at s.ceiling c.limit-seen.result =
     omega (arith, c.if-key-min.false, c.block_key-key.ensures, c.min.ensures, c.ceiling_key.ensures) in
     let long : c.args.found.now.block.span ≢ Minute = λ e. search rules in
-    let century : s.tables.now.window.to ≤ century_minutes = omega (arith, c.window.ensures.ranges.century, ap (λ (w : Window). w.to) c.window.ensures.value) in
     let walking = opened_block g.K.Recorder.told (costs_of s.tables.now) s.tables.now.window s.ceiling b
     c.args.seat.now.view c.limit-seen.new.seat.view c.args.recorder.now c.record.new.self c.limit-seen.result c.limit-seen.ensures.below
     c.args.found.now.bound c.in-Some.bound c.in-Some.is c.requires.bound c.in_ok-record.ensures within long c.limit-seen.ensures.view in
-    let shorter = children_are_shorter b.span long (children b) (c.children_share_the_sequences.ensures.spans s.tables.now.window b century c.requires.block) in record {
+    let shorter = children_are_shorter b.span long (children b) (c.children_share_the_sequences.ensures.spans s.tables.now.window b s.window_is_in_range.century c.requires.block) in record {
       race = c.limit-seen.ensures.race;
       tables = c.bounded_children-children.ensures.tables;
       shorter = rw c.bounded_children-children.ensures.left shorter;

@@ -1,0 +1,273 @@
+//! What no clause says: that workers take part beside each other, that a visit goes by what others offered, and small
+//! searches from end to end.
+
+ghost use Rattle.std.specs.Prelude.{◌≡◌, ◌≤◌, IfOk, length};
+ghost use Rattle.signal_base.specs.Limits.{IsPriced};
+ghost use Rattle.workers.specs.Searches.{AreItemsOf};
+ghost use Rattle.definitions.specs.answers.Blocks.{items};
+
+use crate::recorder::Recorder;
+use crate::visitor::Visitor;
+use crate::{Found, Gate, NoGate, finish, search};
+use bounds::items;
+use civil::Civil;
+use definitions::{Block, Span, items_share_the_sequences};
+use field_tables::Tables;
+use pulse_log::read_log;
+use race_words::{Race, Seat};
+use signal_base::{CostTable, GREATEST_COST, Station, Stations, Tuning, Window};
+use std::alloc::Global;
+use std::convert::Infallible;
+use std::sync::atomic::{AtomicBool, Ordering};
+use std::test::Fail;
+use std::thread;
+use std::thread::Threads;
+use symbol_cost::CostGrid;
+
+// The end of the century, and the first minute of 2001.
+const CENTURY: u32 = 52_596_000;
+
+const YEAR_2001: u32 = 527_040;
+
+// How often a worker who is held looks for the other.
+const TURNS: u32 = 10_000_000;
+
+fn dcf77(from: u32, to: u32) -> Window
+    ensures { result ≡ record { stations = record { mask = 1 }; start = 0; phase = 0; seconds = 60; from = from; to = to } }
+{
+    Window {
+        stations: Stations { mask: 1 },
+        start: 0,
+        phase: 0,
+        seconds: 60,
+        from,
+        to,
+    }
+}
+
+fn jjy(from: u32, to: u32) -> Window
+    ensures { result ≡ record { stations = record { mask = 8 }; start = 0; phase = 0; seconds = 60; from = from; to = to } }
+{
+    Window {
+        stations: Stations { mask: 8 },
+        start: 0,
+        phase: 0,
+        seconds: 60,
+        from,
+        to,
+    }
+}
+
+fn table() -> CostTable
+    ensures { IsPriced result }
+{
+    let costs = [100; 101];
+    CostTable {
+        low: costs,
+        high: costs,
+    }
+}
+
+// A log without records, of which nothing is known, so that every sequence costs nothing.
+fn silent_grid(alloc: Global, station: Station) -> Result<CostGrid, Fail>
+    ensures station { IfOk result (λ grid. grid.station ≡ station) }
+    ensures slots { IfOk result (λ grid. length grid.rows ≡ 60) }
+    ensures receivers { IfOk result (λ grid. grid.receivers ≡ 1) }
+{
+    let log = read_log(alloc, b"")?;
+    let tuning = Tuning {
+        delay: 0,
+        weight: 1,
+    };
+    let grid = CostGrid::make(alloc, station, &[tuning], &table(), &[log], 0, 0, 60)?;
+    Ok(grid)
+}
+
+fn found<R: Threads + Sync>(
+    rt: &R,
+    alloc: Global,
+    tables: &Tables,
+    list: &[Block],
+    workers: u8,
+) -> Result<Found, Fail>
+    requires workers { (1 ≤ workers) × (workers ≤ 8) }
+    requires items { AreItemsOf tables.now.window list.now }
+{
+    let (race, mut seat) = Race::make(alloc, workers)?;
+    search(
+        rt,
+        &race,
+        &mut seat,
+        tables,
+        list,
+        GREATEST_COST,
+        workers,
+        &NoGate,
+    );
+    Ok(finish(race, seat, tables, list, GREATEST_COST))
+}
+
+#[test]
+fn one_sequence_is_left_at_the_end_of_the_century(rt: HostRuntime) -> Result<(), Fail> {
+    // From 22:59Z on the year that DCF77 encodes is 2100, and a walk of 60 seconds ends there unless it begins with second 0.
+    let civil = Civil::make(rt.alloc())?;
+    let window = dcf77(CENTURY - 62, CENTURY);
+    let grids = [silent_grid(rt.alloc(), Station::Dcf77)?];
+    let tables = Tables::make(rt.alloc(), &grids, &civil, &window)?;
+    let list = items(rt.alloc(), &civil, &window)?;
+    for workers in 1..=8 {
+        let found = found(&rt, rt.alloc(), &tables, &list, workers)?;
+        assert_eq!(rt;
+            (found.first, found.second),
+            (Some(52_595_938), None),
+            "{workers}"
+        );
+    }
+    Ok(())
+}
+
+#[test]
+fn a_silent_hour_ties(rt: HostRuntime) -> Result<(), Fail> {
+    let civil = Civil::make(rt.alloc())?;
+    let window = jjy(0, 60);
+    let grids = [silent_grid(rt.alloc(), Station::Jjy)?];
+    let tables = Tables::make(rt.alloc(), &grids, &civil, &window)?;
+    let list = items(rt.alloc(), &civil, &window)?;
+    for workers in 1..=8 {
+        let found = found(&rt, rt.alloc(), &tables, &list, workers)?;
+        assert_eq!(rt;
+            (found.first, found.second),
+            (Some(0), Some(1)),
+            "{workers}"
+        );
+    }
+    Ok(())
+}
+
+// Holds each of two workers at its first pass until both have made one.
+#[derive(Drop)]
+struct Meeting {
+    first: AtomicBool,
+    second: AtomicBool,
+    gave_up: AtomicBool,
+}
+
+impl Gate for Meeting {
+    fn pass(&self, worker: u32, _number: u64) {
+        let mine = if worker == 0 {
+            &self.first
+        } else {
+            &self.second
+        };
+        if mine.load(Ordering::SeqCst) {
+            return;
+        }
+        mine.store(true, Ordering::SeqCst);
+        for _ in 0..TURNS {
+            if self.first.load(Ordering::SeqCst) && self.second.load(Ordering::SeqCst) {
+                return;
+            }
+            thread::yield_now();
+        }
+        self.gave_up.store(true, Ordering::SeqCst);
+    }
+}
+
+#[test]
+fn two_workers_meet_at_the_gate(rt: HostRuntime) -> Result<(), Fail> {
+    let civil = Civil::make(rt.alloc())?;
+    let window = jjy(0, 60);
+    let grids = [silent_grid(rt.alloc(), Station::Jjy)?];
+    let tables = Tables::make(rt.alloc(), &grids, &civil, &window)?;
+    let list = items(rt.alloc(), &civil, &window)?;
+    let gate = Meeting {
+        first: AtomicBool::new(false),
+        second: AtomicBool::new(false),
+        gave_up: AtomicBool::new(false),
+    };
+    let (race, mut seat) = Race::make(rt.alloc(), 2)?;
+    search(
+        &rt,
+        &race,
+        &mut seat,
+        &tables,
+        &list,
+        GREATEST_COST,
+        2,
+        &gate,
+    );
+    assert!(rt; gate.first.load(Ordering::SeqCst), "worker 0 passed");
+    assert!(rt; gate.second.load(Ordering::SeqCst), "worker 1 passed");
+    assert!(rt;
+        !gate.gave_up.load(Ordering::SeqCst),
+        "neither waited in vain"
+    );
+    Ok(())
+}
+
+// Counts the blocks that a visit comes to.
+#[derive(Drop)]
+struct Counter {
+    blocks: u32,
+}
+
+impl Recorder for Counter {
+    type Fault = Infallible;
+
+    ghost told = { λ before step after. Unit {0} };
+
+    fn record(
+        &mut self,
+        _block: &Block,
+        _bound: Option<u32>,
+        _seen: u64,
+    ) -> Result<(), Infallible> {
+        self.blocks = self.blocks.saturating_add(1);
+        Ok(())
+    }
+}
+
+// How many blocks the visit of the year 2001 comes to, in a window of its first two minutes and the two before.
+fn blocks_of_2001(race: &Race, seat: &mut Seat, tables: &Tables, list: &[Block]) -> Option<u32>
+    requires race { seat.old.race ≡ race.now.id }
+    requires items { list.now ≡ items tables.now.window }
+    ensures { seat.new.race ≡ seat.old.race }
+{
+    items_share_the_sequences();
+    let _window = tables.window();
+    let item = list.get(1)?;
+    let visitor = Visitor {
+        race,
+        tables,
+        ceiling: GREATEST_COST,
+    };
+    let mut counter = Counter { blocks: 0 };
+    match visitor.visit_item(seat, item, &mut counter) {
+        Ok(()) => Some(counter.blocks),
+    }
+}
+
+#[test]
+fn a_visit_goes_by_what_another_seat_offered(rt: HostRuntime) -> Result<(), Fail> {
+    let civil = Civil::make(rt.alloc())?;
+    let window = jjy(YEAR_2001 - 2, YEAR_2001 + 2);
+    let grids = [silent_grid(rt.alloc(), Station::Jjy)?];
+    let tables = Tables::make(rt.alloc(), &grids, &civil, &window)?;
+    let list = items(rt.alloc(), &civil, &window)?;
+    assert_eq!(rt;
+        list.get(1).map(|b| (b.span, b.lo, b.second, b.announced)),
+        Some((Span::Year, YEAR_2001, 0, false))
+    );
+
+    // A seat that has seen nothing comes to the year, its day, its hour and two minutes.
+    let (race, mut seat) = Race::make(rt.alloc(), 1)?;
+    assert_eq!(rt; blocks_of_2001(&race, &mut seat, &tables, &list), Some(5));
+
+    // Once another seat has offered two lesser keys, it comes to the year alone.
+    let (race, mut first) = Race::make(rt.alloc(), 2)?;
+    let mut other = race.split(&mut first, 1);
+    race.offer(&mut first, 0);
+    race.offer(&mut first, 1);
+    assert_eq!(rt; blocks_of_2001(&race, &mut other, &tables, &list), Some(1));
+    Ok(())
+}
