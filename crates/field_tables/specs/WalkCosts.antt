@@ -1,11 +1,24 @@
 -- What a walk costs a station: its sets, and the seconds that tell DUT1 by each value of it.
-use Rattle.std.specs.Prelude.{ℕ, ◌≡◌, ◌+◌, ◌≤◌, slice_index}
+use Rattle.std.specs.Prelude.{ℕ, ◌≡◌, ◌+◌, ◌≤◌, true, length, slice_index}
+use Rattle.signal_base.specs.declared.limits.TheConstants.{MOST_SECONDS}
 use Rattle.signal_base.specs.declared.station.Station.{Station}
+use Rattle.signal_base.specs.declared.window.Window.{Window}
 use Rattle.definitions.specs.declared.sequence.Sequence.{Sequence}
-use Rattle.definitions.specs.sequences.Walks.{set_at}
+use Rattle.definitions.specs.codes.Allowed.{has_station}
+use Rattle.definitions.specs.sequences.Walks.{set_at, IsSequence, IsWalkable}
 use Rattle.definitions.specs.heard.Costs.{cost_outside_dut1, dut1_cost, lies_in_one_day, set_cost, sum_below}
+use Rattle.symbol_cost.specs.Grid.{Grid}
 use Rattle.field_tables.specs.declared.walk.WalkCost.{WalkCost}
 use Rattle.field_tables.specs.Tenths.{AreByValue}
+
+-- the grid is that of a station of the window, over its slots, and the sequence can walk through them
+pub record CanWalk (grid : Grid) (station : Station) (window : Window) (q : Sequence) : Type 0 where
+  pub of_station : grid.station ≡ station
+  pub heard : has_station window.stations station ≡ true
+  pub slots : length grid.rows ≡ window.seconds
+  pub seconds : window.seconds ≤ MOST_SECONDS
+  pub sequence : IsSequence q
+  pub walkable : IsWalkable window q
 
 -- what the sets of the first n slots cost
 abbrev pub cost_of_sets : Station → (ℕ → ℕ → ℕ) → ℕ → Sequence → ℕ

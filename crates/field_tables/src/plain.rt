@@ -1,19 +1,19 @@
 //! What a sequence costs, by a walk over the window for each station.
 
-ghost use Rattle.std.specs.Prelude.{◌≡◌, ◌*◌, ◌≤◌, length, true};
-ghost use Rattle.definitions.specs.codes.Allowed.{has_station};
+ghost use Rattle.std.specs.Prelude.{◌≡◌, ◌*◌, ◌≤◌};
 ghost use Rattle.definitions.specs.sequences.Walks.{IsSequence, IsWalkable};
 ghost use Rattle.definitions.specs.sequences.Windows.{IsWindow};
 ghost use Rattle.definitions.specs.heard.Costs.{sequence_cost, station_cost};
 ghost use Rattle.symbol_cost.specs.Grid.{cost_at};
 ghost use Rattle.field_tables.specs.Grids.{AreGrids, grid_costs};
+ghost use Rattle.field_tables.specs.WalkCosts.{CanWalk};
 
 use crate::dut::least_told;
 use crate::tenths::has_dut1;
 use crate::walk::walk_cost;
 use civil::Civil;
 use definitions::Sequence;
-use signal_base::{GREATEST_COST, MOST_SECONDS, Station, Window};
+use signal_base::{GREATEST_COST, Station, Window};
 use symbol_cost::{CostGrid, RECEIVER_COST};
 
 /// What a walkable sequence costs: the sum over the window's stations of what their receivers heard differently. There is
@@ -42,12 +42,7 @@ fn station_cost(
     window: &Window,
     q: &Sequence,
 ) -> u32
-    requires station { grid.now.station ≡ station }
-    requires heard { has_station window.now.stations station ≡ true }
-    requires slots { length grid.now.rows ≡ window.now.seconds }
-    requires seconds { window.now.seconds ≤ MOST_SECONDS }
-    requires sequence { IsSequence q.now }
-    requires walkable { IsWalkable window.now q.now }
+    requires { CanWalk grid.now station window.now q.now }
     ensures cost { result ≡ station_cost station (cost_at grid.now.rows) window.now.seconds q.now }
     ensures bound { result ≤ window.now.seconds * (grid.now.receivers * RECEIVER_COST) }
 {

@@ -1,18 +1,16 @@
 //! What a walk costs a station, slot by slot.
 
-ghost use Rattle.std.specs.Prelude.{◌≡◌, ◌==◌, ◌+◌, ◌*◌, ◌<◌, ◌≤◌, ℕ, if◌then◌else◌, length, slice_index, true};
-ghost use Rattle.definitions.specs.codes.Allowed.{has_station};
-ghost use Rattle.definitions.specs.sequences.Walks.{IsSequence, IsWalkable};
+ghost use Rattle.std.specs.Prelude.{◌≡◌, ◌==◌, ◌+◌, ◌*◌, ◌<◌, ◌≤◌, ℕ, if◌then◌else◌, length, slice_index};
 ghost use Rattle.definitions.specs.heard.Dut1.{dut1_symbol, is_dut1_second};
 ghost use Rattle.symbol_cost.specs.Grid.{cost_at};
 ghost use Rattle.field_tables.specs.Tenths.{tenths_at, value_count};
-ghost use Rattle.field_tables.specs.WalkCosts.{IsSmall, IsWalkCost};
+ghost use Rattle.field_tables.specs.WalkCosts.{CanWalk, IsSmall, IsWalkCost};
 
 use crate::tenths::{ByValue, MOST_VALUES, is_dut1_second, symbol_of, value_count};
 use civil::Civil;
 use definitions::{MINUTES_PER_DAY, Sequence};
 use sequence::{next_place, set_in};
-use signal_base::{GREATEST_COST, MOST_RECEIVERS, MOST_SECONDS, Station, Window};
+use signal_base::{GREATEST_COST, MOST_RECEIVERS, Station, Window};
 use symbol_cost::{CostGrid, RECEIVER_COST};
 
 // The sets of a 0 and of a 1 alone.
@@ -41,12 +39,7 @@ pub fn walk_cost(
     window: &Window,
     q: &Sequence,
 ) -> WalkCost
-    requires station { grid.now.station ≡ station }
-    requires heard { has_station window.now.stations station ≡ true }
-    requires slots { length grid.now.rows ≡ window.now.seconds }
-    requires seconds { window.now.seconds ≤ MOST_SECONDS }
-    requires sequence { IsSequence q.now }
-    requires walkable { IsWalkable window.now q.now }
+    requires { CanWalk grid.now station window.now q.now }
     ensures cost { IsWalkCost station (cost_at grid.now.rows) window.now.seconds q.now result }
     ensures bound { IsSmall (window.now.seconds * (grid.now.receivers * RECEIVER_COST)) result }
     ensures greatest { IsSmall GREATEST_COST result }

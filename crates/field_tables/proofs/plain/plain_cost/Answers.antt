@@ -1,4 +1,4 @@
-use Rattle.std.proofs.Common.{◌≡◌, ◌+◌, sum_by, take, get_or, ◌∙◌, ap, sym, arith}
+use Rattle.std.proofs.Common.{length, ◌≡◌, ◌+◌, sum_by, take, get_or, ◌∙◌, ap, sym, arith}
 use Rattle.std.proofs.lemmas.List.Sums.{sum_by_more}
 use Rattle.std.proofs.lemmas.List.{take_all}
 use Rattle.signal_base.specs.declared.station.Station.{Station}
@@ -8,9 +8,20 @@ use Rattle.field_tables.proofs.GridLaws.{heard_station, sum_by_station}
 use Rattle.field_tables.proofs.WalkLaws.{more_receivers}
 use Rattle.field_tables.proofs.plain.plain_cost.Goals as goal
 
-pub station_cost-total-requires-clause-heard : goal.station_cost-total-requires-clause-heard
-station_cost-total-requires-clause-heard c =
-    heard_station c.args.window.now c.args.grids.now c.requires.grids c.loop-grid.grid-index c.grid-item.result c.station.result c.loop-grid-test.true c.grid-item.is c.station.ensures
+pub station_cost-total-requires : goal.station_cost-total-requires
+station_cost-total-requires c =
+    let window = c.args.window.now in
+    let grids = c.args.grids.now in
+    let i = c.loop-grid.grid-index in
+    let g = c.grid-item.result in
+    record {
+      of_station = sym c.station.ensures;
+      heard = heard_station window grids c.requires.grids i g c.station.result c.loop-grid-test.true c.grid-item.is c.station.ensures;
+      slots = ap (λ (h : Grid). length h.rows) c.grid-item.is ∙ c.requires.grids.slots i g c.loop-grid-test.true;
+      seconds = c.requires.window.not_long;
+      sequence = c.requires.sequence;
+      walkable = c.requires.walkable;
+    }
 
 pub loop-grid-preserved : goal.loop-grid-preserved
 loop-grid-preserved c =

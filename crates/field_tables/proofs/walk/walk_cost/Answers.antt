@@ -40,7 +40,7 @@ loop-slot-preserved c =
     let before = c.loop-slot.invariant in
     let on = walked_on q k place c.next_place-place.result before.here c.next_place-place.ensures in
     let price : c.cost-cost.result ≡ set_cost station (cost_at g.rows k) (set_at station q k) =
-    c.cost-cost.ensures.cost ∙ ap (λ (s : Station). set_cost s (cost_at g.rows k) c.set_in.result) c.requires.station
+    c.cost-cost.ensures.cost ∙ ap (λ (s : Station). set_cost s (cost_at g.rows k) c.set_in.result) c.requires.of_station
     ∙ ap (set_cost station (cost_at g.rows k)) (c.set_in.ensures ∙ ap (allowed station q.announced) before.here) in
     record {
       here = on.0;
