@@ -1,10 +1,9 @@
 //! What the sequences of a block cost at the least.
 
-ghost use Rattle.std.specs.Prelude.{◌≡◌, ◌*◌, ◌<◌, ◌≤◌, ℕ, IfSome, length, slice_index, true};
-ghost use Rattle.definitions.specs.codes.Allowed.{has_station};
+ghost use Rattle.std.specs.Prelude.{◌≡◌, ◌*◌, ◌<◌, ◌≤◌, ℕ, IfSome, length, slice_index};
 ghost use Rattle.definitions.specs.sequences.Windows.{IsWindow};
 ghost use Rattle.definitions.specs.heard.Costs.{set_cost, sum_below};
-ghost use Rattle.definitions.specs.answers.Blocks.{IsBlock, IsUnion, IsUnionBound, union_cost};
+ghost use Rattle.definitions.specs.answers.Blocks.{IsBlock, IsUnionBound, union_cost};
 ghost use Rattle.signal_base.specs.declared.station.Station.{Station};
 ghost use Rattle.symbol_cost.specs.Grid.{cost_at};
 ghost use Rattle.field_tables.specs.Grids.{AreGrids, grid_costs};

@@ -17,9 +17,7 @@ use civil::Civil;
 use definitions::{Block, Sequence, Span};
 use pulse_log::{Log, read_log};
 use sequence::{telegram, walkable};
-use signal_base::{
-    CostTable, Dut, MOST_RECEIVERS, Station, Stations, Tuning, Window, symbols, wave,
-};
+use signal_base::{CostTable, Dut, Station, Stations, Tuning, Window, symbols, wave};
 use std::alloc::{AllocGlobal, Global};
 use std::process::Abort;
 use std::test::Fail;
