@@ -10,12 +10,17 @@ use Rattle.definitions.specs.declared.block.Span.{Span}
 use Rattle.definitions.specs.declared.block.Span.TheVariants.{Year, Day, Hour, Minute}
 use Rattle.definitions.specs.time.Calendar.{century_minutes, is_leap_end}
 use Rattle.definitions.specs.sequences.Keys.{key_of}
+use Rattle.definitions.specs.sequences.Windows.{IsWindow}
 use Rattle.definitions.specs.sequences.Walks.{IsLegal, IsSequence, IsWalkable}
 use Rattle.definitions.specs.heard.Costs.{Costs, sequence_cost}
 use Rattle.definitions.specs.answers.Answers.{IsAdmitted}
 use Rattle.definitions.specs.answers.Blocks.{children, first_of, span_end, IsBlock, IsBound, IsBoundBy, IsIn, IsInOne, block_key}
 use Rattle.workers.specs.Facts.{Facts}
 use Rattle.workers.specs.Visits.{limit_at, offered_by, offered_under, opened_under, AreVisits, IsBlockKey, IsCovered, IsVisit}
+
+-- what is told of a window holds of one that is equal to it
+pub in_century : (w v : Window) → w ≡ v → IsWindow w → v.to ≤ century_minutes
+in_century w v same is = (subst IsWindow same is).century
 
 -- the sequence is in some of the blocks
 abbrev pub IsInSome : List Block → Sequence → Type 0

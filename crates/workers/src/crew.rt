@@ -31,13 +31,13 @@ pub(crate) fn work<G: Gate, K: Recorder>(
     requires idle { IsIdle seat.old.view }
     requires items { AreItems crew.now.visitor.tables.now.window crew.now.items.now }
     ensures race { seat.new.race ≡ seat.old.race }
-    ensures worked { OnOk result (HasWorked K.told (costs_of crew.now.visitor.tables.now) crew.now.visitor.tables.now.window crew.now.visitor.ceiling
-        crew.now.items.now seat.old.view seat.new.view recorder.old recorder.new) }
+    ensures worked { let v = crew.now.visitor in
+        OnOk result (HasWorked K.told (costs_of v.tables.now) v.tables.now.window v.ceiling crew.now.items.now seat.old.view seat.new.view recorder.old recorder.new) }
 {
     let mut number = draw(crew, seat, worker);
     while number < crew.items.len() as u64 {
-        crew.visitor
-            .visit_item(seat, &crew.items[number as usize], recorder)?;
+        let item = &crew.items[number as usize];
+        crew.visitor.visit_item(seat, item, recorder)?;
         number = draw(crew, seat, worker);
     }
     Ok(())

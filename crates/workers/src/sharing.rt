@@ -23,7 +23,7 @@ pub(crate) fn share_out<R: Threads + Sync, G: Gate + Sync>(
 )
     requires ready { IsReady crew.now.visitor.race.now share first seat.old }
     requires items { AreItems crew.now.visitor.tables.now.window crew.now.items.now }
-    ensures shared { HasShared crew.now.visitor.race.now (costs_of crew.now.visitor.tables.now) crew.now.visitor.tables.now.window crew.now.visitor.ceiling crew.now.items.now seat.new }
+    ensures shared { let v = crew.now.visitor in HasShared v.race.now (costs_of v.tables.now) v.tables.now.window v.ceiling crew.now.items.now seat.new }
     ensures share { seat.new.view.share ≡ share }
 {
     if share == 1 {
@@ -38,13 +38,17 @@ pub(crate) fn share_out<R: Threads + Sync, G: Gate + Sync>(
     join_mut(
         rt,
         &mut ||
-            requires { IsSync R.row × IsSync G.row × IsReady crew.now.visitor.race.now left first seat.now × AreItems crew.now.visitor.tables.now.window crew.now.items.now }
-            ensures shared { HasShared crew.entry.now.visitor.race.now (costs_of crew.entry.now.visitor.tables.now) crew.entry.now.visitor.tables.now.window crew.entry.now.visitor.ceiling crew.entry.now.items.now seat.exit.now }
+            requires { let v = crew.now.visitor in
+                IsSync R.row × IsSync G.row × IsReady v.race.now left first seat.now × AreItems v.tables.now.window crew.now.items.now }
+            ensures shared { let v = crew.entry.now.visitor in
+                HasShared v.race.now (costs_of v.tables.now) v.tables.now.window v.ceiling crew.entry.now.items.now seat.exit.now }
             ensures share { seat.exit.now.view.share ≡ left }
         { share_out(rt, crew, seat, left, first) },
         &mut ||
-            requires { IsSync R.row × IsSync G.row × IsReady crew.now.visitor.race.now right next other × AreItems crew.now.visitor.tables.now.window crew.now.items.now }
-            ensures shared { HasShared crew.entry.now.visitor.race.now (costs_of crew.entry.now.visitor.tables.now) crew.entry.now.visitor.tables.now.window crew.entry.now.visitor.ceiling crew.entry.now.items.now other.exit }
+            requires { let v = crew.now.visitor in
+                IsSync R.row × IsSync G.row × IsReady v.race.now right next other × AreItems v.tables.now.window crew.now.items.now }
+            ensures shared { let v = crew.entry.now.visitor in
+                HasShared v.race.now (costs_of v.tables.now) v.tables.now.window v.ceiling crew.entry.now.items.now other.exit }
             ensures share { other.exit.view.share ≡ right }
         { share_out(rt, crew, &mut other, right, next) },
     );
@@ -53,9 +57,9 @@ pub(crate) fn share_out<R: Threads + Sync, G: Gate + Sync>(
 
 // Puts the seats of two halves together.
 fn take_in<G: Gate>(crew: &Crew<'_, '_, '_, G>, seat: &mut Seat, other: Seat)
-    requires seat { HasShared crew.now.visitor.race.now (costs_of crew.now.visitor.tables.now) crew.now.visitor.tables.now.window crew.now.visitor.ceiling crew.now.items.now seat.old }
-    requires other { HasShared crew.now.visitor.race.now (costs_of crew.now.visitor.tables.now) crew.now.visitor.tables.now.window crew.now.visitor.ceiling crew.now.items.now other }
-    ensures shared { HasShared crew.now.visitor.race.now (costs_of crew.now.visitor.tables.now) crew.now.visitor.tables.now.window crew.now.visitor.ceiling crew.now.items.now seat.new }
+    requires seat { let v = crew.now.visitor in HasShared v.race.now (costs_of v.tables.now) v.tables.now.window v.ceiling crew.now.items.now seat.old }
+    requires other { let v = crew.now.visitor in HasShared v.race.now (costs_of v.tables.now) v.tables.now.window v.ceiling crew.now.items.now other }
+    ensures shared { let v = crew.now.visitor in HasShared v.race.now (costs_of v.tables.now) v.tables.now.window v.ceiling crew.now.items.now seat.new }
     ensures share { seat.new.view.share ≡ seat.old.view.share + other.view.share }
 {
     crew.visitor.race.join(seat, other);

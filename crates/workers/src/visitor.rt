@@ -6,6 +6,7 @@ ghost use Rattle.definitions.specs.sequences.Windows.{IsWindow};
 ghost use Rattle.definitions.specs.answers.Blocks.{IsBlock, IsBound};
 ghost use Rattle.field_tables.specs.Scored.{costs_of};
 ghost use Rattle.signal_base.specs.declared.limits.TheConstants.{GREATEST_COST};
+ghost use Rattle.workers.specs.Visits.{limit_at};
 ghost use Rattle.workers.specs.Steps.{HasWalked};
 
 use crate::recorder::Recorder;
@@ -36,8 +37,8 @@ impl Visitor<'_> {
         requires race { seat.old.race ≡ self.now.race.now.id }
         requires block { IsBlock self.now.tables.now.window item.now }
         ensures race { seat.new.race ≡ seat.old.race }
-        ensures walked { OnOk result (HasWalked K.told (costs_of self.now.tables.now) self.now.tables.now.window self.now.ceiling item.now
-            seat.old.view seat.new.view recorder.old recorder.new) }
+        ensures walked { let t = self.now.tables.now in
+            OnOk result (HasWalked K.told (costs_of t) t.window self.now.ceiling item.now seat.old.view seat.new.view recorder.old recorder.new) }
     {
         let found = Bounded {
             block: *item,
@@ -56,11 +57,11 @@ impl Visitor<'_> {
     ) -> Result<(), K::Fault>
         requires race { seat.old.race ≡ self.now.race.now.id }
         requires block { IsBlock self.now.tables.now.window found.now.block }
-        requires bound { IsBound (costs_of self.now.tables.now) self.now.tables.now.window found.now.block found.now.bound }
+        requires bound { let t = self.now.tables.now in IsBound (costs_of t) t.window found.now.block found.now.bound }
         requires small { ForSome found.now.bound (λ n. n ≤ GREATEST_COST) }
         ensures race { seat.new.race ≡ seat.old.race }
-        ensures walked { OnOk result (HasWalked K.told (costs_of self.now.tables.now) self.now.tables.now.window self.now.ceiling found.now.block
-            seat.old.view seat.new.view recorder.old recorder.new) }
+        ensures walked { let t = self.now.tables.now in
+            OnOk result (HasWalked K.told (costs_of t) t.window self.now.ceiling found.now.block seat.old.view seat.new.view recorder.old recorder.new) }
     {
         children_share_the_sequences();
         let seen = self.race.limit(seat);
@@ -69,7 +70,8 @@ impl Visitor<'_> {
             return Ok(());
         };
         let key = block_key(bound, &found.block);
-        if key > seen.min(ceiling_key(self.ceiling)) {
+        let limit = limit_at(self.ceiling, seen);
+        if key > limit {
             return Ok(());
         }
         if found.block.span == Span::Minute {
@@ -82,4 +84,12 @@ impl Visitor<'_> {
         }
         Ok(())
     }
+}
+
+// The key above which a block is passed over.
+fn limit_at(ceiling: u32, seen: u64) -> u64
+    requires { ceiling ≤ GREATEST_COST }
+    ensures { result ≡ limit_at ceiling seen }
+{
+    seen.min(ceiling_key(ceiling))
 }

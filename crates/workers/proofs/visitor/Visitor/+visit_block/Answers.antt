@@ -16,11 +16,11 @@ returns-in_default-clause-walked g t c =
     c.args.seat.now.view c.limit-seen.new.seat.view c.args.recorder.now c.record.new.self c.limit-seen.result c.limit-seen.ensures.below
     c.args.found.now.bound c.in_default.is c.requires.bound c.in_ok-record.ensures c.limit-seen.ensures.view
 
-pub returns-then-key-min-clause-walked : goal.returns-then-key-min-clause-walked
-returns-then-key-min-clause-walked g t c =
+pub returns-then-key-limit-clause-walked : goal.returns-then-key-limit-clause-walked
+returns-then-key-limit-clause-walked g t c =
     let s = c.args.self.now in
     let over : limit_at s.ceiling c.limit-seen.result < block_key c.in-Some.bound c.args.found.now.block =
-    omega (arith, c.if-key-min.true, c.block_key-key.ensures, c.min.ensures, c.ceiling_key.ensures) in
+    omega (arith, c.if-key-limit.true, c.block_key-key.ensures, c.limit_at-limit.ensures) in
     passed_above g.K.Recorder.told (costs_of s.tables.now) s.tables.now.window s.ceiling c.args.found.now.block
     c.args.seat.now.view c.limit-seen.new.seat.view c.args.recorder.now c.record.new.self c.limit-seen.result c.limit-seen.ensures.below
     c.args.found.now.bound c.in-Some.bound c.in-Some.is c.requires.bound c.in_ok-record.ensures over c.limit-seen.ensures.view
@@ -29,7 +29,7 @@ pub returns-then-eq-clause-walked : goal.returns-then-eq-clause-walked
 returns-then-eq-clause-walked g t c =
     let s = c.args.self.now in
     let within : block_key c.in-Some.bound c.args.found.now.block ≤ limit_at s.ceiling c.limit-seen.result =
-    omega (arith, c.if-key-min.false, c.block_key-key.ensures, c.min.ensures, c.ceiling_key.ensures) in
+    omega (arith, c.if-key-limit.false, c.block_key-key.ensures, c.limit_at-limit.ensures) in
     let span : c.args.found.now.block.span ≡ Minute = search rules in
     let offered = c.offer.ensures.view in
     offered_minute g.K.Recorder.told (costs_of s.tables.now) s.tables.now.window s.ceiling c.args.found.now.block
@@ -42,7 +42,7 @@ loop-child-init g t c =
     let s = c.args.self.now in
     let b = c.args.found.now.block in
     let within : block_key c.in-Some.bound c.args.found.now.block ≤ limit_at s.ceiling c.limit-seen.result =
-    omega (arith, c.if-key-min.false, c.block_key-key.ensures, c.min.ensures, c.ceiling_key.ensures) in
+    omega (arith, c.if-key-limit.false, c.block_key-key.ensures, c.limit_at-limit.ensures) in
     let long : c.args.found.now.block.span ≢ Minute = λ e. search rules in
     let walking = opened_block g.K.Recorder.told (costs_of s.tables.now) s.tables.now.window s.ceiling b
     c.args.seat.now.view c.limit-seen.new.seat.view c.args.recorder.now c.record.new.self c.limit-seen.result c.limit-seen.ensures.below
