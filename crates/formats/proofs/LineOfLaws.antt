@@ -1,10 +1,10 @@
 -- The line of some words.
-use Rattle.std.proofs.Common.{◌≡◌, ℕ, Bool, true, false, not, if◌then◌else◌, List, [], ◌∷◌, length, take, drop, Option, Some, None, refl, subst}
+use Rattle.std.proofs.Common.{◌≡◌, ℕ, Bool, true, false, not, if◌then◌else◌, List, [], ◌∷◌, length, take, drop, Some, None, refl, subst}
 use Rattle.std.specs.Option.{option_and_then}
 use Rattle.std.specs.List.{find, list_all}
 use Rattle.std.proofs.lemmas.Bool.{and_parts, not-true}
 use Rattle.formats.specs.declared.words.Command.{Command}
-use Rattle.formats.specs.Words.{Line, begins, form_of, good_line, is_line, is_run, line_behind, line_of, reach_commands, run_commands}
+use Rattle.formats.specs.Words.{Line, begins, form_of, is_line, is_run, line_behind, line_of, reach_commands, run_commands}
 
 -- a line that is found follows the grammar, and its command is one of those that pass a test if all of them do
 abbrev pub IsFine : (Command → Bool) → Line → Type 0

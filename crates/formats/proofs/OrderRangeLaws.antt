@@ -1,7 +1,7 @@
 -- What words ask for is in its ranges.
-use Rattle.std.proofs.Common.{◌≡◌, ℕ, ◌<◌, ◌≤◌, Bool, true, false, ◌&&◌, nat_le, nat_lt, if◌then◌else◌, List, [], ◌∷◌, length, take, drop, bytes_eq, Option, Some, None, option_map, unwrap_or, Ok, Err, ok_or, slice_index_or, IfSome, is_some, refl, ap, subst, ◌∙◌, inl, inr, arith, eqb-true, ltb-true}
+use Rattle.std.proofs.Common.{◌≡◌, ℕ, ◌<◌, ◌≤◌, Bool, true, false, ◌&&◌, nat_le, nat_lt, if◌then◌else◌, List, [], ◌∷◌, length, bytes_eq, Option, Some, None, option_map, unwrap_or, Ok, Err, ok_or, slice_index_or, IfSome, is_some, refl, ap, subst, ◌∙◌, inl, inr, arith, eqb-true, ltb-true}
 use Rattle.std.specs.Option.{option_and_then}
-use Rattle.std.specs.List.{find, list_all}
+use Rattle.std.specs.List.{list_all}
 use Rattle.std.proofs.lemmas.List.Folds.{list_all_at}
 use Rattle.std.proofs.lemmas.Option.{slice_get-get_or}
 use Rattle.std.proofs.lemmas.Bool.{and_parts, cases_Bool, leb-true, ltb-false}
@@ -19,7 +19,7 @@ use Rattle.formats.specs.declared.words.Values.{Values}
 use Rattle.formats.specs.declared.words.WordFault.TheVariants.{EmptyRange, Usage}
 use Rattle.formats.specs.OrderRanges.{IsOfKind, IsIn, IsAsked, IsFile, IsInRange, is_run_order}
 use Rattle.formats.specs.Orders.{Checked, ◌>>=◌, Order, certificate_of, file_at, given, judged, order_of, order_on, order_with, said_by, text_in, valued, values_of}
-use Rattle.formats.specs.Words.{Line, are_pairs, begins, certificate_option, form_of, good_line, is_line, is_run, is_value, line_of, reach_commands, run_commands, value_behind}
+use Rattle.formats.specs.Words.{Line, are_pairs, certificate_option, form_of, is_line, is_run, is_value, line_of, reach_commands, run_commands, value_behind}
 use Rattle.formats.specs.WordValues.{default_of, kind_of, number_of, passing, read_as, suits}
 use Rattle.formats.proofs.LineOfLaws.{line_good, reach_line, run_line}
 use Rattle.formats.proofs.WordMinuteLaws.{minute_of-text}

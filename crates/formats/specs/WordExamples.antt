@@ -4,12 +4,16 @@ use Rattle.formats.specs.declared.words.Asked.{Asked}
 use Rattle.formats.specs.Bytes.{space}
 use Rattle.formats.specs.LogLines.{onto_first}
 use Rattle.formats.specs.Orders.{Checked, Order, order_of}
-use Rattle.formats.specs.Words.{reach_commands, run_commands}
+use Rattle.formats.specs.Words.{Form, reach_commands, run_commands}
 
 -- the words of a line, parted by single spaces
 abbrev pub words_in : List ℕ → List (List ℕ)
 words_in [] = [] ∷ []
 words_in (b ∷ bs) = if b == space then [] ∷ words_in bs else onto_first b (words_in bs)
+
+-- what a command takes: its own words, places, and options
+abbrev pub taking : List ℕ → ℕ → List ℕ → Form
+taking own places options = record { words = words_in own; places = places; options = words_in options }
 
 -- what a line asks of a run, and what of the commands beyond it
 abbrev pub run_of : List ℕ → Checked Order

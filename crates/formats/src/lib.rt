@@ -28,8 +28,8 @@ pub use name::Name;
 pub use option::OptionName;
 pub use refusal::Refusal;
 pub use word_examples::{
-    bad_values, defaults, defaults_beyond_a_run, kinds, minutes_that_no_station_sends, numbers,
-    options, options_beyond_a_run, usage,
+    bad_values, defaults, defaults_beyond_a_run, forms, kinds, minutes_that_no_station_sends,
+    numbers, options, options_beyond_a_run, usage,
 };
 pub use word_law::{
     last_minutes_suit, minutes_have_one_text, numbers_have_one_text, orders_are_in_range,

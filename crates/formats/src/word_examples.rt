@@ -1,16 +1,35 @@
 //! Command lines and what becomes of them, which the checker computes from the grammar.
 #![tactic(auto, unfolding(crate::specs::Examples::digits, crate::specs::WordValues::number_of))]
 
-ghost use Rattle.std.specs.Prelude.{◌≡◌, [], codes, false, true, Err, None, Ok, Some};
-ghost use Rattle.signal_base.specs.declared.station.Station.TheVariants.{Dcf77, Msf, Wwvb};
+ghost use Rattle.std.specs.Prelude.{◌≡◌, [], ◌∷◌, codes, false, true, Err, None, Ok, Some};
+ghost use Rattle.signal_base.specs.declared.station.Station.TheVariants.{Dcf77, Jjy, Msf, Wwvb};
 ghost use Rattle.formats.specs.declared.option.OptionName.TheVariants.{Count, From, Leap, Minute, Number, Readers, Seconds, Start, Step, To, Workers};
+ghost use Rattle.formats.specs.declared.words.Command.TheVariants as command;
 ghost use Rattle.formats.specs.declared.words.ValueKind.TheVariants.{Minute as AMinute, Number as ANumber};
 ghost use Rattle.formats.specs.declared.words.WordFault.TheVariants.{BadMinute, BadNumber, EmptyRange, Usage};
 ghost use Rattle.formats.specs.Orders.{order_of};
 ghost use Rattle.formats.specs.Orders.Order.{Board, Check, Decode, Encode, Feed, Follow, Irig, IrigRead, Judge, Sweep, Trial};
-ghost use Rattle.formats.specs.WordExamples.{asked, asked_usually, reach_of, run_of};
-ghost use Rattle.formats.specs.Words.{reach_commands, run_commands};
+ghost use Rattle.formats.specs.WordExamples.{asked, asked_usually, reach_of, run_of, taking};
+ghost use Rattle.formats.specs.Words.{form_of, reach_commands, run_commands};
 ghost use Rattle.formats.specs.WordValues.{kind_of, number_of};
+
+/// What each command takes, in full.
+pub fn forms()
+    ensures decode { form_of command.Decode ≡ taking (codes "decode") 1 (codes "--start --seconds --from --to --workers --certificate") }
+    ensures check { form_of command.Check ≡ taking (codes "check") 2 (codes "--start --seconds --from --to") }
+    ensures feed { form_of command.Feed ≡ taking (codes "feed") 1 (codes "--start --seconds --from --to --workers") }
+    ensures encode_dcf77 { form_of (command.Encode Dcf77) ≡ taking (codes "encode dcf77") 1 (codes "--leap") }
+    ensures encode_msf { form_of (command.Encode Msf) ≡ taking (codes "encode msf") 1 (codes "--leap") }
+    ensures encode_wwvb { form_of (command.Encode Wwvb) ≡ taking (codes "encode wwvb") 1 (codes "--leap") }
+    ensures encode_jjy { form_of (command.Encode Jjy) ≡ taking (codes "encode jjy") 1 (codes "--leap") }
+    ensures trial { form_of command.Trial ≡ taking (codes "trial") 1 (codes "--workers") }
+    ensures follow { form_of command.Follow ≡ taking (codes "follow") 1 (codes "--start --seconds --from --to --workers --step --count") }
+    ensures sweep { form_of command.Sweep ≡ taking (codes "sweep") 1 (codes "--start --seconds --from --to --workers --certificate") }
+    ensures judge { form_of command.Judge ≡ taking (codes "judge") 2 (codes "--start --seconds --from --to") }
+    ensures board { form_of command.Board ≡ taking (codes "board") 2 (codes "--start --seconds --from --to --workers --step --count --readers") }
+    ensures irig { form_of command.Irig ≡ taking (codes "irig") 1 (codes "--start --seconds --from --to --workers") }
+    ensures irig_read { form_of command.IrigRead ≡ record { words = codes "irig-read" ∷ []; places = 1; options = [] } }
+{}
 
 /// The commands of a run without options.
 pub fn defaults()
