@@ -66,6 +66,22 @@ fn run_order<'a>(line: &Line<'a>, values: &Values) -> Order<'a>
     }
 }
 
+// The order of a board with these values.
+fn board_order<'a>(line: &Line<'a>, values: &Values) -> Reach<'a>
+    requires { 1 < length line.now.places.now }
+    ensures { reach_seen result ≡ order_with Command.Board (parts_seen line.now) values.now }
+{
+    Reach::Board {
+        config: file_at(line, 0),
+        queries: file_at(line, 1),
+        asked: values.asked,
+        workers: values.workers,
+        step: values.step,
+        count: values.count,
+        readers: values.readers,
+    }
+}
+
 // The order of a line beyond a run with these values.
 fn reach_order<'a>(line: &Line<'a>, values: &Values) -> Reach<'a>
     requires { is_run line.now.command ≡ false }
@@ -92,15 +108,7 @@ fn reach_order<'a>(line: &Line<'a>, values: &Values) -> Reach<'a>
             certificate: file_at(line, 1),
             asked,
         },
-        Command::Board => Reach::Board {
-            config: file_at(line, 0),
-            queries: file_at(line, 1),
-            asked,
-            workers,
-            step: values.step,
-            count: values.count,
-            readers: values.readers,
-        },
+        Command::Board => board_order(line, values),
         Command::Irig => Reach::Irig {
             config: file_at(line, 0),
             asked,
