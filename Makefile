@@ -35,10 +35,12 @@ build: ## proves the program's crates and leaves build/tsbank (minutes at first)
 	install -d build
 	install -m 755 crates/tsbank/out/tsbank build/tsbank
 
-install: ## puts the program into PREFIX/bin (PREFIX is /usr/local), and builds it first where need be
+install: ## puts the program and its manual page under PREFIX (/usr/local), and builds it first where need be
 	@$(FRESH) || $(MAKE) build
 	install -d "$$DESTDIR$$PREFIX/bin"
 	install -m 755 build/tsbank "$$DESTDIR$$PREFIX/bin/tsbank"
+	install -d "$$DESTDIR$$PREFIX/share/man/man1"
+	install -m 644 docs/tsbank.1 "$$DESTDIR$$PREFIX/share/man/man1/tsbank.1"
 
 test: toolchain ## the gate: proves all, tries the edits, runs the tests and the program
 	.ci/run
