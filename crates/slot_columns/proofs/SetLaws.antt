@@ -1,5 +1,5 @@
 -- What a set costs is what stands in a row at its index.
-use Rattle.std.proofs.Common.{◌≡◌, ℕ, zero, suc, ◌/◌, ◌%◌, ◌^◌, ◌<◌, ◌≤◌, Bool, true, false, ◌==◌, if◌then◌else◌, List, [], length, map, filter, get_or, unwrap_or, refl, sym, ap, ◌∙◌, arith}
+use Rattle.std.proofs.Common.{◌≡◌, ℕ, zero, suc, ◌*◌, ◌/◌, ◌%◌, ◌^◌, ◌<◌, ◌≤◌, Bool, true, false, ◌==◌, if◌then◌else◌, List, [], length, map, filter, get_or, unwrap_or, refl, sym, ap, ◌∙◌, arith}
 use Rattle.std.proofs.lemmas.Bool.{ne_eqb}
 use Rattle.std.proofs.lemmas.Nat.{pow_below}
 use Rattle.std.proofs.lemmas.List.{get_or-map, length-map}
@@ -11,7 +11,11 @@ use Rattle.definitions.specs.codes.Vocabulary.{unscored}
 use Rattle.definitions.specs.heard.Costs.{least, set_cost, symbols_of}
 use Rattle.definitions.proofs.CostLaws.{set_cost_same}
 use Rattle.symbol_cost.specs.Grid.{HasCosts, cost_at}
-use Rattle.slot_columns.specs.Rows.{AreSlotRows, by_symbol, entry, index_of}
+use Rattle.symbol_cost.specs.declared.limits.TheConstants.{RECEIVER_COST}
+use Rattle.signal_base.specs.declared.limits.TheConstants.{MOST_RECEIVERS, MOST_SECONDS}
+use Rattle.slot_columns.specs.declared.limits.TheConstants.{SETS}
+use Rattle.slot_columns.specs.Parts.{entry}
+use Rattle.slot_columns.specs.Rows.{AreRows, AreSlotRows, IsBounded, IsRow, by_symbol, grid_of, index_of}
 
 -- tests that agree on the symbols choose the same of them
 chosen : (station : Station) (p q : ℕ → Bool) → p 0 ≡ q 0 → p 1 ≡ q 1 → p 2 ≡ q 2 → p 3 ≡ q 3 → p 4 ≡ q 4
@@ -98,25 +102,48 @@ few_symbols Msf = omega arith
 few_symbols Wwvb = omega arith
 few_symbols Jjy = omega arith
 
-module _ (rows : List (List ℕ)) (station : Station) (receivers : ℕ) (costs : ℕ → ℕ → ℕ) (slots : AreSlotRows rows station receivers costs) where
+-- Rows of what sets cost, by costs of symbols that so many receivers make.
+module _ (station : Station) (receivers : ℕ) (rows : List (List ℕ)) (costs : ℕ → ℕ → ℕ)
+    (is : (k set : ℕ) → k < length rows → set < SETS → entry rows k set ≡ set_cost station (costs k) set) where
   -- the rows tell what each symbol costs
   symbol_costs : (k x : ℕ) → k < length rows → x < symbol_count station → cost_at (map by_symbol rows) k x ≡ costs k x
-  symbol_costs k x within is =
+  symbol_costs k x within symbol =
       let few : x < 5 = omega (arith, few_symbols station) in
-      symbol_entry rows k x within few ∙ slots.each k (2 ^ x) within (pow_below x 5 few) ∙ only_costs station (costs k) x is
+      symbol_entry rows k x within few ∙ is k (2 ^ x) within (pow_below x 5 few) ∙ only_costs station (costs k) x symbol
 
   -- and, by them, what each set costs
-  pub own_costs : AreSlotRows rows station receivers (cost_at (map by_symbol rows))
-  own_costs = record {
-    each = λ k set within small.
-        slots.each k set within small
-        ∙ set_cost_same station (costs k) (cost_at (map by_symbol rows) k) set (λ x is. sym (symbol_costs k x within is));
-    small = slots.small;
-  }
+  pub own_costs : AreRows rows (grid_of station receivers rows)
+  own_costs = λ k set within small.
+      is k set within small ∙ set_cost_same station (costs k) (cost_at (map by_symbol rows) k) set (λ x symbol. sym (symbol_costs k x within symbol))
 
-  pub same_costs : (n : ℕ) → length rows ≡ n → HasCosts (record { station = station; receivers = receivers; rows = map by_symbol rows }) station n costs
+  pub same_costs : (n : ℕ) → length rows ≡ n → HasCosts (grid_of station receivers rows) station n costs
   same_costs n count = record {
     of_station = refl;
     slots = length-map rows by_symbol ∙ count;
-    each = λ k x within is. symbol_costs k x (omega (arith, within)) is;
+    each = λ k x within symbol. symbol_costs k x (omega (arith, within)) symbol;
   }
+
+  pub own_bound : receivers ≤ MOST_RECEIVERS → length rows ≤ MOST_SECONDS → ((k set : ℕ) → k < length rows → set < SETS → entry rows k set ≤ receivers * RECEIVER_COST)
+      → IsBounded (grid_of station receivers rows)
+  own_bound few short small = record {
+    few = few;
+    short = omega (arith, length-map rows by_symbol);
+    small = λ k set lt.
+        let within : k < length rows = omega (arith, lt, length-map rows by_symbol) in
+        omega (
+          arith,
+          small k (index_of set) within (index_bound set),
+          own_costs k (index_of set) within (index_bound set),
+          indexed station (cost_at (map by_symbol rows) k) set,
+        );
+  }
+
+-- each of a grid's own rows
+pub own_row : (station : Station) (receivers : ℕ) (rows : List (List ℕ)) → AreSlotRows station receivers rows
+    → (k : ℕ) → k < length rows → IsRow (get_or rows k []) (grid_of station receivers rows) k
+own_row station receivers rows are k within = record {
+  each = λ set small. are.each k set within small;
+  small = λ set small.
+      let lt : k < length (grid_of station receivers rows).rows = omega (arith, length-map rows by_symbol) in
+      omega (arith, are.each k set within small, are.bounded.small k set lt, are.bounded.few);
+}

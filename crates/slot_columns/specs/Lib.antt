@@ -1,2 +1,4 @@
+pub mod Days
 pub mod Parts
 pub mod Rows
+pub mod Tables

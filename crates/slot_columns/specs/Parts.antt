@@ -20,12 +20,15 @@ layered_set p first rest k =
 abbrev pub layered_cost : Station → (ℕ → ℕ → ℕ) → ℕ → ℕ → List ℕ → List ℕ → ℕ
 layered_cost station costs n p first rest = sum_below n (λ k. set_cost station (costs k) (layered_set p first rest k))
 
--- what a part costs in walk minute m alone: in those of the n slots that lie in it
-abbrev pub minute_cost : Station → (ℕ → ℕ → ℕ) → ℕ → ℕ → ℕ → List ℕ → ℕ
-minute_cost station costs n p m part =
-    sum_below n (λ k.
+-- what a part costs in slot k if that lies in walk minute m
+abbrev pub cost_in_minute : Station → (ℕ → ℕ → ℕ) → ℕ → ℕ → List ℕ → ℕ → ℕ
+cost_in_minute station costs p m part k =
     let place = p + k in
-    if place / SECONDS_PER_MINUTE == m then set_cost station (costs k) (slice_index part (place % SECONDS_PER_MINUTE)) else 0)
+    if place / SECONDS_PER_MINUTE == m then set_cost station (costs k) (slice_index part (place % SECONDS_PER_MINUTE)) else 0
+
+-- what it costs in that walk minute alone, over n slots
+abbrev pub minute_cost : Station → (ℕ → ℕ → ℕ) → ℕ → ℕ → ℕ → List ℕ → ℕ
+minute_cost station costs n p m part = sum_below n (cost_in_minute station costs p m part)
 
 -- the set of slot k where a part is given for each minute of a day, and walk minute 0 is minute u of the day
 abbrev pub walk_set : List (List ℕ) → ℕ → ℕ → ℕ → ℕ
@@ -37,17 +40,21 @@ walk_set times u p k =
 abbrev pub walk_cost : Station → (ℕ → ℕ → ℕ) → ℕ → ℕ → List (List ℕ) → ℕ → ℕ
 walk_cost station costs n p times u = sum_below n (λ k. set_cost station (costs k) (walk_set times u p k))
 
--- the most that the slots of a grid can cost, and that some n of them can
+-- the most that the slots of a grid can cost
 abbrev pub most_cost : Grid → ℕ
 most_cost grid = length grid.rows * (grid.receivers * RECEIVER_COST)
 
--- Of each first second p and each minute u of the day, a table has what the walks cost that begin there.
--- its entry of p and u
-abbrev pub walk_entry : List (List ℕ) → ℕ → ℕ → ℕ
-walk_entry table p u = slice_index (slice_index_or table p []) u
+-- an entry of a row of a table, and 0 where there is none
+abbrev pub entry : List (List ℕ) → ℕ → ℕ → ℕ
+entry rows k x = slice_index (slice_index_or rows k []) x
 
--- these are the costs in the grid's slots, for parts of the minutes of a day
+-- of each first second p and each minute u of a day, the table has what the walk costs that begins there
+abbrev pub AreOfWalks : List (List ℕ) → Grid → List (List ℕ) → Type 0
+AreOfWalks table grid times =
+    (p u : ℕ) → p < SECONDS_PER_MINUTE → u < minutes_per_day
+    → entry table p u ≡ walk_cost grid.station (cost_at grid.rows) (length grid.rows) p times u
+
+-- and none is above what the grid's slots can cost
 pub record AreWalkCosts (table : List (List ℕ)) (grid : Grid) (times : List (List ℕ)) : Type 0 where
-  pub each : (p u : ℕ) → p < SECONDS_PER_MINUTE → u < minutes_per_day
-      → walk_entry table p u ≡ walk_cost grid.station (cost_at grid.rows) (length grid.rows) p times u
-  pub small : (p u : ℕ) → p < SECONDS_PER_MINUTE → u < minutes_per_day → walk_entry table p u ≤ most_cost grid
+  pub each : AreOfWalks table grid times
+  pub small : (p u : ℕ) → p < SECONDS_PER_MINUTE → u < minutes_per_day → entry table p u ≤ most_cost grid

@@ -9,9 +9,8 @@ ghost use Rattle.slot_columns.specs.Parts.{layered_cost, minute_cost, most_cost}
 
 use crate::limits::SECONDS_PER_MINUTE;
 use crate::part::Part;
-use crate::rows::{Row, index_of, rows_of};
-use crate::sums::{sum_of_columns, sum_of_minute};
-use crate::tables::{first_columns, later_columns};
+use crate::slots::{Row, SlotCosts};
+use crate::tables::{first_columns, later_columns, sum_of_columns};
 use signal_base::Station;
 use std::alloc::{AllocError, Global};
 use std::marker::Model;
@@ -34,23 +33,21 @@ impl From<AllocError> for ColumnsFault {
 /// the walk may begin.
 #[derive(Drop)]
 pub struct SlotColumns {
-    station: Station,
-    receivers: u8,
-    pub(crate) rows: Vec<Row>,
+    pub(crate) slots: SlotCosts,
+    // What the sets cost in walk minute 0, and in all later minutes together.
     first: Vec<Row>,
     later: Vec<Row>,
 }
 
 impl Model for SlotColumns {
-    ghost use Rattle.std.specs.Prelude.{map};
     ghost use Rattle.symbol_cost.specs.Grid.{Grid};
-    ghost use Rattle.slot_columns.specs.Rows.{AreTables, by_symbol};
+    ghost use Rattle.slot_columns.specs.Tables.{AreTables};
 
     ghost Value = { Grid };
 
-    ghost view = { λ c. record { station = c.station; receivers = c.receivers; rows = map by_symbol c.rows.items } };
+    ghost view = { λ c. c.slots };
 
-    ghost invariant = { λ c. AreTables c.station c.receivers c.rows.items c.first.items c.later.items };
+    ghost invariant = { λ c. AreTables c.slots c.first.items c.later.items };
 }
 
 impl SlotColumns {
@@ -59,15 +56,11 @@ impl SlotColumns {
         ensures costs { IfOk result (λ columns. HasCosts columns grid.now.station (length grid.now.rows) (cost_at grid.now.rows)) }
         ensures receivers { IfOk result (λ columns. columns.receivers ≡ grid.now.receivers) }
     {
-        let station = grid.station();
-        let receivers = grid.receivers();
-        let rows = rows_of(alloc, grid)?;
-        let first = first_columns(alloc, &rows)?;
-        let later = later_columns(alloc, &rows)?;
+        let slots = SlotCosts::make(alloc, grid)?;
+        let first = first_columns(alloc, &slots)?;
+        let later = later_columns(alloc, &slots)?;
         Ok(SlotColumns {
-            station,
-            receivers,
-            rows,
+            slots,
             first,
             later,
         })
@@ -77,7 +70,7 @@ impl SlotColumns {
     pub fn station(&self) -> Station
         ensures { result ≡ self.now.station }
     {
-        self.station
+        self.slots.station()
     }
 
     /// How many receivers there are, at most 8.
@@ -85,7 +78,7 @@ impl SlotColumns {
         ensures count { result ≡ self.now.receivers }
         ensures bound { result ≤ MOST_RECEIVERS }
     {
-        self.receivers
+        self.slots.receivers()
     }
 
     /// How many slots there are, at most 1,200.
@@ -93,7 +86,7 @@ impl SlotColumns {
         ensures count { result ≡ length self.now.rows }
         ensures bound { result ≤ MOST_SECONDS }
     {
-        self.rows.len() as u16
+        self.slots.seconds() as u16
     }
 
     /// What a set costs in a slot: its cheapest symbol, and nothing where the second isn't scored or the set has none of
@@ -103,7 +96,7 @@ impl SlotColumns {
         ensures cost { result ≡ set_cost self.now.station (cost_at self.now.rows slot) set }
         ensures bound { result ≤ self.now.receivers * RECEIVER_COST }
     {
-        self.rows[slot as usize][index_of(set)]
+        self.slots.cost(slot as usize, set)
     }
 
     /// What the window costs where the walk begins in second `p` of a minute, below 60, that minute carries the one part
@@ -132,6 +125,14 @@ impl SlotColumns {
         ensures cost { result ≡ minute_cost self.now.station (cost_at self.now.rows) (length self.now.rows) p m part.now }
         ensures bound { result ≤ SECONDS_PER_MINUTE * (self.now.receivers * RECEIVER_COST) }
     {
-        sum_of_minute(&self.rows, p as usize, m as usize, part)
+        let p = p as usize;
+        let begin = SECONDS_PER_MINUTE * m as usize;
+        let from = begin.saturating_sub(p);
+        let end = self.slots.seconds().min(begin + SECONDS_PER_MINUTE - p);
+        let mut cost = 0;
+        for k in from..end {
+            cost += self.slots.cost(k, part[p + k - begin]);
+        }
+        cost
     }
 }

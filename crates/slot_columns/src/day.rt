@@ -3,19 +3,74 @@
 ghost use Rattle.std.specs.Prelude.{◌≡◌, ◌<◌, ◌%◌, [], ℕ, IfOk, false, length, slice_index, slice_index_or};
 ghost use Rattle.definitions.specs.time.Calendar.{minutes_per_day};
 ghost use Rattle.slot_columns.specs.declared.limits.TheConstants.{SETS};
-ghost use Rattle.slot_columns.specs.Rows.{AreIndices, AreOfDay, AreUnused, index_of};
+ghost use Rattle.slot_columns.specs.Days.{AreDayColumns, AreOfDay};
+ghost use Rattle.slot_columns.specs.Parts.{entry};
+ghost use Rattle.slot_columns.specs.Rows.{index_of};
 
 use crate::limits::{DAY_MINUTES, REACHED_MINUTES, SECONDS_PER_MINUTE};
 use crate::part::Part;
-use crate::rows::index_of;
+use crate::slots::index_of;
 use std::alloc::{AllocError, Global};
+use std::marker::Model;
 
-/// Where the sets stand in a row that one second carries in the minutes of a day, and in those after it that a walk may
-/// reach, which are the day's first again.
+/// Where the sets stand in a row that one second carries: in the minutes of a day, and in those after it that a walk
+/// may reach, which are the day's first again.
 pub type DayColumn = [u8; REACHED_MINUTES];
 
+/// What the minutes of a day carry, second by second.
+#[derive(Drop)]
+pub struct Day {
+    columns: Vec<DayColumn>,
+    used: [bool; SECONDS_PER_MINUTE],
+}
+
+impl Model for Day {
+    ghost use Rattle.std.specs.Prelude.{List, ℕ};
+    ghost use Rattle.slot_columns.specs.Days.{AreDayColumns};
+
+    ghost Value = { List (List ℕ) };
+
+    ghost view = { λ d. d.columns.items };
+
+    ghost invariant = { λ d. AreDayColumns d.columns.items d.used };
+}
+
+impl Day {
+    /// Takes the parts of a day's minutes.
+    pub fn make(alloc: Global, times: &[Part]) -> Result<Day, AllocError>
+        requires { length times.now ≡ minutes_per_day }
+        ensures { IfOk result (λ day. AreOfDay day times.now) }
+    {
+        let mut columns = Vec::with_capacity(alloc, SECONDS_PER_MINUTE)?;
+        let mut used = [false; SECONDS_PER_MINUTE];
+        for s in 0..SECONDS_PER_MINUTE {
+            let column = column_of(times, s);
+            used[s] = is_used(&column);
+            columns.push(column)?;
+        }
+        Ok(Day { columns, used })
+    }
+
+    /// What a second carries.
+    pub fn column(&self, s: usize) -> &DayColumn
+        requires { s < SECONDS_PER_MINUTE }
+        ensures column { (i : ℕ) → slice_index result.now i ≡ entry self.now s i }
+        ensures bound { (i : ℕ) → i < REACHED_MINUTES → slice_index result.now i < SETS }
+    {
+        &self.columns[s]
+    }
+
+    /// Whether some minute may have a set that costs something in this second.
+    pub fn is_used(&self, s: usize) -> bool
+        requires { s < SECONDS_PER_MINUTE }
+        ensures { result ≡ false → (i : ℕ) → i < REACHED_MINUTES → entry self.now s i ≡ 0 }
+    {
+        self.used[s]
+    }
+}
+
 // The column of second `s`.
-fn day_column(times: &[Part], s: usize) -> DayColumn
+fn column_of(times: &[Part], s: usize) -> DayColumn
     requires day { length times.now ≡ minutes_per_day }
     requires second { s < SECONDS_PER_MINUTE }
     ensures sets { (i : ℕ) → i < REACHED_MINUTES → slice_index result i ≡ index_of (slice_index (slice_index_or times.now (i % minutes_per_day) []) s) }
@@ -28,31 +83,7 @@ fn day_column(times: &[Part], s: usize) -> DayColumn
     column
 }
 
-/// A column for each second, from what the minutes of a day carry.
-pub fn day_columns(alloc: Global, times: &[Part]) -> Result<Vec<DayColumn>, AllocError>
-    requires { length times.now ≡ minutes_per_day }
-    ensures indices { IfOk result (λ day. AreIndices day.items) }
-    ensures sets { IfOk result (λ day. AreOfDay day.items times.now) }
-{
-    let mut day = Vec::with_capacity(alloc, SECONDS_PER_MINUTE)?;
-    for s in 0..SECONDS_PER_MINUTE {
-        day.push(day_column(times, s))?;
-    }
-    Ok(day)
-}
-
-/// Of each second, whether some minute has a set in it that may cost something.
-pub fn used_seconds(day: &[DayColumn]) -> [bool; SECONDS_PER_MINUTE]
-    requires { length day.now ≡ SECONDS_PER_MINUTE }
-    ensures { AreUnused result day.now }
-{
-    let mut used = [false; SECONDS_PER_MINUTE];
-    for s in 0..SECONDS_PER_MINUTE {
-        used[s] = is_used(&day[s]);
-    }
-    used
-}
-
+// Whether a set of the column may cost something.
 fn is_used(column: &DayColumn) -> bool
     ensures { result ≡ false → (i : ℕ) → i < REACHED_MINUTES → slice_index column.now i ≡ 0 }
 {

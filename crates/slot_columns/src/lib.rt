@@ -9,12 +9,10 @@ mod columns;
 mod day;
 mod limits;
 mod part;
-mod rows;
-mod sums;
+mod slots;
 mod tables;
 #[cfg(test)]
 mod tests;
-#[cfg(test)]
 mod walks;
 
 pub use columns::{ColumnsFault, SlotColumns};

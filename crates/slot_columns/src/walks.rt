@@ -6,76 +6,20 @@ ghost use Rattle.definitions.specs.time.Calendar.{minutes_per_day};
 ghost use Rattle.definitions.specs.heard.Costs.{sum_below};
 ghost use Rattle.symbol_cost.specs.declared.limits.TheConstants.{RECEIVER_COST};
 ghost use Rattle.slot_columns.specs.declared.limits.TheConstants.{REACHED_MINUTES, SETS};
-ghost use Rattle.slot_columns.specs.Parts.{AreWalkCosts, walk_entry};
-ghost use Rattle.slot_columns.specs.Rows.{AreIndices, AreSmall, AreUnused, AreWalkSums, day_cost, entry};
+ghost use Rattle.slot_columns.specs.Days.{day_cost};
+ghost use Rattle.slot_columns.specs.Parts.{AreOfWalks, AreWalkCosts, entry};
+ghost use Rattle.slot_columns.specs.Rows.{IsBounded};
 
 use crate::columns::{ColumnsFault, SlotColumns};
-use crate::day::{DayColumn, day_columns, used_seconds};
+use crate::day::{Day, DayColumn};
 use crate::limits::{DAY_MINUTES, LATER_MINUTES, SECONDS_PER_MINUTE};
 use crate::part::Part;
-use crate::rows::Row;
+use crate::slots::{Row, SlotCosts};
 use std::alloc::{AllocError, Global};
 use std::marker::Model;
 
 // What the walks cost that begin in each minute of a day.
 type WalkRow = [u32; DAY_MINUTES];
-
-fn no_walk_costs() -> WalkRow
-    ensures { (u : ℕ) → slice_index result u ≡ 0 }
-{
-    [0; DAY_MINUTES]
-}
-
-// Adds what a slot in walk minute `m` costs: by its row, and by what its second carries through the day.
-fn add_slot(costs: &mut WalkRow, row: &Row, column: &DayColumn, m: usize)
-    requires minute { m ≤ LATER_MINUTES }
-    requires sets { (i : ℕ) → i < REACHED_MINUTES → slice_index column.now i < SETS }
-    requires small { (set : ℕ) → set < SETS → slice_index row.now set ≤ MOST_RECEIVERS * RECEIVER_COST }
-    requires room { (u : ℕ) → u < minutes_per_day → slice_index costs.old u ≤ MOST_RECEIVERS * RECEIVER_COST * MOST_SECONDS }
-    ensures { (u : ℕ) → u < minutes_per_day → slice_index costs.new u ≡ slice_index costs.old u + slice_index row.now (slice_index column.now (u + m)) }
-{
-    for u in 0..DAY_MINUTES {
-        costs[u] += row[column[u + m] as usize];
-    }
-}
-
-// What the walks cost that begin in second `p` of each minute of the day.
-fn walk_row(rows: &[Row], day: &[DayColumn], used: &[bool; SECONDS_PER_MINUTE], p: usize) -> WalkRow
-    requires short { length rows.now ≤ MOST_SECONDS }
-    requires small { AreSmall MOST_RECEIVERS rows.now }
-    requires free { (k : ℕ) → entry rows.now k 0 ≡ 0 }
-    requires day { AreIndices day.now }
-    requires unused { AreUnused used.now day.now }
-    requires second { p < SECONDS_PER_MINUTE }
-    ensures { (u : ℕ) → u < minutes_per_day → slice_index result u ≡ sum_below (length rows.now) (day_cost rows.now day.now p u) }
-{
-    let mut costs = no_walk_costs();
-    for k in 0..rows.len() {
-        let place = p + k;
-        let s = place % SECONDS_PER_MINUTE;
-        if used[s] {
-            add_slot(&mut costs, &rows[k], &day[s], place / SECONDS_PER_MINUTE);
-        }
-    }
-    costs
-}
-
-// A row for each second in which a walk may begin.
-fn walk_rows(alloc: Global, rows: &[Row], times: &[Part]) -> Result<Vec<WalkRow>, AllocError>
-    requires short { length rows.now ≤ MOST_SECONDS }
-    requires small { AreSmall MOST_RECEIVERS rows.now }
-    requires free { (k : ℕ) → entry rows.now k 0 ≡ 0 }
-    requires day { length times.now ≡ minutes_per_day }
-    ensures { IfOk result (λ table. AreWalkSums table.items rows.now times.now) }
-{
-    let day = day_columns(alloc, times)?;
-    let used = used_seconds(&day);
-    let mut costs = Vec::with_capacity(alloc, SECONDS_PER_MINUTE)?;
-    for p in 0..SECONDS_PER_MINUTE {
-        costs.push(walk_row(rows, &day, &used, p))?;
-    }
-    Ok(costs)
-}
 
 /// What the parts of a day's minutes cost, for each second of a minute and each minute of the day in which a walk may
 /// begin.
@@ -105,7 +49,7 @@ impl WalkTable {
         requires { length times.now ≡ minutes_per_day }
         ensures { IfOk result (λ table. AreWalkCosts table columns.now times.now) }
     {
-        let costs = walk_rows(alloc, &columns.rows, times)?;
+        let costs = walk_rows(alloc, &columns.slots, times)?;
         Ok(WalkTable { costs })
     }
 
@@ -113,8 +57,63 @@ impl WalkTable {
     pub fn cost(&self, p: u8, u: u16) -> u32
         requires second { p < SECONDS_PER_MINUTE }
         requires minute { u < minutes_per_day }
-        ensures { result ≡ walk_entry self.now p u }
+        ensures { result ≡ entry self.now p u }
     {
         self.costs[p as usize][u as usize]
+    }
+}
+
+// A row for each second in which a walk may begin.
+fn walk_rows(alloc: Global, slots: &SlotCosts, times: &[Part]) -> Result<Vec<WalkRow>, AllocError>
+    requires bounded { IsBounded slots.now }
+    requires day { length times.now ≡ minutes_per_day }
+    ensures count { IfOk result (λ table. length table.items ≡ SECONDS_PER_MINUTE) }
+    ensures costs { IfOk result (λ table. AreOfWalks table.items slots.now times.now) }
+{
+    let day = Day::make(alloc, times)?;
+    let mut costs = Vec::with_capacity(alloc, SECONDS_PER_MINUTE)?;
+    for p in 0..SECONDS_PER_MINUTE {
+        costs.push(walk_row(slots, &day, p))?;
+    }
+    Ok(costs)
+}
+
+// What the walks cost that begin in second `p` of each minute of the day.
+fn walk_row(slots: &SlotCosts, day: &Day, p: usize) -> WalkRow
+    requires { p < SECONDS_PER_MINUTE }
+    ensures { (u : ℕ) → u < minutes_per_day → slice_index result u ≡ sum_below (length slots.now.rows) (day_cost slots.now day.now p u) }
+{
+    let mut costs = no_walk_costs();
+    for k in 0..slots.seconds() {
+        let place = p + k;
+        let s = place % SECONDS_PER_MINUTE;
+        if day.is_used(s) {
+            add_slot(
+                &mut costs,
+                slots.row(k),
+                day.column(s),
+                place / SECONDS_PER_MINUTE,
+            );
+        }
+    }
+    costs
+}
+
+fn no_walk_costs() -> WalkRow
+    ensures { (u : ℕ) → slice_index result u ≡ 0 }
+{
+    [0; DAY_MINUTES]
+}
+
+// Adds what a slot in walk minute `m` costs: by its row, and by what its second carries through the day.
+fn add_slot(costs: &mut WalkRow, row: &Row, column: &DayColumn, m: usize)
+    requires minute { m ≤ LATER_MINUTES }
+    requires sets { (i : ℕ) → i < REACHED_MINUTES → slice_index column.now i < SETS }
+    requires small { (set : ℕ) → set < SETS → slice_index row.now set ≤ MOST_RECEIVERS * RECEIVER_COST }
+    requires room { (u : ℕ) → u < minutes_per_day → slice_index costs.old u ≤ MOST_RECEIVERS * RECEIVER_COST * MOST_SECONDS }
+    ensures { (u : ℕ) → u < minutes_per_day → slice_index costs.new u ≡ slice_index costs.old u + slice_index row.now (slice_index column.now (u + m)) }
+{
+    for u in 0..DAY_MINUTES {
+        costs[u] += row[column[u + m] as usize];
     }
 }

@@ -1,11 +1,10 @@
-use Rattle.std.proofs.Common.{List, ℕ, subst}
-use Rattle.slot_columns.specs.Rows.{AreWalkSums}
+use Rattle.std.proofs.Common.{subst}
+use Rattle.symbol_cost.specs.Grid.{Grid}
+use Rattle.slot_columns.specs.Parts.{AreWalkCosts}
 use Rattle.slot_columns.proofs.WalkLaws.{walk_costs}
 use Rattle.slot_columns.proofs.walks.WalkTable.make.Goals as goal
 
 pub returns : goal.returns
 returns c =
-    let own = c.columns.inside in
-    walk_costs own.station own.receivers own.rows.items own.first.items own.later.items c.columns.invariant c.args.columns.now c.columns.view_is
-    c.in_ok-costs.costs.items c.args.times.now
-    (subst (λ (rows : List (List ℕ)). AreWalkSums c.in_ok-costs.costs.items rows c.args.times.now) c.deref.ensures.value c.in_ok-costs.ensures)
+    subst (λ (g : Grid). AreWalkCosts c.in_ok-costs.costs.items g c.args.times.now) c.columns.view_is
+    (walk_costs c.columns.inside.slots c.in_ok-costs.costs.items c.args.times.now c.columns.invariant.bounded c.in_ok-costs.ensures.costs)

@@ -1,0 +1,30 @@
+-- What a set costs at the places of a walk.
+use Rattle.std.proofs.Common.{◌≡◌, ℕ, ◌+◌, ◌-◌, ◌<◌, ◌≤◌, Bool, ◌&&◌, nat_le, nat_lt, if◌then◌else◌, length, ap, ◌∙◌, arith}
+use Rattle.std.proofs.lemmas.Bool.{and_from, and_left, and_right, le-leb, le-ltb, lt-leb, lt-ltb}
+use Rattle.symbol_cost.specs.Grid.{Grid, cost_at}
+use Rattle.slot_columns.specs.Rows.{cost_in_slot, index_of}
+use Rattle.slot_columns.specs.Tables.{at_place}
+use Rattle.slot_columns.proofs.SetLaws.{indexed}
+
+module _ (grid : Grid) (p set : ℕ) where
+  by_test : (i : ℕ) (t : Bool) → (nat_le p i && nat_lt (i - p) (length grid.rows)) ≡ t → at_place grid p set i ≡ (if t then cost_in_slot grid set (i - p) else 0)
+  by_test i t is = ap (λ (b : Bool). if b then cost_in_slot grid set (i - p) else 0) is
+
+  -- slot k is at place p + k
+  pub in_walk : (k : ℕ) → k < length grid.rows → at_place grid p set (p + k) ≡ cost_in_slot grid set k
+  in_walk k within =
+      let back : p + k - p ≡ k = omega arith in
+      by_test (p + k) _ (and_from (nat_le p (p + k)) (nat_lt (p + k - p) (length grid.rows)) (le-leb p (p + k) (omega arith)) (lt-ltb (p + k - p) (length grid.rows) (omega arith)))
+      ∙ ap (cost_in_slot grid set) back
+
+  -- outside the walk there is none
+  pub before_walk : (i : ℕ) → i < p → at_place grid p set i ≡ 0
+  before_walk i before = by_test i _ (and_left (nat_le p i) (nat_lt (i - p) (length grid.rows)) (lt-leb p i before))
+
+  pub after_walk : (i : ℕ) → p + length grid.rows ≤ i → at_place grid p set i ≡ 0
+  after_walk i after = by_test i _ (and_right (nat_le p i) (nat_lt (i - p) (length grid.rows)) (le-ltb (i - p) (length grid.rows) (omega arith)))
+
+  -- a set costs what stands in a row at its index
+  pub at_index : (i : ℕ) → at_place grid p (index_of set) i ≡ at_place grid p set i
+  at_index i =
+      ap (λ c. if nat_le p i && nat_lt (i - p) (length grid.rows) then c else 0) (indexed grid.station (cost_at grid.rows (i - p)) set)
