@@ -33,10 +33,6 @@ module _ (costs : Costs) (window : Window) (ceiling : ℕ) where
 
   module _ (r : RaceSeen) (items : List Block) where
     -- one worker alone
-    pub one_keeps_share : {P : Type 0} (told : P → Step → P → Type 0) (s t : SeatSeen) (p q : P) → HasWorked told costs window ceiling items s.view t.view p q
-        → t.view.share ≡ s.view.share
-    one_keeps_share told s t p q worked = (gained_steps ceiling worked.steps s.view (but_drawn s.view.drawn t.view) worked.view).share
-
     pub one_shared : {P : Type 0} (told : P → Step → P → Type 0) (s t : SeatSeen) (p q : P) → IsIdle s.view → t.race ≡ r.id
         → HasWorked told costs window ceiling items s.view t.view p q → HasShared r costs window ceiling items t
     one_shared told s t p q idle race worked =

@@ -12,7 +12,8 @@ use Rattle.definitions.specs.answers.Blocks.{block_key, children, children_by, s
 use Rattle.race_words.specs.declared.view.View.{View}
 use Rattle.race_words.specs.Views.{after_limit, after_offer}
 use Rattle.workers.specs.Visits.{limit_at, offered_by, offered_under, opened_under}
-use Rattle.workers.specs.Steps.{Step, depth, AreSteps, HasWalked, Offers, Takes}
+use Rattle.workers.specs.Steps.{Step, depth, AreFirstSteps, AreSteps, HasStopped, HasWalked, Offers, Takes}
+use Rattle.workers.proofs.Taking.{gained_steps}
 
 pub folds_then : {P X : Type 0} (R : P → X → P → Type 0) (xs ys : List X) (p q r : P) → FoldsTo R p xs q → FoldsTo R q ys r → FoldsTo R p (xs ++ ys) r
 folds_then R [] ys p q r a b = subst (λ p. FoldsTo R p ys r) (sym a) b
@@ -50,10 +51,34 @@ module _ {P : Type 0} (told : P → Step → P → Type 0) (costs : Costs) (wind
         subst (λ bs. AreSteps costs window ceiling bs (ss ++ ts)) (append_assoc opened bs cs) (steps_then ss ts (opened ++ bs) cs a.2 b),
       )
 
+  first_then : (ss ts : List Step) (bs cs : List Block) → AreSteps costs window ceiling bs ss → AreFirstSteps costs window ceiling cs ts
+      → AreFirstSteps costs window ceiling (bs ++ cs) (ss ++ ts)
+  first_then [] ts [] cs a b = b
+  first_then [] ts (x ∷ bs) cs a b = absurd a
+  first_then (s ∷ ss) ts [] cs a b = absurd a
+  first_then (s ∷ ss) ts (x ∷ bs) cs a b =
+      let opened = opened_under (limit_at ceiling s.seen) x s.bound in (
+        a.0,
+        a.1,
+        subst (λ bs. AreFirstSteps costs window ceiling bs (ss ++ ts)) (append_assoc opened bs cs) (first_then ss ts (opened ++ bs) cs a.2 b),
+      )
+
+  -- more blocks may follow those of which the steps are the first
+  first_further : (ss : List Step) (bs cs : List Block) → AreFirstSteps costs window ceiling bs ss → AreFirstSteps costs window ceiling (bs ++ cs) ss
+  first_further [] bs cs a = tt
+  first_further (s ∷ ss) [] cs a = absurd a
+  first_further (s ∷ ss) (x ∷ bs) cs a =
+      let opened = opened_under (limit_at ceiling s.seen) x s.bound in (
+        a.0,
+        a.1,
+        subst (λ bs. AreFirstSteps costs window ceiling bs ss) (append_assoc opened bs cs) (first_further ss (opened ++ bs) cs a.2),
+      )
+
   -- a visit under way: the steps done, after which those of the blocks that are left make it whole
   pub record IsWalking (b : Block) (v : View) (p : P) (left : List Block) (w : View) (q : P) : Type 0 where
     pub done : List Step
     pub goes : (more : List Step) → AreSteps costs window ceiling left more → AreSteps costs window ceiling (b ∷ []) (done ++ more)
+    pub first : (more : List Step) → AreFirstSteps costs window ceiling left more → AreFirstSteps costs window ceiling (b ∷ []) (done ++ more)
     pub view : FoldsTo (Takes ceiling) v done w
     pub kept : FoldsTo told p done q
 
@@ -68,6 +93,7 @@ module _ {P : Type 0} (told : P → Step → P → Type 0) (costs : Costs) (wind
     begun keys opened offers opens after = record {
       done = own ∷ [];
       goes = λ more steps. (refl, is_bound, subst (λ bs. AreSteps costs window ceiling bs more) (sym (append-nil _ ∙ opens)) steps);
+      first = λ more steps. (refl, is_bound, subst (λ bs. AreFirstSteps costs window ceiling bs more) (sym (append-nil _ ∙ opens)) steps);
       view = (w, (low, subst (λ ks. Offers ks (after_limit seen v) w) (sym offers) after), refl);
       kept = (q, was_told, refl);
     }
@@ -87,9 +113,24 @@ module _ {P : Type 0} (told : P → Step → P → Type 0) (costs : Costs) (wind
     goes = λ more steps.
         subst (AreSteps costs window ceiling (b ∷ [])) (sym (append_assoc walking.done child.steps more))
         (walking.goes (child.steps ++ more) (steps_then child.steps more (c ∷ []) rest child.are steps));
+    first = λ more steps.
+        subst (AreFirstSteps costs window ceiling (b ∷ [])) (sym (append_assoc walking.done child.steps more))
+        (walking.first (child.steps ++ more) (first_then child.steps more (c ∷ []) rest child.are steps));
     view = folds_then (Takes ceiling) walking.done child.steps v w u walking.view child.view;
     kept = folds_then told walking.done child.steps p q r walking.kept child.kept;
   }
+
+  -- a step of a child couldn't be kept
+  pub stopped_below : (fails : P → P → Type 0) (b c : Block) (rest : List Block) (v w u : View) (p q r : P) → IsWalking b v p (c ∷ rest) w q
+      → HasStopped told fails costs window ceiling c w u q r → HasStopped told fails costs window ceiling b v u p r
+  stopped_below fails b c rest v w u p q r walking child =
+      let gained = gained_steps ceiling walking.done v w walking.view in record {
+        steps = walking.done ++ child.steps;
+        are = walking.first child.steps (first_further child.steps (c ∷ []) rest child.are);
+        kept = (child.kept.0, folds_then told walking.done child.steps p q child.kept.0 walking.kept child.kept.1, child.kept.2);
+        share = child.share ∙ gained.share;
+        drawn = child.drawn ∙ gained.drawn;
+      }
 
   module _ (b : Block) (v w : View) (p q : P) (seen : ℕ) (low : seen ≤ v.floor) where
     abbrev step : Option ℕ → Step

@@ -31,6 +31,14 @@ AreSteps costs window ceiling (b ∷ bs) (s ∷ ss) =
     (s.block ≡ b) × IsBound costs window b s.bound
     × AreSteps costs window ceiling (opened_under (limit_at ceiling s.seen) b s.bound ++ bs) ss
 
+-- the steps are the first of such visits, which may stop after any of them
+abbrev pub AreFirstSteps : Costs → Window → ℕ → List Block → List Step → Type 0
+AreFirstSteps costs window ceiling bs [] = Unit {0}
+AreFirstSteps costs window ceiling [] (s ∷ ss) = ⊥
+AreFirstSteps costs window ceiling (b ∷ bs) (s ∷ ss) =
+    (s.block ≡ b) × IsBound costs window b s.bound
+    × AreFirstSteps costs window ceiling (opened_under (limit_at ceiling s.seen) b s.bound ++ bs) ss
+
 -- a view after these keys were offered
 abbrev pub Offers : List ℕ → View → View → Type 0
 Offers [] v w = w ≡ v
@@ -46,6 +54,15 @@ pub record HasWalked {P : Type 0} (told : P → Step → P → Type 0) (costs : 
   pub are : AreSteps costs window ceiling (b ∷ []) steps
   pub view : FoldsTo (Takes ceiling) v steps w
   pub kept : FoldsTo told p steps q
+
+-- A visit of a block stopped, since a step couldn't be kept. What keeps them was told of the first ones, which made p some r,
+-- and failed at the next, which made it q. The view's share and what it drew are as before.
+pub record HasStopped {P : Type 0} (told : P → Step → P → Type 0) (fails : P → P → Type 0) (costs : Costs) (window : Window) (ceiling : ℕ) (b : Block) (v w : View) (p q : P) : Type 0 where
+  pub steps : List Step
+  pub are : AreFirstSteps costs window ceiling (b ∷ []) steps
+  pub kept : (r : P) × FoldsTo told p steps r × fails r q
+  pub share : w.share ≡ v.share
+  pub drawn : w.drawn ≡ v.drawn
 
 -- how many spans are shorter
 abbrev pub depth : Span → ℕ

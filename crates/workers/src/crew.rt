@@ -31,6 +31,7 @@ pub(crate) fn work<G: Gate, K: Recorder>(
     requires idle { IsIdle seat.old.view }
     requires items { AreItems crew.now.visitor.tables.now.window crew.now.items.now }
     ensures race { seat.new.race ≡ seat.old.race }
+    ensures share { seat.new.view.share ≡ seat.old.view.share }
     ensures worked { let v = crew.now.visitor in
         OnOk result (HasWorked K.told (costs_of v.tables.now) v.tables.now.window v.ceiling crew.now.items.now seat.old.view seat.new.view recorder.old recorder.new) }
 {

@@ -1,6 +1,6 @@
 //! What keeps the steps of a visit, or doesn't.
 
-ghost use Rattle.std.specs.Prelude.{OnOk};
+ghost use Rattle.std.specs.Prelude.{OnOk, OnErr};
 ghost use Rattle.workers.specs.Steps.{Step};
 
 use definitions::Block;
@@ -14,9 +14,13 @@ pub(crate) trait Recorder {
     // what it is before it is told of a step, and after
     ghost told: { Self → Step → Self → Type 0 };
 
+    // what it is before a step that it can't keep, and after
+    ghost fails: { Self → Self → Type 0 };
+
     /// Keeps a step: the block, its bound, and what was read there.
     fn record(&mut self, block: &Block, bound: Option<u32>, seen: u64) -> Result<(), Self::Fault>
-        ensures { OnOk result (told self.old (record { block = block.now; bound = bound; seen = seen }) self.new) };
+        ensures kept { OnOk result (told self.old (record { block = block.now; bound = bound; seen = seen }) self.new) }
+        ensures fault { OnErr result (fails self.old self.new) };
 }
 
 /// Keeps nothing.
@@ -27,6 +31,8 @@ impl Recorder for NoRecord {
     type Fault = Infallible;
 
     ghost told = { λ before step after. Unit {0} };
+
+    ghost fails = { λ before after. Unit {0} };
 
     fn record(
         &mut self,

@@ -216,6 +216,8 @@ impl Recorder for Counter {
 
     ghost told = { λ before step after. Unit {0} };
 
+    ghost fails = { λ before after. Unit {0} };
+
     fn record(
         &mut self,
         _block: &Block,

@@ -1,13 +1,13 @@
 //! Visits of blocks, down to the minutes.
 
-ghost use Rattle.std.specs.Prelude.{◌≡◌, ◌≤◌, OnOk};
+ghost use Rattle.std.specs.Prelude.{◌≡◌, ◌≤◌, OnOk, OnErr};
 ghost use Rattle.std.specs.Option.{ForSome};
 ghost use Rattle.definitions.specs.sequences.Windows.{IsWindow};
 ghost use Rattle.definitions.specs.answers.Blocks.{IsBlock, IsBound};
 ghost use Rattle.field_tables.specs.Scored.{costs_of};
 ghost use Rattle.signal_base.specs.declared.limits.TheConstants.{GREATEST_COST};
 ghost use Rattle.workers.specs.Visits.{limit_at};
-ghost use Rattle.workers.specs.Steps.{HasWalked};
+ghost use Rattle.workers.specs.Steps.{HasStopped, HasWalked};
 
 use crate::recorder::Recorder;
 use bounds::{Bounded, block_key, bound, bounded_children};
@@ -39,6 +39,8 @@ impl Visitor<'_> {
         ensures race { seat.new.race ≡ seat.old.race }
         ensures walked { let t = self.now.tables.now in
             OnOk result (HasWalked K.told (costs_of t) t.window self.now.ceiling item.now seat.old.view seat.new.view recorder.old recorder.new) }
+        ensures stopped { let t = self.now.tables.now in
+            OnErr result (HasStopped K.told K.fails (costs_of t) t.window self.now.ceiling item.now seat.old.view seat.new.view recorder.old recorder.new) }
     {
         let found = Bounded {
             block: *item,
@@ -62,6 +64,8 @@ impl Visitor<'_> {
         ensures race { seat.new.race ≡ seat.old.race }
         ensures walked { let t = self.now.tables.now in
             OnOk result (HasWalked K.told (costs_of t) t.window self.now.ceiling found.now.block seat.old.view seat.new.view recorder.old recorder.new) }
+        ensures stopped { let t = self.now.tables.now in
+            OnErr result (HasStopped K.told K.fails (costs_of t) t.window self.now.ceiling found.now.block seat.old.view seat.new.view recorder.old recorder.new) }
     {
         children_share_the_sequences();
         let seen = self.race.limit(seat);

@@ -6,7 +6,7 @@ use Rattle.definitions.specs.answers.Blocks.{block_key, children}
 use Rattle.field_tables.specs.Scored.{costs_of}
 use Rattle.workers.specs.Visits.{limit_at}
 use Rattle.workers.specs.Steps.{depth}
-use Rattle.workers.proofs.Walking.{IsWalking, passed_none, passed_above, offered_minute, opened_block, children_are_shorter, one_more, ended}
+use Rattle.workers.proofs.Walking.{IsWalking, passed_none, passed_above, offered_minute, opened_block, children_are_shorter, one_more, ended, stopped_below}
 use Rattle.workers.proofs.visitor.Visitor.+visit_block.Goals as goal
 
 pub returns-in_default-clause-walked : goal.returns-in_default-clause-walked
@@ -14,7 +14,7 @@ returns-in_default-clause-walked g t c =
     let s = c.args.self.now in
     passed_none g.K.Recorder.told (costs_of s.tables.now) s.tables.now.window s.ceiling c.args.found.now.block
     c.args.seat.now.view c.limit-seen.new.seat.view c.args.recorder.now c.record.new.self c.limit-seen.result c.limit-seen.ensures.below
-    c.args.found.now.bound c.in_default.is c.requires.bound c.in_ok-record.ensures c.limit-seen.ensures.view
+    c.args.found.now.bound c.in_default.is c.requires.bound c.in_ok-record.ensures.kept c.limit-seen.ensures.view
 
 pub returns-then-key-limit-clause-walked : goal.returns-then-key-limit-clause-walked
 returns-then-key-limit-clause-walked g t c =
@@ -23,7 +23,7 @@ returns-then-key-limit-clause-walked g t c =
     omega (arith, c.if-key-limit.true, c.block_key-key.ensures, c.limit_at-limit.ensures) in
     passed_above g.K.Recorder.told (costs_of s.tables.now) s.tables.now.window s.ceiling c.args.found.now.block
     c.args.seat.now.view c.limit-seen.new.seat.view c.args.recorder.now c.record.new.self c.limit-seen.result c.limit-seen.ensures.below
-    c.args.found.now.bound c.in-Some.bound c.in-Some.is c.requires.bound c.in_ok-record.ensures over c.limit-seen.ensures.view
+    c.args.found.now.bound c.in-Some.bound c.in-Some.is c.requires.bound c.in_ok-record.ensures.kept over c.limit-seen.ensures.view
 
 pub returns-then-eq-clause-walked : goal.returns-then-eq-clause-walked
 returns-then-eq-clause-walked g t c =
@@ -34,7 +34,7 @@ returns-then-eq-clause-walked g t c =
     let offered = c.offer.ensures.view in
     offered_minute g.K.Recorder.told (costs_of s.tables.now) s.tables.now.window s.ceiling c.args.found.now.block
     c.args.seat.now.view c.offer.new.seat.view c.args.recorder.now c.record.new.self c.limit-seen.result c.limit-seen.ensures.below
-    c.args.found.now.bound c.in-Some.bound c.in-Some.is c.requires.bound c.in_ok-record.ensures
+    c.args.found.now.bound c.in-Some.bound c.in-Some.is c.requires.bound c.in_ok-record.ensures.kept
     c.block_key-key.result offered.0 c.limit-seen.new.seat.view c.block_key-key.ensures within span c.limit-seen.ensures.view offered.1 offered.2
 
 pub loop-child-init : goal.loop-child-init
@@ -46,7 +46,7 @@ loop-child-init g t c =
     let long : c.args.found.now.block.span ≢ Minute = λ e. search rules in
     let walking = opened_block g.K.Recorder.told (costs_of s.tables.now) s.tables.now.window s.ceiling b
     c.args.seat.now.view c.limit-seen.new.seat.view c.args.recorder.now c.record.new.self c.limit-seen.result c.limit-seen.ensures.below
-    c.args.found.now.bound c.in-Some.bound c.in-Some.is c.requires.bound c.in_ok-record.ensures within long c.limit-seen.ensures.view in
+    c.args.found.now.bound c.in-Some.bound c.in-Some.is c.requires.bound c.in_ok-record.ensures.kept within long c.limit-seen.ensures.view in
     let shorter = children_are_shorter b.span long (children b) (c.children_share_the_sequences.ensures.spans s.tables.now.window b s.window_is_in_range.century c.requires.block) in record {
       race = c.limit-seen.ensures.race;
       tables = c.bounded_children-children.ensures.tables;
@@ -79,3 +79,14 @@ returns-clause-walked g t c =
     ended g.K.Recorder.told (costs_of s.tables.now) s.tables.now.window s.ceiling b c.args.seat.now.view at.seat.view c.args.recorder.now at.recorder
     (subst (λ left. IsWalking g.K.Recorder.told (costs_of s.tables.now) s.tables.now.window s.ceiling b c.args.seat.now.view c.args.recorder.now left at.seat.view at.recorder)
     c.in_default-next.ensures.end.0 at.invariant.walking)
+
+pub returns-in_err-visit_block-clause-stopped : goal.returns-in_err-visit_block-clause-stopped
+returns-in_err-visit_block-clause-stopped g t c =
+    let s = c.args.self.now in
+    let b = c.args.found.now.block in
+    let at = c.loop-child in
+    let stopped = stopped_below g.K.Recorder.told (costs_of s.tables.now) s.tables.now.window s.ceiling g.K.Recorder.fails b c.in-Some-next.child.block c.next.new.self.left
+    c.args.seat.now.view at.seat.view c.visit_block.new.seat.view c.args.recorder.now at.recorder c.visit_block.new.recorder
+    (subst (λ left. IsWalking g.K.Recorder.told (costs_of s.tables.now) s.tables.now.window s.ceiling b c.args.seat.now.view c.args.recorder.now left at.seat.view at.recorder)
+    c.in-Some-next.ensures.child at.invariant.walking) c.in_err-visit_block.ensures.stopped in
+    search rules
