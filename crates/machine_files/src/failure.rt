@@ -1,0 +1,35 @@
+//! The machine's error on a file, and which file it was.
+ghost use Rattle.std.specs.Prelude.{◌≡◌, IfSome, string_bytes};
+
+use bank_files::OUTPUT;
+use std::alloc::Global;
+use std::{fmt, io};
+
+/// A file or standard output, and the machine's error on it.
+#[derive(Drop)]
+pub struct Failure {
+    name: String,
+    error: io::Error,
+}
+
+impl Failure {
+    /// The error on the file of this name. Without memory for the name there is none.
+    pub fn new(alloc: Global, name: &str, error: io::Error) -> Option<Failure>
+        ensures name { IfSome result (λ failure. string_bytes failure.name ≡ name.now) }
+        ensures error { IfSome result (λ failure. failure.error ≡ error) }
+    {
+        let name = String::from_str(alloc, name).ok()?;
+        Some(Failure { name, error })
+    }
+}
+
+impl fmt::Display for Failure {
+    fn fmt<W: fmt::Write>(&self, f: &mut fmt::Formatter<W>) -> fmt::Result {
+        let name = match self.name.as_str() {
+            OUTPUT => "standard output",
+            name => name,
+        };
+        let error = self.error;
+        write!(f, "{name}: {error}")
+    }
+}

@@ -1,0 +1,129 @@
+//! The files of a machine, as a receiver bank sees them.
+ghost use Rattle.std.specs.Prelude.{◌≡◌, ◌≢◌, ◌+◌, ◌≤◌, ◌<◌, false, length, take, IfOk, IfErr, IfSome, IsSomeAnd, OnOk, OnErr, IsErr, is_ok, if◌then◌else◌, string_bytes};
+ghost use Rattle.std.specs.Option.{ForSome};
+ghost use Rattle.std.proofs.Props.{props};
+ghost use Rattle.bank_files.specs.Fault.{HasFault, raised};
+ghost use Rattle.bank_files.specs.Told.{Finds, Reads};
+ghost use Rattle.machine_files.specs.Disk.{told_at};
+ghost use Rattle.machine_files.specs.Calls.{Tries};
+ghost use Rattle.machine_files.specs.Opened.{IsKeptToRead, IsKeptToAppend};
+
+use crate::Machine;
+use crate::failure::Failure;
+use crate::kept::{append_named, read_named};
+use crate::opened::Opened;
+use crate::tries::print_some;
+use bank_files::{Failed, Files, OUTPUT};
+use std::alloc::Global;
+use std::io;
+
+/// The files of a machine by their names, and its standard output under the name `-`. What is told of a file is
+/// what the machine's disk tells. One count of faults serves for all names, for reading and for writing: it is
+/// raised at each failure of the machine, and stands still at the greatest u64.
+#[derive(Drop)]
+pub struct RealFiles<M: Machine> {
+    alloc: Global,
+    machine: M,
+    reading: Option<Opened<M::File>>,
+    writing: Option<Opened<M::File>>,
+    // Whether a file that had just been opened to append to took nothing. Where it was missing, it was made, and
+    // nobody knows.
+    in_doubt: bool,
+    faults: u64,
+    // The latest fault, where there was memory to keep it.
+    failure: Option<Failure>,
+    ghost reading_kept: { ForSome reading (IsKeptToRead (M.disk machine) M.leads M.place) } by { Prim.hlevel props },
+    ghost writing_kept: { ForSome writing (IsKeptToAppend (M.disk machine) M.leads) } by { Prim.hlevel props },
+}
+
+impl<M: Machine> RealFiles<M> {
+    /// The files of this machine, of which none has failed yet.
+    pub fn new(alloc: Global, machine: M) -> RealFiles<M>
+        ensures machine { result.machine ≡ machine }
+        ensures sure { result.in_doubt ≡ false }
+        ensures faults { result.faults ≡ 0 }
+    {
+        RealFiles {
+            alloc,
+            machine,
+            reading: None,
+            writing: None,
+            in_doubt: false,
+            faults: 0,
+            failure: None,
+        }
+    }
+
+    /// The file that failed last, and how, where that is known.
+    pub fn failure(&self) -> Option<&Failure> {
+        self.failure.as_ref()
+    }
+
+    // Hands on what the machine answered for the file of that name. An error is counted and kept.
+    fn count_error<T>(&mut self, name: &str, answer: io::Result<T>) -> Result<T, Failed>
+        ensures value { IfOk result (λ value. answer ≡ Ok value) }
+        ensures error { OnErr result (IsErr answer) }
+        ensures counted { self.new.faults
+            ≡ (if is_ok answer then self.old.faults else raised self.old.faults) }
+        ensures cause { OnErr result (HasFault self.old.faults self.new.faults) }
+        ensures same { OnOk result (self.new.faults ≡ self.old.faults) }
+        ensures no_less { self.old.faults ≤ self.new.faults }
+        ensures failure { IfErr answer (λ error. IfSome self.new.failure (λ failure.
+            (string_bytes failure.name ≡ name.now) × (failure.error ≡ error))) }
+        ensures machine { self.new.machine ≡ self.old.machine }
+        ensures in_doubt { self.new.in_doubt ≡ self.old.in_doubt }
+    {
+        match answer {
+            Ok(value) => Ok(value),
+            Err(error) => {
+                self.faults = self.faults.saturating_add(1);
+                self.failure = Failure::new(self.alloc, name, error);
+                Err(Failed)
+            }
+        }
+    }
+}
+
+impl<M: Machine> Files for RealFiles<M> {
+    ghost use Rattle.machine_files.specs.Seeing.{seen_of};
+
+    ghost view = { λ files. seen_of (M.disk files.machine) files.in_doubt files.faults };
+
+    ghost output_is_there = { λ files. M.output_is_there files.machine };
+
+    fn read_at(&mut self, name: &str, at: u64, into: &mut [u8]) -> Result<usize, Failed> {
+        let read = read_named(
+            self.alloc,
+            &mut self.machine,
+            &mut self.reading,
+            name,
+            at,
+            into,
+        );
+        self.count_error(name, read)
+    }
+
+    // What stands open is closed first, since the name may lead to another file afterwards.
+    fn create(&mut self, name: &str) -> Result<(), Failed> {
+        self.reading = None;
+        self.writing = None;
+        let created = self.machine.make_empty(name);
+        self.count_error(name, created)
+    }
+
+    fn append(&mut self, name: &str, bytes: &[u8]) -> Result<usize, Failed> {
+        if name == OUTPUT {
+            let printed = print_some(&mut self.machine, bytes);
+            return self.count_error(name, printed);
+        }
+        let appended = append_named(
+            self.alloc,
+            &mut self.machine,
+            &mut self.writing,
+            &mut self.in_doubt,
+            name,
+            bytes,
+        );
+        self.count_error(name, appended)
+    }
+}

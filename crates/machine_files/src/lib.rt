@@ -1,0 +1,13 @@
+//! The files of a machine: which stands open, from which place it is read, and how the machine's answers are
+//! taken, over a small trait of what an operating system gives.
+#![tactic(auto)]
+
+mod failure;
+mod files;
+mod kept;
+mod machine;
+mod opened;
+mod tries;
+
+pub use files::RealFiles;
+pub use machine::{Machine, count_answer, count_taking};
