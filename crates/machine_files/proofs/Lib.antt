@@ -1,3 +1,5 @@
 mod Keeping
 mod Appending
 mod Telling
+mod MemoryLaws
+mod DiskLaws

@@ -2,3 +2,4 @@ pub mod Disk
 pub mod Calls
 pub mod Opened
 pub mod Seeing
+pub mod Memory

@@ -6,6 +6,7 @@ mod failure;
 mod files;
 mod kept;
 mod machine;
+mod memory;
 mod opened;
 mod tries;
 

@@ -1,0 +1,31 @@
+-- What is told of files in memory after one of them was made, emptied or appended to.
+use Rattle.std.proofs.Common.{◌≡◌, ◌≢◌, ◌+◌, ◌<◌, ◌≤◌, ◌++◌, ◌∷◌, ℕ, Bool, true, false, nat_lt, List, [], length, map, get_or, slice_set, string_bytes, if◌then◌else◌, Result, Ok, Err, OnOk, OnErr, is_ok, refl, sym, ◌∙◌, ap, subst, arith}
+use Rattle.std.proofs.lemmas.List.{map-set, get_or-map}
+use Rattle.std.proofs.Math.Seq.{map-set_same}
+use Rattle.machine_files.specs.declared.memory.MemoryFile.{MemoryFile}
+use Rattle.machine_files.specs.Memory.{names_of, contents_of, Writes, SameFiles}
+
+-- a file was replaced by one of the same name, which holds these bytes
+pub writes : (files : List MemoryFile) (number : ℕ) (file old : MemoryFile) (bytes : List ℕ) → file.name ≡ (get_or files number old).name → file.bytes.items ≡ bytes
+    → Writes files (slice_set files number file) number bytes
+writes files number file old bytes name holds = record {
+  names = map-set_same (λ (f : MemoryFile). string_bytes f.name) files number file old (ap string_bytes name);
+  contents = map-set (λ (f : MemoryFile). f.bytes.items) files number file ∙ ap (λ (xs : List ℕ). slice_set (contents_of files) number xs) holds;
+}
+
+-- a file was replaced by one that has the same name and holds the same bytes
+pub writes_same : (files : List MemoryFile) (number : ℕ) (file old : MemoryFile) → file.name ≡ (get_or files number old).name → file.bytes.items ≡ (get_or files number old).bytes.items
+    → SameFiles files (slice_set files number file)
+writes_same files number file old name holds = record {
+  names = map-set_same (λ (f : MemoryFile). string_bytes f.name) files number file old (ap string_bytes name);
+  contents = map-set_same (λ (f : MemoryFile). f.bytes.items) files number file old holds;
+}
+
+-- a file was extended by more bytes, if there was memory for them
+pub extended : {E : Type 0} (files : List MemoryFile) (number : ℕ) (file old : MemoryFile) (more : List ℕ) (result : Result (Unit {0}) E) → number < length files
+    → file.name ≡ (get_or files number old).name → file.bytes.items ≡ (if is_ok result then (get_or files number old).bytes.items ++ more else (get_or files number old).bytes.items)
+    → OnOk result (Writes files (slice_set files number file) number (get_or (contents_of files) number [] ++ more)) × OnErr result (SameFiles files (slice_set files number file))
+extended files number file old more (Ok u) within name holds =
+    (writes files number file old (get_or (contents_of files) number [] ++ more) name
+    (holds ∙ ap (λ (xs : List ℕ). xs ++ more) (sym (get_or-map (λ (f : MemoryFile). f.bytes.items) files number old [] within))), tt)
+extended files number file old more (Err e) within name holds = (tt, writes_same files number file old name holds)
