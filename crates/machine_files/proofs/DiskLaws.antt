@@ -9,9 +9,10 @@ use Rattle.std.specs.Str.{bytes_eq}
 use Rattle.bank_files.specs.Told.{Told, Holds, Missing, emptied, appended}
 use Rattle.machine_files.specs.Disk.{Entry, Unknown, Absent, Inode, Disk, told_at}
 use Rattle.machine_files.specs.Calls.{OnlyFile, Opens, Makes, Empties, Adds}
-use Rattle.machine_files.specs.Memory.{entry_from, inode_in, disk_of, names_of, contents_of, AddsFile, Writes, entry_within, entry_apart}
-use Rattle.machine_files.specs.declared.memory.MemoryFile.{MemoryFile}
-use Rattle.machine_files.proofs.Appending.{only_start}
+use Rattle.machine_files.specs.Stored.{entry_from, inode_in, disk_of, names_of, contents_of, AddsFile, Writes, entry_within, entry_apart}
+use Rattle.machine_files.specs.Memory.{Puts}
+use Rattle.machine_files.specs.declared.store.MemoryFile.{MemoryFile}
+use Rattle.machine_files.proofs.Appending.{only_start, only_then, adds_only}
 
 -- an inode is there
 inode_is_there : (k : ℕ) → Inode k ≢ Absent
@@ -149,10 +150,41 @@ module _ (old mid new : List MemoryFile) (before printed name : List ℕ) where
       let fits : k < length (contents_of old) = omega (arith, length-map old (λ (f : MemoryFile). f.bytes.items), ap (length {A = MemoryFile}) same) in
       subst (λ (d : Disk). Empties (disk_with old before) d name) (sym after) (empties_file (names_of old) (contents_of old) before name k fits (subst (λ (files : List MemoryFile). entry_from 0 (names_of files) name ≡ Inode k) same (sym is)))
 
+  -- a name leads to the file that was made under it
+  pub leads_to_made : AddsFile mid new name → Absent ≡ entry_from 0 (names_of mid) name → (n : ℕ) → n ≡ length mid → entry_from 0 (names_of new) name ≡ Inode n
+  leads_to_made adds gone n is =
+      ap (λ (names : List (List ℕ)). entry_from 0 names name) adds.names ∙ entry_new 0 (names_of mid) name (sym gone)
+      ∙ ap Inode (omega (arith, length-map mid (λ (f : MemoryFile). string_bytes f.name)))
+
+  -- a file that was made is empty
+  pub made_is_empty : AddsFile mid new name → (n : ℕ) → n ≡ length mid → get_or (contents_of new) n [] ≡ []
+  made_is_empty adds n is =
+      ap (λ (cs : List (List ℕ)). get_or cs n []) adds.contents
+      ∙ subst (λ (k : ℕ). get_or (contents_of mid ++ [] ∷ []) k [] ≡ []) (omega (arith, length-map mid (λ (f : MemoryFile). f.bytes.items))) (get_or-append_seam (contents_of mid) [] [] [])
+
   -- a file that was made is open
   pub opened_in_memory : AddsFile mid new name → Absent ≡ entry_from 0 (names_of mid) name → (n : ℕ) → n ≡ length mid → Opens (entry_from 0 (names_of new) name) (Inode n) 0
   opened_in_memory adds gone n is =
-      let leads : entry_from 0 (names_of new) name ≡ Inode n =
-          ap (λ (names : List (List ℕ)). entry_from 0 names name) adds.names ∙ entry_new 0 (names_of mid) name (sym gone)
-          ∙ ap Inode (omega (arith, length-map mid (λ (f : MemoryFile). string_bytes f.name))) in
+      let leads : entry_from 0 (names_of new) name ≡ Inode n = leads_to_made adds gone n is in
       record { there = λ missing. inode_is_there n (sym leads ∙ missing); same = sym leads; start = refl }
+
+  -- an emptied file holds nothing
+  pub cleared_is_empty : (k : ℕ) → k < length mid → Writes mid new k [] → get_or (contents_of new) k [] ≡ []
+  cleared_is_empty k within writes =
+      ap (λ (cs : List (List ℕ)). get_or cs k []) writes.contents
+      ∙ get_or-set_same (contents_of mid) k [] [] (omega (arith, length-map mid (λ (f : MemoryFile). f.bytes.items)))
+
+  -- a file was emptied and then given these bytes
+  pub put_in_memory : (k : ℕ) (bytes last : List ℕ) → last ≡ printed → k < length mid → Empties (disk_with old before) (disk_with mid printed) name → entry_from 0 (names_of mid) name ≡ Inode k
+      → get_or (contents_of mid) k [] ≡ [] → Writes mid new k (get_or (contents_of mid) k [] ++ bytes) → Puts (disk_with old before) (disk_with new last) name bytes
+  put_in_memory k bytes last same within empties leads empty writes =
+      let fits : k < length (contents_of mid) = omega (arith, length-map mid (λ (f : MemoryFile). f.bytes.items)) in
+      let after : disk_with new last ≡ disk_of (names_of mid) (slice_set (contents_of mid) k (get_or (contents_of mid) k [] ++ bytes)) printed = cc (writes.names, writes.contents, same) in
+      let more : Adds (disk_with mid printed) (disk_with new last) (Inode k) bytes =
+          subst (λ (d : Disk). Adds (disk_with mid printed) d (Inode k) bytes) (sym after) (adds_piece (names_of mid) (contents_of mid) printed k bytes fits) in
+      record {
+        file = ap (told_at (disk_with new last)) (ap (λ (f : List ℕ → Entry). f name) more.entries ∙ leads) ∙ more.file
+            ∙ ap (λ (t : Told). appended t bytes) (inode_is (contents_of mid) k fits ∙ ap Holds empty);
+        only = only_then (disk_with old before) (disk_with mid printed) (disk_with new last) name empties.only
+            (adds_only (disk_with mid printed) (disk_with new last) name bytes (Inode k) (entry_apart 0 (names_of mid)) (sym leads) more);
+      }

@@ -1,11 +1,9 @@
 //! The files of a machine, as a receiver bank sees them.
-ghost use Rattle.std.specs.Prelude.{◌≡◌, ◌≢◌, ◌+◌, ◌≤◌, ◌<◌, false, length, take, IfOk, IfErr, IfSome, IsSomeAnd, OnOk, OnErr, IsErr, is_ok, if◌then◌else◌, string_bytes};
+ghost use Rattle.std.specs.Prelude.{◌≡◌, ◌≢◌, ◌+◌, ◌≤◌, ◌<◌, true, false, IfOk, IfErr, IfSome, IsSomeAnd, OnOk, OnErr, IsErr, is_ok, if◌then◌else◌, string_bytes};
 ghost use Rattle.std.specs.Option.{ForSome};
 ghost use Rattle.std.proofs.Props.{props};
 ghost use Rattle.bank_files.specs.Fault.{HasFault, raised};
-ghost use Rattle.bank_files.specs.Told.{Finds, Reads};
-ghost use Rattle.machine_files.specs.Disk.{told_at};
-ghost use Rattle.machine_files.specs.Calls.{Tries};
+ghost use Rattle.bank_files.specs.Told.{output_name};
 ghost use Rattle.machine_files.specs.Opened.{IsKeptToRead, IsKeptToAppend};
 
 use crate::Machine;
@@ -32,16 +30,20 @@ pub struct RealFiles<M: Machine> {
     faults: u64,
     // The latest fault, where there was memory to keep it.
     failure: Option<Failure>,
+    // No more faults are counted than the machine has had failures.
+    ghost faults_are_failures: { faults ≤ M.failures machine },
+    // Files come into doubt by a fault alone.
+    ghost doubt_is_a_fault: { in_doubt ≡ true → 0 < faults },
     ghost reading_kept: { ForSome reading (IsKeptToRead (M.disk machine) M.leads M.place) } by { Prim.hlevel props },
     ghost writing_kept: { ForSome writing (IsKeptToAppend (M.disk machine) M.leads) } by { Prim.hlevel props },
 }
 
 impl<M: Machine> RealFiles<M> {
+    ghost use Rattle.machine_files.specs.Seeing.{seen_of};
+
     /// The files of this machine, of which none has failed yet.
     pub fn new(alloc: Global, machine: M) -> RealFiles<M>
-        ensures machine { result.machine ≡ machine }
-        ensures sure { result.in_doubt ≡ false }
-        ensures faults { result.faults ≡ 0 }
+        ensures { ⟦<RealFiles<M> as Files>⟧.view result ≡ seen_of (M.disk machine) false 0 }
     {
         RealFiles {
             alloc,
@@ -54,6 +56,13 @@ impl<M: Machine> RealFiles<M> {
         }
     }
 
+    /// How many faults were counted, of reading and of writing.
+    pub fn faults(&self) -> u64
+        ensures { (⟦<RealFiles<M> as Files>⟧.view self.now).read_faults output_name ≡ result }
+    {
+        self.faults
+    }
+
     /// The file that failed last, and how, where that is known.
     pub fn failure(&self) -> Option<&Failure> {
         self.failure.as_ref()
@@ -61,6 +70,7 @@ impl<M: Machine> RealFiles<M> {
 
     // Hands on what the machine answered for the file of that name. An error is counted and kept.
     fn count_error<T>(&mut self, name: &str, answer: io::Result<T>) -> Result<T, Failed>
+        requires { OnErr answer (HasFault self.old.faults (M.failures self.old.machine)) }
         ensures value { IfOk result (λ value. answer ≡ Ok value) }
         ensures error { OnErr result (IsErr answer) }
         ensures counted { self.new.faults
@@ -116,14 +126,17 @@ impl<M: Machine> Files for RealFiles<M> {
             let printed = print_some(&mut self.machine, bytes);
             return self.count_error(name, printed);
         }
+        let mut in_doubt = self.in_doubt;
         let appended = append_named(
             self.alloc,
             &mut self.machine,
             &mut self.writing,
-            &mut self.in_doubt,
+            &mut in_doubt,
             name,
             bytes,
         );
-        self.count_error(name, appended)
+        let answer = self.count_error(name, appended);
+        self.in_doubt = in_doubt;
+        answer
     }
 }

@@ -8,6 +8,7 @@ mod kept;
 mod machine;
 mod memory;
 mod opened;
+mod store;
 mod tries;
 
 pub use files::RealFiles;

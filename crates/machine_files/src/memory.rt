@@ -1,9 +1,12 @@
 //! A machine in memory, for tests. It moves few bytes a call, and is told which of its calls fail.
-ghost use Rattle.std.specs.Prelude.{◌≡◌, ◌≢◌, ◌-◌, ◌<◌, ◌≤◌, ◌++◌, [], length, take, drop, min, slice_index_or, IfSome, OnOk, OnErr, IsErr, is_err, true, vec_len};
-ghost use Rattle.machine_files.specs.Calls.{Counts};
-ghost use Rattle.machine_files.specs.Memory.{entry_from, entry_of, names_of, contents_of, AddsFile, Writes, SameFiles};
+ghost use Rattle.std.specs.Prelude.{◌≡◌, ◌-◌, ◌<◌, ◌≤◌, ◌++◌, ◌∷◌, [], None, Some, length, take, drop, min, slice_index_or, vec_len, is_err, true, IfOk, IfSome, OnOk, OnErr, MatchResult};
+ghost use Rattle.std.specs.Option.{option_copied};
+ghost use Rattle.std.specs.IoError.{error_kind};
+ghost use Rattle.machine_files.specs.Disk.{Inode};
+ghost use Rattle.machine_files.specs.Calls.{Counts, Empties};
 
 use crate::machine::{Machine, count_answer};
+use crate::store::{MemoryFile, add_file, copy_from, find, planned};
 use std::alloc::{AllocError, Global};
 use std::io;
 use std::io::ErrorKind;
@@ -29,17 +32,17 @@ pub struct MemoryHandle {
     place: u64,
 }
 
-// The kind of the failure that is planned for a call, if any is.
-fn planned(failing: &[(u64, ErrorKind)], call: u64) -> Option<ErrorKind> {
-    failing
-        .iter()
-        .find(|plan| plan.0 == call)
-        .map(|plan| plan.1)
-}
-
 impl MemoryMachine {
+    ghost use Rattle.bank_files.specs.Memory.{told_of};
+    ghost use Rattle.bank_files.specs.Told.{Holds};
+    ghost use Rattle.machine_files.specs.Disk.{told_at};
+    ghost use Rattle.machine_files.specs.Memory.{disk_in, failing_calls, next_call, IsFresh, Puts};
+    ghost use Rattle.machine_files.specs.Stored.{contents_of, planned_in, SameFiles, Writes};
+
     /// A machine without files, of which a call moves at most that many bytes, and at least one.
-    pub fn new(alloc: Global, most: usize) -> MemoryMachine {
+    pub fn new(alloc: Global, most: usize) -> MemoryMachine
+        ensures { IsFresh result }
+    {
         MemoryMachine {
             alloc,
             files: Vec::new(alloc),
@@ -51,8 +54,46 @@ impl MemoryMachine {
         }
     }
 
+    /// Gives a file these bytes, whether it was there or not. Without memory it may be left empty.
+    pub fn put(&mut self, name: &str, bytes: &[u8]) -> Result<(), AllocError>
+        ensures ok { OnOk result (Puts (disk_in self.old) (disk_in self.new) name.now bytes.now) }
+        ensures failing { failing_calls self.new ≡ failing_calls self.old }
+    {
+        let number = self.make(name)?;
+        self.extend_file(number, bytes)?;
+        Ok(())
+    }
+
+    /// Lets the call of that number fail in that way. Where several are asked for one call, the first counts.
+    pub fn fail_at(&mut self, call: u64, kind: ErrorKind) -> Result<(), AllocError>
+        ensures ok { OnOk result (failing_calls self.new ≡ failing_calls self.old ++ (call, kind) ∷ []) }
+        ensures err { OnErr result (failing_calls self.new ≡ failing_calls self.old) }
+        ensures disk { disk_in self.new ≡ disk_in self.old }
+    {
+        self.failing.push((call, kind))?;
+        Ok(())
+    }
+
+    /// What a file holds, or None where there is no such file.
+    pub fn contents(&self, name: &str) -> Option<&[u8]>
+        ensures { told_of (option_copied result) ≡ told_at (disk_in self.now) ((disk_in self.now).entry name.now) }
+    {
+        let number = find(&self.files, name)?;
+        Some(&self.files[number].bytes)
+    }
+
+    /// What was printed.
+    pub fn printed(&self) -> &[u8]
+        ensures { Holds result.now ≡ (disk_in self.now).output }
+    {
+        &self.printed
+    }
+
     // Counts a call, which fails where that is planned.
     fn begin(&mut self) -> io::Result<()>
+        ensures planned { MatchResult result
+            (λ _. planned_in (failing_calls self.old) (next_call self.old) ≡ None)
+            (λ error. planned_in (failing_calls self.old) (next_call self.old) ≡ Some (error_kind error)) }
         ensures files { self.new.files ≡ self.old.files }
         ensures printed { self.new.printed ≡ self.old.printed }
         ensures counted { Counts self.old.failures self.new.failures (is_err result) }
@@ -64,35 +105,70 @@ impl MemoryMachine {
         }
     }
 
-    // Makes the file of that number empty.
-    fn clear_file(&mut self, number: usize)
-        requires { number < vec_len self.old.files }
-        ensures files { Writes self.old.files.items self.new.files.items number [] }
-        ensures printed { self.new.printed ≡ self.old.printed }
-        ensures failures { self.new.failures ≡ self.old.failures }
-    {
-        let file = &mut self.files[number];
-        file.bytes.clear();
-    }
-
     // Counts a failure, and answers it.
     fn fail<T>(&mut self, kind: ErrorKind) -> io::Result<T>
-        ensures fails { IsErr result }
+        ensures kind { MatchResult result (λ _. ⊥) (λ error. error_kind error ≡ kind) }
         ensures files { self.new.files ≡ self.old.files }
         ensures printed { self.new.printed ≡ self.old.printed }
         ensures counted { Counts self.old.failures self.new.failures true }
     {
         count_answer(&mut self.failures, Err(io::Error::from(kind)))
     }
+
+    // Makes a file of that name empty, whether it was there or not, and answers its number.
+    fn make(&mut self, name: &str) -> Result<usize, AllocError>
+        ensures emptied { OnOk result (Empties (disk_in self.old) (disk_in self.new) name.now) }
+        ensures within { IfOk result (λ number. number < vec_len self.new.files) }
+        ensures number { IfOk result (λ number. (disk_in self.new).entry name.now ≡ Inode number) }
+        ensures empty { IfOk result (λ number. slice_index_or (contents_of self.new.files.items) number [] ≡ []) }
+        ensures same { OnErr result (disk_in self.new ≡ disk_in self.old) }
+        ensures printed { self.new.printed ≡ self.old.printed }
+        ensures failing { self.new.failing ≡ self.old.failing }
+        ensures failures { self.new.failures ≡ self.old.failures }
+    {
+        if let Some(number) = find(&self.files, name) {
+            self.clear_file(number);
+            return Ok(number);
+        }
+        let number = self.files.len();
+        add_file(self.alloc, &mut self.files, name)?;
+        Ok(number)
+    }
+
+    // Makes the file of that number empty.
+    fn clear_file(&mut self, number: usize)
+        requires { number < vec_len self.old.files }
+        ensures files { Writes self.old.files.items self.new.files.items number [] }
+        ensures printed { self.new.printed ≡ self.old.printed }
+        ensures failing { self.new.failing ≡ self.old.failing }
+        ensures failures { self.new.failures ≡ self.old.failures }
+    {
+        let file = &mut self.files[number];
+        file.bytes.clear();
+    }
+
+    // Adds bytes to the end of the file of that number. Without memory all files are as before.
+    fn extend_file(&mut self, number: usize, bytes: &[u8]) -> Result<(), AllocError>
+        requires { number < vec_len self.old.files }
+        ensures ok { OnOk result (Writes self.old.files.items self.new.files.items number
+            (slice_index_or (contents_of self.old.files.items) number [] ++ bytes.now)) }
+        ensures err { OnErr result (SameFiles self.old.files.items self.new.files.items) }
+        ensures printed { self.new.printed ≡ self.old.printed }
+        ensures failing { self.new.failing ≡ self.old.failing }
+        ensures failures { self.new.failures ≡ self.old.failures }
+    {
+        let file = &mut self.files[number];
+        file.bytes.extend_from_slice(bytes)
+    }
 }
 
 impl Machine for MemoryMachine {
-    ghost use Rattle.machine_files.specs.Disk.{Inode};
-    ghost use Rattle.machine_files.specs.Memory.{names_of, contents_of, disk_of, entry_apart};
+    ghost use Rattle.machine_files.specs.Memory.{disk_in};
+    ghost use Rattle.machine_files.specs.Stored.{names_of, entry_apart};
 
     type File = MemoryHandle;
 
-    ghost disk = { λ m. disk_of (names_of m.files.items) (contents_of m.files.items) m.printed.items };
+    ghost disk = { disk_in };
 
     ghost leads = { λ file. Inode file.number };
 
@@ -126,12 +202,8 @@ impl Machine for MemoryMachine {
 
     fn make_empty(&mut self, name: &str) -> io::Result<()> {
         self.begin()?;
-        if let Some(number) = find(&self.files, name) {
-            self.clear_file(number);
-            return Ok(());
-        }
-        match add_file(self.alloc, &mut self.files, name) {
-            Ok(()) => Ok(()),
+        match self.make(name) {
+            Ok(_) => Ok(()),
             Err(_) => self.fail(ErrorKind::OutOfMemory),
         }
     }
@@ -159,7 +231,7 @@ impl Machine for MemoryMachine {
             return self.fail(ErrorKind::InvalidInput);
         }
         let count = bytes.len().min(self.most);
-        match extend_file(&mut self.files, file.number, &bytes[..count]) {
+        match self.extend_file(file.number, &bytes[..count]) {
             Ok(()) => Ok(count),
             Err(_) => self.fail(ErrorKind::OutOfMemory),
         }
@@ -173,62 +245,4 @@ impl Machine for MemoryMachine {
             Err(_) => self.fail(ErrorKind::OutOfMemory),
         }
     }
-}
-
-// A file, whose number is its place in the list of all files.
-#[derive(Drop)]
-pub(crate) struct MemoryFile {
-    name: String,
-    bytes: Vec<u8>,
-}
-
-// The number of the first file of that name.
-fn find(files: &[MemoryFile], name: &str) -> Option<usize>
-    ensures found { entry_of result ≡ entry_from 0 (names_of files.now) name.now }
-    ensures within { IfSome result (λ number. number < length files.now) }
-{
-    for (number, file) in files.iter().enumerate() {
-        if file.name.as_str() == name {
-            return Some(number);
-        }
-    }
-    None
-}
-
-// Adds an empty file of that name. Without memory all is as before.
-fn add_file(alloc: Global, files: &mut Vec<MemoryFile>, name: &str) -> Result<(), AllocError>
-    ensures ok { OnOk result (AddsFile files.old.items files.new.items name.now) }
-    ensures err { OnErr result (SameFiles files.old.items files.new.items) }
-{
-    let name = String::from_str(alloc, name)?;
-    files.push(MemoryFile {
-        name,
-        bytes: Vec::new(alloc),
-    })?;
-    Ok(())
-}
-
-// Adds bytes to the end of the file of that number. Without memory all is as before.
-fn extend_file(files: &mut [MemoryFile], number: usize, bytes: &[u8]) -> Result<(), AllocError>
-    requires { number < length files.old }
-    ensures ok { OnOk result (Writes files.old files.new number (slice_index_or (contents_of files.old) number [] ++ bytes.now)) }
-    ensures err { OnErr result (SameFiles files.old files.new) }
-{
-    let file = &mut files[number];
-    file.bytes.extend_from_slice(bytes)
-}
-
-// Copies bytes of a file from place `at` into the front of `into`, as many as there are or fit, and answers how
-// many.
-fn copy_from(file: &[u8], at: u64, into: &mut [u8]) -> usize
-    ensures count { result ≡ min (length into.old) (length file.now - at) }
-    ensures bytes { into.new ≡ take result (drop at file.now) ++ drop result into.old }
-{
-    if at >= file.len() as u64 {
-        return 0;
-    }
-    let rest = &file[at as usize..];
-    let count = into.len().min(rest.len());
-    into[..count].copy_from_slice(&rest[..count]);
-    count
 }

@@ -1,5 +1,5 @@
 use Rattle.std.proofs.Common.{ap}
-use Rattle.machine_files.specs.declared.memory.MemoryFile.{MemoryFile}
+use Rattle.machine_files.specs.declared.store.MemoryFile.{MemoryFile}
 use Rattle.machine_files.proofs.MemoryLaws.{writes}
 use Rattle.machine_files.proofs.memory.MemoryMachine.clear_file.Goals as goal
 
