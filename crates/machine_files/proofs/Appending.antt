@@ -1,7 +1,7 @@
 -- What is told over the calls that append to a file: that it is made, and that pieces are added to it.
-use Rattle.std.proofs.Common.{◌≡◌, ◌≢◌, ◌⊎◌, ℕ, List, Result, Ok, Err, IfOk, OnErr, take, refl, sym, ◌∙◌, ap, subst, inl, inr, ⊎_elim}
+use Rattle.std.proofs.Common.{◌≡◌, ◌≢◌, ℕ, List, Result, Ok, Err, IfOk, OnErr, take, refl, sym, ◌∙◌, ap, subst, ⊎_elim}
 use Rattle.std.proofs.lemmas.Bool.Decides.{eqb_tells}
-use Rattle.bank_files.specs.Told.{Told, Untold, Missing, Holds, appended}
+use Rattle.bank_files.specs.Told.{Untold, Missing, appended}
 use Rattle.machine_files.specs.Disk.{Entry, Unknown, Absent, Inode, Disk, told_at}
 use Rattle.machine_files.specs.Calls.{Makes, OnlyFile, Adds, Stays}
 

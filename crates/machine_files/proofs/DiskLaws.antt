@@ -1,5 +1,5 @@
 -- The disk of files in memory, after one of them was made, emptied or appended to.
-use Rattle.std.proofs.Common.{◌≡◌, ◌≢◌, ◌+◌, ◌<◌, ◌≤◌, ◌++◌, ◌∷◌, ℕ, Bool, true, false, nat_lt, if◌then◌else◌, List, [], length, map, get_or, string_bytes, slice_set, refl, sym, ◌∙◌, ap, subst, arith, length-append}
+use Rattle.std.proofs.Common.{◌≡◌, ◌≢◌, ◌+◌, ◌<◌, ◌++◌, ◌∷◌, ℕ, Bool, true, false, nat_lt, if◌then◌else◌, List, [], length, get_or, string_bytes, slice_set, refl, sym, ◌∙◌, ap, subst, arith, length-append}
 use Rattle.std.proofs.lemmas.Bool.{lt-ltb, false_from_ne_true}
 use Rattle.std.proofs.lemmas.List.{get_or_append_left, get_or-set_same, get_or-set_other}
 use Rattle.std.proofs.Math.ListN.{length-set, length-map}
@@ -181,7 +181,7 @@ module _ (old mid new : List MemoryFile) (before printed name : List ℕ) where
       let fits : k < length (contents_of mid) = omega (arith, length-map mid (λ (f : MemoryFile). f.bytes.items)) in
       let after : disk_with new last ≡ disk_of (names_of mid) (slice_set (contents_of mid) k (get_or (contents_of mid) k [] ++ bytes)) printed = cc (writes.names, writes.contents, same) in
       let more : Adds (disk_with mid printed) (disk_with new last) (Inode k) bytes =
-          subst (λ (d : Disk). Adds (disk_with mid printed) d (Inode k) bytes) (sym after) (adds_piece (names_of mid) (contents_of mid) printed k bytes fits) in
+      subst (λ (d : Disk). Adds (disk_with mid printed) d (Inode k) bytes) (sym after) (adds_piece (names_of mid) (contents_of mid) printed k bytes fits) in
       record {
         file = ap (told_at (disk_with new last)) (ap (λ (f : List ℕ → Entry). f name) more.entries ∙ leads) ∙ more.file
             ∙ ap (λ (t : Told). appended t bytes) (inode_is (contents_of mid) k fits ∙ ap Holds empty);

@@ -1,5 +1,5 @@
 -- What is known of a file that was kept open, once it was found by its name.
-use Rattle.std.proofs.Common.{◌≡◌, ℕ, List, Option, Some, None, String, string_bytes, IsSomeAnd, refl, subst}
+use Rattle.std.proofs.Common.{◌≡◌, ℕ, List, Option, Some, None, String, string_bytes, refl, subst}
 use Rattle.std.specs.Option.{ForSome}
 use Rattle.machine_files.specs.declared.opened.Opened.{Opened}
 use Rattle.machine_files.specs.Disk.{Entry, Disk}

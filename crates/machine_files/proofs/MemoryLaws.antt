@@ -1,9 +1,9 @@
 -- What is told of files in memory after one of them was made, emptied or appended to.
-use Rattle.std.proofs.Common.{◌≡◌, ◌≢◌, ◌+◌, ◌<◌, ◌≤◌, ◌++◌, ◌∷◌, ℕ, Bool, true, false, nat_lt, List, [], length, map, get_or, slice_set, string_bytes, if◌then◌else◌, Result, Ok, Err, OnOk, OnErr, is_ok, refl, sym, ◌∙◌, ap, subst, arith}
+use Rattle.std.proofs.Common.{◌≡◌, ◌<◌, ◌++◌, ℕ, List, [], length, get_or, slice_set, string_bytes, if◌then◌else◌, Result, Ok, Err, OnOk, OnErr, is_ok, sym, ◌∙◌, ap}
 use Rattle.std.proofs.lemmas.List.{map-set, get_or-map}
 use Rattle.std.proofs.Math.Seq.{map-set_same}
 use Rattle.machine_files.specs.declared.store.MemoryFile.{MemoryFile}
-use Rattle.machine_files.specs.Stored.{names_of, contents_of, Writes, SameFiles}
+use Rattle.machine_files.specs.Stored.{contents_of, Writes, SameFiles}
 
 -- a file was replaced by one of the same name, which holds these bytes
 pub writes : (files : List MemoryFile) (number : ℕ) (file old : MemoryFile) (bytes : List ℕ) → file.name ≡ (get_or files number old).name → file.bytes.items ≡ bytes
@@ -25,8 +25,10 @@ writes_same files number file old name holds = record {
 pub extended : {E : Type 0} (files : List MemoryFile) (number : ℕ) (file old other : MemoryFile) (more : List ℕ) (result : Result (Unit {0}) E) → number < length files → old ≡ get_or files number other
     → file.name ≡ old.name → file.bytes.items ≡ (if is_ok result then old.bytes.items ++ more else old.bytes.items)
     → OnOk result (Writes files (slice_set files number file) number (get_or (contents_of files) number [] ++ more)) × OnErr result (SameFiles files (slice_set files number file))
-extended files number file old other more (Ok u) within is name holds =
-    (writes files number file other (get_or (contents_of files) number [] ++ more) (name ∙ ap (λ (f : MemoryFile). f.name) is)
-    (holds ∙ ap (λ (f : MemoryFile). f.bytes.items ++ more) is ∙ ap (λ (xs : List ℕ). xs ++ more) (sym (get_or-map (λ (f : MemoryFile). f.bytes.items) files number other [] within))), tt)
+extended files number file old other more (Ok u) within is name holds = (
+  writes files number file other (get_or (contents_of files) number [] ++ more) (name ∙ ap (λ (f : MemoryFile). f.name) is)
+      (holds ∙ ap (λ (f : MemoryFile). f.bytes.items ++ more) is ∙ ap (λ (xs : List ℕ). xs ++ more) (sym (get_or-map (λ (f : MemoryFile). f.bytes.items) files number other [] within))),
+  tt,
+)
 extended files number file old other more (Err e) within is name holds =
     (tt, writes_same files number file other (name ∙ ap (λ (f : MemoryFile). f.name) is) (holds ∙ ap (λ (f : MemoryFile). f.bytes.items) is))

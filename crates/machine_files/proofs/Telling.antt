@@ -1,5 +1,5 @@
 -- What is seen of files over a call of the machine, and that what is kept open stays what it is.
-use Rattle.std.proofs.Common.{◌≡◌, ◌≢◌, ◌≤◌, ◌⊎◌, ℕ, Bool, true, false, if◌then◌else◌, List, Option, Some, String, string_bytes, Result, Ok, Err, IfOk, OnErr, IsErr, take, refl, sym, ◌∙◌, ap, subst, inl, inr, arith}
+use Rattle.std.proofs.Common.{◌≡◌, ◌≤◌, ◌⊎◌, ℕ, Bool, true, false, if◌then◌else◌, List, Option, string_bytes, Result, Ok, Err, IfOk, OnErr, IsErr, take, refl, sym, ◌∙◌, ap, subst, inl, inr}
 use Rattle.std.proofs.lemmas.Bool.{false≢true}
 use Rattle.std.specs.Option.{ForSome}
 use Rattle.std.specs.Str.{bytes_eq}
@@ -23,9 +23,10 @@ open_stays a b leads name h was = record {
 pub reading_stays : {F : Type 0} (a b : Disk) (leads : F → Entry) (place : F → ℕ) (kept : Option (Opened F)) → Stays a b
     → ForSome kept (IsKeptToRead a leads place) → ForSome kept (IsKeptToRead b leads place)
 reading_stays a b leads place kept h known opened is text named =
-    let was : IsOpenToRead a leads place (string_bytes text) opened = known opened is text named in
-    (open_stays a b (leads opened.file) (string_bytes text) h was.0,
-    λ at here told. was.1 at here (λ none. told (subst (λ (e : Entry). told_at b e ≡ Untold) (sym was.0.same) (h.untold (string_bytes text) (subst (λ (e : Entry). told_at a e ≡ Untold) was.0.same none)))))
+    let was : IsOpenToRead a leads place (string_bytes text) opened = known opened is text named in (
+      open_stays a b (leads opened.file) (string_bytes text) h was.0,
+      λ at here told. was.1 at here (λ none. told (subst (λ (e : Entry). told_at b e ≡ Untold) (sym was.0.same) (h.untold (string_bytes text) (subst (λ (e : Entry). told_at a e ≡ Untold) was.0.same none)))),
+    )
 
 -- what is kept open to be appended to stays what it is
 pub writing_stays : {F : Type 0} (a b : Disk) (leads : F → Entry) (kept : Option (Opened F)) → Stays a b

@@ -1,5 +1,5 @@
 -- What the calls of a machine change. `old` and `new` are what the machine tells before and after a call.
-use Rattle.std.specs.Prelude.{◌≡◌, ◌≢◌, ◌+◌, ◌≤◌, ℕ, Bool, true, false, ◌==◌, ◌&&◌, nat_lt, List, [], length, Result, Ok, Err, OnErr}
+use Rattle.std.specs.Prelude.{◌≡◌, ◌≢◌, ◌≤◌, ℕ, Bool, true, false, ◌==◌, ◌&&◌, nat_lt, List, [], length, Result, Ok, Err, OnErr}
 use Rattle.bank_files.specs.Told.{Told, Untold, Holds, emptied, appended}
 use Rattle.bank_files.specs.Fault.{HasFault}
 use Rattle.machine_files.specs.Disk.{Entry, Absent, Disk, told_at}

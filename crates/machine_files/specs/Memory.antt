@@ -12,9 +12,13 @@ use Rattle.machine_files.specs.declared.memory.MemoryMachine.{MemoryMachine}
 abbrev pub disk_in : MemoryMachine → Disk
 disk_in machine = disk_of (names_of machine.files.items) (contents_of machine.files.items) machine.printed.items
 
+-- the number of the latest call
+abbrev pub calls_made : MemoryMachine → ℕ
+calls_made machine = machine.calls
+
 -- the number of the next call
 abbrev pub next_call : MemoryMachine → ℕ
-next_call machine = raised machine.calls
+next_call machine = raised (calls_made machine)
 
 -- the failures that are planned, by call
 abbrev pub failing_calls : MemoryMachine → List (ℕ × ErrorKind)
@@ -25,6 +29,7 @@ pub record IsFresh (machine : MemoryMachine) : Type 0 where
   pub files : (name : List ℕ) → (disk_in machine).entry name ≡ Absent
   pub output : (disk_in machine).output ≡ Holds []
   pub failing : failing_calls machine ≡ []
+  pub calls : calls_made machine ≡ 0
 
 -- a file of this name holds these bytes, and no other changed
 pub record Puts (old new : Disk) (name bytes : List ℕ) : Type 0 where

@@ -11,5 +11,7 @@ mod opened;
 mod store;
 mod tries;
 
+pub use failure::Failure;
 pub use files::RealFiles;
 pub use machine::{Machine, count_answer, count_taking};
+pub use memory::{MemoryHandle, MemoryMachine};

@@ -109,7 +109,11 @@ pub fn count_answer<T>(failures: &mut u64, answer: io::Result<T>) -> io::Result<
 
 /// Hands on the answer of a call that took a front of `bytes`. One that failed is counted, and one that took
 /// nothing of bytes that are there.
-pub fn count_taking(failures: &mut u64, bytes: &[u8], answer: io::Result<usize>) -> io::Result<usize>
+pub fn count_taking(
+    failures: &mut u64,
+    bytes: &[u8],
+    answer: io::Result<usize>,
+) -> io::Result<usize>
     ensures same { result ≡ answer }
     ensures counted { Counts failures.old failures.new (takes_nothing answer bytes.now) }
 {

@@ -36,7 +36,7 @@ impl MemoryMachine {
     ghost use Rattle.bank_files.specs.Memory.{told_of};
     ghost use Rattle.bank_files.specs.Told.{Holds};
     ghost use Rattle.machine_files.specs.Disk.{told_at};
-    ghost use Rattle.machine_files.specs.Memory.{disk_in, failing_calls, next_call, IsFresh, Puts};
+    ghost use Rattle.machine_files.specs.Memory.{disk_in, calls_made, failing_calls, next_call, IsFresh, Puts};
     ghost use Rattle.machine_files.specs.Stored.{contents_of, planned_in, SameFiles, Writes};
 
     /// A machine without files, of which a call moves at most that many bytes, and at least one.
@@ -89,11 +89,19 @@ impl MemoryMachine {
         &self.printed
     }
 
+    /// How many calls were made.
+    pub fn calls(&self) -> u64
+        ensures { result ≡ calls_made self.now }
+    {
+        self.calls
+    }
+
     // Counts a call, which fails where that is planned.
     fn begin(&mut self) -> io::Result<()>
         ensures planned { MatchResult result
             (λ _. planned_in (failing_calls self.old) (next_call self.old) ≡ None)
             (λ error. planned_in (failing_calls self.old) (next_call self.old) ≡ Some (error_kind error)) }
+        ensures calls { calls_made self.new ≡ next_call self.old }
         ensures files { self.new.files ≡ self.old.files }
         ensures printed { self.new.printed ≡ self.old.printed }
         ensures counted { Counts self.old.failures self.new.failures (is_err result) }
@@ -108,6 +116,7 @@ impl MemoryMachine {
     // Counts a failure, and answers it.
     fn fail<T>(&mut self, kind: ErrorKind) -> io::Result<T>
         ensures kind { MatchResult result (λ _. ⊥) (λ error. error_kind error ≡ kind) }
+        ensures calls { calls_made self.new ≡ calls_made self.old }
         ensures files { self.new.files ≡ self.old.files }
         ensures printed { self.new.printed ≡ self.old.printed }
         ensures counted { Counts self.old.failures self.new.failures true }
@@ -214,7 +223,11 @@ impl Machine for MemoryMachine {
             return self.fail(ErrorKind::InvalidInput);
         }
         let room = into.len().min(self.most);
-        let count = copy_from(&self.files[file.number].bytes, file.place, &mut into[..room]);
+        let count = copy_from(
+            &self.files[file.number].bytes,
+            file.place,
+            &mut into[..room],
+        );
         file.place += count as u64;
         Ok(count)
     }

@@ -27,5 +27,5 @@ returns-clause-unchanged g c =
     let before = g.M.Machine.disk c.args.self.now.machine in
     let after = g.M.Machine.disk c.append_named-appended.new.machine in
     let told = failed_tells before after c.args.self.now.in_doubt c.append_named-appended.new.in_doubt c.args.name.now c.append_named-appended.result c.count_error-answer.result
-        c.append_named-appended.ensures.doubt c.append_named-appended.ensures.only.output c.append_named-appended.ensures.unchanged c.count_error-answer.ensures.error in
+    c.append_named-appended.ensures.doubt c.append_named-appended.ensures.only.output c.append_named-appended.ensures.unchanged c.count_error-answer.ensures.error in
     rw (c.count_error-answer.ensures.machine) told
