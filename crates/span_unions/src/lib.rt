@@ -1,0 +1,6 @@
+//! What a second may carry in the minutes of a range, all of them together: for the blocks of a search.
+#![tactic(auto)]
+
+mod laws;
+
+pub use laws::block_unions_are_unions_over_minutes;
