@@ -1,1 +1,3 @@
 pub mod WalkLaws
+pub mod UnionLaws
+pub mod TimeLaws

@@ -2,5 +2,7 @@
 #![tactic(auto)]
 
 mod laws;
+mod part;
+mod times;
 
 pub use laws::block_unions_are_unions_over_minutes;
