@@ -1,3 +1,4 @@
 pub mod WalkLaws
 pub mod UnionLaws
 pub mod TimeLaws
+pub mod RunLaws

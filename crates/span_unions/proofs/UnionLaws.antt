@@ -9,17 +9,17 @@ use Rattle.definitions.proofs.UnionLaws.{within_le}
 use Rattle.minute_parts.specs.Overlay.{overlay}
 use Rattle.span_unions.specs.Unions.{IsInSome, IsUnionOf}
 
-has_or : (a b x : ℕ) → (has_bit a x ≡ true) ⊎ (has_bit b x ≡ true) → has_bit (bit_or a b) x ≡ true
+pub has_or : (a b x : ℕ) → (has_bit a x ≡ true) ⊎ (has_bit b x ≡ true) → has_bit (bit_or a b) x ≡ true
 has_or a b x (inl here) = eq-eqb _ 1 (omega (arith, eqb-true (bit_at a x) 1 here, bit_at_or a b x, bit_at-lt b x))
 has_or a b x (inr here) = eq-eqb _ 1 (omega (arith, eqb-true (bit_at b x) 1 here, bit_at_or a b x, bit_at-lt a x))
 
-of_or : (a b x : ℕ) → has_bit (bit_or a b) x ≡ true → (has_bit a x ≡ true) ⊎ (has_bit b x ≡ true)
+pub of_or : (a b x : ℕ) → has_bit (bit_or a b) x ≡ true → (has_bit a x ≡ true) ⊎ (has_bit b x ≡ true)
 of_or a b x has = elim (cases_eq (bit_at a x) 1) [
   | inl one ↦ inl (eq-eqb _ 1 one)
   | inr other ↦ inr (eq-eqb _ 1 (omega (arith, eqb-true _ 1 has, bit_at_or a b x, bit_at-lt a x, bit_at-lt b x, other)))
 ]
 
-none_has : (x : ℕ) → has_bit 0 x ≡ true → ⊥
+pub none_has : (x : ℕ) → has_bit 0 x ≡ true → ⊥
 none_has x has = omega (arith, eqb-true (bit_at 0 x) 1 has, bit_at-zero x)
 
 -- there is one union

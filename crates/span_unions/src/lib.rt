@@ -4,5 +4,8 @@
 mod laws;
 mod part;
 mod times;
+mod unions;
 
 pub use laws::block_unions_are_unions_over_minutes;
+pub use minute_parts::{Part, Parts};
+pub use unions::{Unions, UnionsFault};

@@ -22,7 +22,8 @@ pub fn copied(part: &Part) -> Part
 
 /// The sets of two parts together, second by second.
 pub fn either(a: &Part, b: &Part) -> Part
-    ensures { (s : ℕ) → s < SECONDS → slice_index result s ≡ bit_or (slice_index a.now s) (slice_index b.now s) }
+    ensures sets { (s : ℕ) → s < SECONDS → slice_index result s ≡ bit_or (slice_index a.now s) (slice_index b.now s) }
+    ensures bytes { (s : ℕ) → s < SECONDS → slice_index result s < 256 }
 {
     let mut part = [0; SECONDS];
     for s in 0..SECONDS {

@@ -5,5 +5,6 @@ use Rattle.span_unions.proofs.part.either.Given as goal
 abbrev pub invariant-loop-s : goal.invariant-loop-s
 invariant-loop-s l = record {
   long : length l.part ≡ SECONDS;
-  done : (s : ℕ) → s < l.s → get_or l.part s 0 ≡ bit_or (get_or l.a s 0) (get_or l.b s 0);
+  sets : (s : ℕ) → s < l.s → get_or l.part s 0 ≡ bit_or (get_or l.a s 0) (get_or l.b s 0);
+  bytes : (s : ℕ) → s < l.s → get_or l.part s 0 < 256;
 }

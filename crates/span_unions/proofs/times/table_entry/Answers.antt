@@ -22,6 +22,6 @@ returns c = λ s lt.
     let next_is : next ≡ (u + 2 ^ level) % 1440 = omega (arith, c.width.ensures) in
     let height : level + 1 ≡ n / 1440 = omega (arith, c.if-n-lt-DAY_MINUTES.false) in
     subst (λ h. IsUnionOf (time_at times s) u (u + 2 ^ h) (slice_index c.either.result s)) height
-        (subst (IsUnionOf (time_at times s) u (u + 2 ^ (level + 1))) (sym (c.either.ensures s lt))
+        (subst (IsUnionOf (time_at times s) u (u + 2 ^ (level + 1))) (sym (c.either.ensures.sets s lt))
             (doubled times c.args.table.now s lt level u next (omega arith) next_is
                 (c.requires.each (level * 1440 + u) (omega (arith, height))) (c.requires.each (level * 1440 + next) (omega (arith, height)))))

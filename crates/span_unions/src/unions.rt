@@ -1,0 +1,88 @@
+//! Unions over ranges of minutes.
+
+ghost use Rattle.std.specs.Prelude.{ℕ, Bool, ◌≡◌, ◌<◌, ◌≤◌, IfOk, length, slice_index};
+ghost use Rattle.minute_parts.specs.Parts.{IsInRun, IsPartTable, part_where, set_in_run};
+ghost use Rattle.minute_parts.specs.Runs.{end_of_run, first_of, run_at};
+ghost use Rattle.span_unions.specs.declared.part.TheConstants.{SECONDS};
+ghost use Rattle.span_unions.specs.Unions.{AreRegular, IsUnionOf, IsUnionOver};
+
+use crate::part::{either, overlaid};
+use crate::times::{DAY_MINUTES, time_table, time_union};
+use minute_parts::{Part, Parts, Run};
+use std::alloc::{AllocError, Global};
+use std::marker::Model;
+
+/// Why the unions can't be made.
+#[derive(Clone, Copy, Debug, PartialEq, Eq)]
+pub enum UnionsFault {
+    /// Memory wasn't found.
+    NoMemory,
+}
+
+impl From<AllocError> for UnionsFault {
+    fn from(_error: AllocError) -> UnionsFault {
+        UnionsFault::NoMemory
+    }
+}
+
+/// What a station's seconds may carry in ranges of minutes, all minutes of a range together.
+#[derive(Drop)]
+pub struct Unions {
+    parts: Parts,
+    times: Vec<Part>,
+}
+
+impl Model for Unions {
+    ghost use Rattle.minute_parts.specs.Parts.{PartTable};
+
+    ghost Value = { PartTable };
+
+    ghost use Rattle.minute_parts.specs.Parts.{IsPartTable};
+    ghost use Rattle.span_unions.specs.Times.{IsTimeTable};
+
+    ghost view = { λ u. u.parts };
+
+    ghost invariant = { λ u. IsPartTable u.parts × IsTimeTable u.parts.times u.times.items };
+}
+
+impl Unions {
+    /// Makes ready for the unions of these parts.
+    pub fn make(alloc: Global, parts: Parts) -> Result<Unions, UnionsFault>
+        ensures { IfOk result (λ unions. unions ≡ parts) }
+    {
+        let times = time_table(alloc, &parts)?;
+        parts.end();
+        Ok(Unions { parts, times })
+    }
+
+    /// The parts.
+    pub fn parts(&self) -> &Parts
+        ensures { result.now ≡ self.now }
+    {
+        &self.parts
+    }
+
+    // The union over some minutes of a run.
+    fn over_run(&self, announced: bool, i: usize, lo: u32, hi: u32) -> Part
+        requires run { i < length self.now.runs }
+        requires begun { first_of self.now.runs i ≤ lo }
+        requires some { lo < hi }
+        requires ends { hi ≤ end_of_run self.now.runs self.now.end i }
+        ensures { (s : ℕ) → s < SECONDS → IsUnionOf (λ t. set_in_run self.now announced (run_at self.now.runs i) t s) lo hi (slice_index result s) }
+    {
+        let run = self.parts.run(i);
+        let date = date_part(run, announced);
+        let u = (lo as usize % DAY_MINUTES + run.shift as usize) % DAY_MINUTES;
+        if hi - lo == 1 {
+            return overlaid(self.parts.time_part(u as u16), date);
+        }
+        either(&time_union(&self.times, u, (hi - lo) as usize), date)
+    }
+}
+
+// What the date tells in a run.
+fn date_part(run: &Run, announced: bool) -> &Part
+    ensures { result.now ≡ part_where announced run.now }
+{
+    if announced { &run.announced } else { &run.plain }
+}
