@@ -1,17 +1,19 @@
 -- Unions over minutes of a run: what the time of day tells, with what the date tells.
-use Rattle.std.proofs.Common.{◌≡◌, ◌≢◌, ℕ, ◌+◌, ◌-◌, ◌%◌, ◌<◌, ◌≤◌, ◌⊎◌, ◌==◌, ◌&&◌, ◌||◌, inl, inr, Bool, true, false, if◌then◌else◌, [], List, length, bit_or, get_or, refl, sym, ap, ◌∙◌, subst, arith, eqb-true, eq-eqb}
-use Rattle.std.proofs.lemmas.Bool.{and_left, and_parts, cases_Bool, cases_eq, ne_eqb, or_cases, or_from}
+use Rattle.std.proofs.Common.{◌≡◌, ◌≢◌, ℕ, ◌+◌, ◌-◌, ◌%◌, ◌<◌, ◌≤◌, ◌⊎◌, ◌==◌, ◌||◌, inl, inr, Bool, true, false, nat_lt, min, if◌then◌else◌, length, bit_or, get_or, refl, sym, ap, ◌∙◌, subst, arith, eqb-true, eq-eqb}
+use Rattle.std.proofs.lemmas.Bool.{and_left, and_parts, cases_Bool, cases_eq, ltb-true, ne_eqb, or_cases, or_from}
 use Rattle.signal_base.specs.declared.station.Station.{Station}
 use Rattle.signal_base.specs.declared.station.Station.TheVariants.{Dcf77, Msf, Wwvb, Jjy}
 use Rattle.signal_base.specs.Mask.{has_bit}
+use Rattle.definitions.specs.time.Calendar.{minute_length}
+use Rattle.definitions.specs.codes.Allowed.{allowed}
 use Rattle.minute_parts.specs.declared.runs.Run.{Run}
 use Rattle.minute_parts.specs.Overlay.{is_call_second, is_time_second, overlay, tells_time}
-use Rattle.minute_parts.specs.Parts.{IsPartTable, PartTable, local_time, part_where, set_in_run, times_at}
-use Rattle.minute_parts.specs.Runs.{run_at}
+use Rattle.minute_parts.specs.Parts.{IsInRun, IsPartTable, PartTable, local_time, part_where, set_in_run, times_at}
+use Rattle.minute_parts.specs.Runs.{end_of_run, first_of, run_at}
 use Rattle.span_unions.specs.Times.{time_at}
-use Rattle.span_unions.specs.Unions.{IsInSome, IsUnionOf}
+use Rattle.span_unions.specs.Unions.{IsUnionOf, IsUnionOver}
 use Rattle.span_unions.proofs.TimeLaws.{same_time}
-use Rattle.span_unions.proofs.UnionLaws.{has_or, of_or, none_has, union_moved, union_one}
+use Rattle.span_unions.proofs.UnionLaws.{has_or, of_or, none_has, union_joined, union_moved, union_one, union_same}
 
 -- what is told of a second, by the time of day or else by the date
 time_tells : (time date : ℕ) → (time ≡ 0 → ⊥) → overlay time date ≡ time
@@ -90,7 +92,7 @@ module _ (p : PartTable) (table : IsPartTable p) (announced : Bool) (i : ℕ) (i
     | inr other ↦ elim (cases_Bool (tells_time p.station (local_time run t) s)) [
       | inr left ↦ inl (table.time_alone (local_time run t) s (omega arith) within left)
       | inl told ↦ inr (table.time_alone (local_time run (t + 1)) s (omega arith) within
-            (next_leaves p.station (local_time run t) (local_time run (t + 1)) s (omega arith) other told))
+          (next_leaves p.station (local_time run t) (local_time run (t + 1)) s (omega arith) other told))
     ]
   ]
 
@@ -106,6 +108,37 @@ module _ (p : PartTable) (table : IsPartTable p) (announced : Bool) (i : ℕ) (i
       let n : ℕ = hi - lo in
       let end : lo + n ≡ hi = omega (arith, two) in
       let moved = union_moved (time_at p.times s) time u lo n told
-          (λ j in_range. same_time p.times s (u + j) (lo + j + run.shift) (omega (arith, minute))) union in
+      (λ j in_range. same_time p.times s (u + j) (lo + j + run.shift) (omega (arith, minute))) union in
       let here = subst (λ h. IsUnionOf time lo h told) end moved in
       subst (IsUnionOf sets lo hi) (sym e) (union_overlaid time date lo hi told (omega (arith, e, byte)) (some_leaves lo hi two) here)
+
+-- where a run ends before the range does, another begins
+module _ (p : PartTable) (table : IsPartTable p) (t hi i end : ℕ) (here : IsInRun p t i) (early : hi ≤ p.end) where
+  ends_by : (last : Bool) → nat_lt (i + 1) (length p.runs) ≡ last → end ≡ min (if last then first_of p.runs (i + 1) else p.end) hi → (end ≡ hi → ⊥) → IsInRun p end (i + 1)
+  ends_by true e is other =
+      let more : i + 1 < length p.runs = ltb-true _ _ e in
+      let first : end ≡ first_of p.runs (i + 1) = omega (arith, is, other) in
+      record { is_run = more; begun = omega (arith, first); not_over = subst (λ m. m < end_of_run p.runs p.end (i + 1)) (sym first) (table.rise (i + 1) more) }
+  ends_by false e is other = absurd (other (omega (arith, is, early)))
+
+  pub next_run : end ≡ min (end_of_run p.runs p.end i) hi → (end ≡ hi → ⊥) → IsInRun p end (i + 1)
+  next_run is other = ends_by (nat_lt (i + 1) (length p.runs)) refl is other
+
+-- the union of the minutes of a run is that of what they carry
+pub carried_in_run : (p : PartTable) → IsPartTable p → (announced : Bool) (i lo hi s set : ℕ) → i < length p.runs → first_of p.runs i ≤ lo → hi ≤ end_of_run p.runs p.end i
+    → ((t : ℕ) → lo ≤ t → t < hi → minute_length announced t ≡ 60) → s < 60
+    → IsUnionOf (λ t. set_in_run p announced (run_at p.runs i) t s) lo hi set → IsUnionOver p.station announced lo hi s set
+carried_in_run p table announced i lo hi s set is begun ends short within u =
+    union_same (λ t. set_in_run p announced (run_at p.runs i) t s) (λ t. allowed p.station announced (t, s)) lo hi set
+    (λ t from to. sym (table.tells announced i t s (record { is_run = is; begun = omega (arith, begun, from); not_over = omega (arith, to, ends) }) (short t from to) within)) u
+
+-- with the minutes of one more run
+pub with_run : (p : PartTable) → IsPartTable p → (announced : Bool) (i lo t hi end s before piece set : ℕ) → IsInRun p t i → lo ≤ t → t < end → end ≤ hi → end ≤ end_of_run p.runs p.end i
+    → ((u : ℕ) → lo ≤ u → u < hi → minute_length announced u ≡ 60) → s < 60
+    → IsUnionOver p.station announced lo t s before → IsUnionOf (λ u. set_in_run p announced (run_at p.runs i) u s) t end piece
+    → set ≡ bit_or before piece → IsUnionOver p.station announced lo end s set
+with_run p table announced i lo t hi end s before piece set here begun some within_range within_run short within old new e =
+    let carried = carried_in_run p table announced i t end s piece here.is_run here.begun within_run
+    (λ u from to. short u (omega (arith, begun, from)) (omega (arith, to, within_range))) within new in
+    subst (IsUnionOver p.station announced lo end s) (sym e)
+    (union_joined (λ u. allowed p.station announced (u, s)) lo t t end before piece begun (omega arith) (omega (arith, some)) old carried)

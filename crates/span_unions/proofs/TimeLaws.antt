@@ -1,12 +1,12 @@
 -- Unions over the minutes of days without end.
-use Rattle.std.proofs.Common.{◌≡◌, ℕ, ◌+◌, ◌*◌, ◌-◌, ◌/◌, ◌%◌, ◌<◌, ◌≤◌, ◌^◌, inl, inr, min, List, [], ◌∷◌, ◌++◌, length, bit_or, get_or, refl, sym, ap, ◌∙◌, subst, arith, add-one}
+use Rattle.std.proofs.Common.{◌≡◌, ℕ, ◌+◌, ◌*◌, ◌-◌, ◌/◌, ◌%◌, ◌<◌, ◌≤◌, ◌^◌, inl, inr, min, List, [], ◌∷◌, ◌++◌, length, bit_or, get_or, sym, ap, ◌∙◌, subst, arith, add-one}
 use Rattle.std.proofs.Math.ListN.{get_or-append}
 use Rattle.std.proofs.Math.Nat.{pow-suc}
 use Rattle.std.proofs.Math.Seq.{get_or-append_seam}
 use Rattle.std.proofs.lemmas.Bool.{cases_lt}
 use Rattle.signal_base.specs.Mask.{has_bit}
 use Rattle.span_unions.specs.Unions.{IsUnionOf}
-use Rattle.span_unions.specs.Times.{IsLevelEntry, IsTimeTable, entry, time_at}
+use Rattle.span_unions.specs.Times.{IsLevelEntry, entry, time_at}
 use Rattle.span_unions.proofs.UnionLaws.{union_joined, union_moved, union_one}
 
 -- minutes of the same minute of the day have the same set
@@ -41,7 +41,7 @@ module _ (times parts : List (List ℕ)) (s : ℕ) (within : s < 60) where
       let height : n / 1440 ≡ level = omega arith in
       let at = subst (λ h. IsUnionOf (time_at times s) (n % 1440) (n % 1440 + 2 ^ h) (entry parts n s)) height (is s within) in
       union_moved (time_at times s) (time_at times s) (n % 1440) t (2 ^ level) (entry parts n s)
-          (λ i in_range. same_time times s (n % 1440 + i) (t + i) (omega (arith, minute, e))) at
+      (λ i in_range. same_time times s (n % 1440 + i) (t + i) (omega (arith, minute, e))) at
 
   -- two unions of half the minutes
   pub doubled : (level u next : ℕ) → u < 1440 → next ≡ (u + 2 ^ level) % 1440 → IsLevelEntry times parts (level * 1440 + u) → IsLevelEntry times parts (level * 1440 + next)
@@ -50,8 +50,8 @@ module _ (times parts : List (List ℕ)) (s : ℕ) (within : s < 60) where
       let half : ℕ = 2 ^ level in
       let both : u + half + half ≡ u + 2 ^ (level + 1) = omega (arith, pow-suc 2 level, ap (λ k. 2 ^ k) (add-one level)) in
       subst (λ end. IsUnionOf (time_at times s) u end (bit_or (entry parts (level * 1440 + u) s) (entry parts (level * 1440 + next) s))) both
-          (union_joined (time_at times s) u (u + half) (u + half) (u + half + half) _ _ (omega arith) (omega arith) (omega arith)
-              (from_minute level u u lt (omega arith) one) (from_minute level next (u + half) (omega (arith, e)) (omega (arith, e)) two))
+      (union_joined (time_at times s) u (u + half) (u + half) (u + half + half) _ _ (omega arith) (omega arith) (omega arith)
+      (from_minute level u u lt (omega arith) one) (from_minute level next (u + half) (omega (arith, e)) (omega (arith, e)) two))
 
   -- two unions that overlap, of the first and of the last of n minutes
   pub covered : (level u last n : ℕ) → u < 1440 → 2 ^ level ≤ n → n ≤ 2 * 2 ^ level → last ≡ (u + n - 2 ^ level) % 1440
@@ -62,9 +62,9 @@ module _ (times parts : List (List ℕ)) (s : ℕ) (within : s < 60) where
       let begin : ℕ = u + n - width in
       let end : begin + width ≡ u + n = omega (arith, short) in
       union_joined (time_at times s) u (u + width) begin (u + n) _ _ (omega (arith, short)) (omega (arith, long)) (omega (arith, short))
-          (from_minute level u u lt (omega arith) one)
-          (subst (λ to. IsUnionOf (time_at times s) begin to (entry parts (level * 1440 + last) s)) end
-              (from_minute level last begin (omega (arith, e)) (omega (arith, e)) two))
+      (from_minute level u u lt (omega arith) one)
+      (subst (λ to. IsUnionOf (time_at times s) begin to (entry parts (level * 1440 + last) s)) end
+      (from_minute level last begin (omega (arith, e)) (omega (arith, e)) two))
 
   -- one minute
   pub lowest : (n set : ℕ) → n < 1440 → set ≡ time_at times s n → set < 256 → IsUnionOf (time_at times s) (n % 1440) (n % 1440 + 2 ^ (n / 1440)) set
@@ -74,7 +74,7 @@ module _ (times parts : List (List ℕ)) (s : ℕ) (within : s < 60) where
       let here : time_at times s n ≡ set = sym e in
       let one = union_one (time_at times s) n (omega (arith, here, byte)) in
       subst (λ h. IsUnionOf (time_at times s) (n % 1440) (n % 1440 + 2 ^ h) set) height
-          (subst (λ u. IsUnionOf (time_at times s) u (u + 1) set) minute (subst (IsUnionOf (time_at times s) n (n + 1)) here one))
+      (subst (λ u. IsUnionOf (time_at times s) u (u + 1) set) minute (subst (IsUnionOf (time_at times s) n (n + 1)) here one))
 
 -- a part that is the union of an entry's minutes
 abbrev IsEntry : List (List ℕ) → ℕ → List ℕ → Type 0

@@ -1,13 +1,13 @@
 -- Unions over ranges: joined, moved, and of parts that are laid over one another.
-use Rattle.std.proofs.Common.{◌≡◌, ℕ, ◌+◌, ◌*◌, ◌-◌, ◌/◌, ◌%◌, ◌<◌, ◌≤◌, ◌^◌, ◌⊎◌, ◌==◌, inl, inr, Bool, true, false, if◌then◌else◌, bit_or, refl, sym, ap, ◌∙◌, subst, arith, eqb-true, eq-eqb}
-use Rattle.std.proofs.lemmas.Bool.{cases_eq, cases_lt, ne_eqb}
+use Rattle.std.proofs.Common.{◌≡◌, ℕ, ◌+◌, ◌-◌, ◌<◌, ◌≤◌, ◌⊎◌, inl, inr, true, length, get_or, replicate, bit_or, sym, ap, ◌∙◌, arith, eqb-true, eq-eqb}
+use Rattle.std.proofs.lemmas.Bool.{cases_eq, cases_lt}
+use Rattle.std.proofs.lemmas.List.{get_or-replicate, get_or_past, length-replicate}
 use Rattle.std.proofs.lemmas.Nat.{or_lt}
-use Rattle.std.proofs.lemmas.Nat.Bits.{bit_at_or, bit_at-lt, bit_at-zero, bit_at_above}
+use Rattle.std.proofs.lemmas.Nat.Bits.{bit_at_or, bit_at-lt, bit_at-zero}
 use Rattle.std.specs.Int.{bit_at}
 use Rattle.signal_base.specs.Mask.{has_bit}
 use Rattle.definitions.proofs.UnionLaws.{within_le}
-use Rattle.minute_parts.specs.Overlay.{overlay}
-use Rattle.span_unions.specs.Unions.{IsInSome, IsUnionOf}
+use Rattle.span_unions.specs.Unions.{IsUnionOf}
 
 pub has_or : (a b x : ℕ) → (has_bit a x ≡ true) ⊎ (has_bit b x ≡ true) → has_bit (bit_or a b) x ≡ true
 has_or a b x (inl here) = eq-eqb _ 1 (omega (arith, eqb-true (bit_at a x) 1 here, bit_at_or a b x, bit_at-lt b x))
@@ -89,3 +89,16 @@ union_between f a b lo hi c d set outer inner ends last u v = record {
   each = λ x h. v.each x (h.0, omega (arith, h.1), omega (arith, h.2), h.3);
   only = λ x has. let h = u.only x has in (h.0, omega (arith, h.1), omega (arith, h.2), h.3);
 }
+
+-- one number again and again, and 0 after it
+repeated : (n v s : ℕ) → get_or (replicate n v) s 0 ≤ v
+repeated n v s =
+    let long : length (replicate n v) ≡ n = length-replicate n v in
+    elim (cases_lt s n) [
+      | inl lt ↦ omega (arith, get_or-replicate n s v 0 lt)
+      | inr le ↦ omega (arith, get_or_past (replicate n v) s 0 (omega arith))
+    ]
+
+-- a part that tells nothing
+pub nothing_told : (n s : ℕ) → ◌≡◌ {A = ℕ} (get_or (replicate n 0) s 0) 0
+nothing_told n s = omega (arith, repeated n 0 s)

@@ -8,6 +8,13 @@ use minute_parts::Part;
 /// How many seconds a part tells of.
 pub const SECONDS: usize = 60;
 
+/// A part that tells nothing.
+pub fn nothing() -> Part
+    ensures { (s : ℕ) → slice_index result s ≡ 0 }
+{
+    [0; SECONDS]
+}
+
 /// The part again, of bytes as each part is.
 pub fn copied(part: &Part) -> Part
     ensures sets { (s : ℕ) → s < SECONDS → slice_index result s ≡ slice_index part.now s }

@@ -65,7 +65,10 @@ fn table_entry(table: &[Part], parts: &Parts, n: usize) -> Part
     let u = n % DAY_MINUTES;
     let level = n / DAY_MINUTES - 1;
     let next = (u + width(level)) % DAY_MINUTES;
-    either(&table[level * DAY_MINUTES + u], &table[level * DAY_MINUTES + next])
+    either(
+        &table[level * DAY_MINUTES + u],
+        &table[level * DAY_MINUTES + next],
+    )
 }
 
 /// What the time of day tells in the `n` minutes from minute `u` of the day on, all of them together.
@@ -78,5 +81,8 @@ pub fn time_union(table: &[Part], u: usize, n: usize) -> Part
     let most = n.min(DAY_MINUTES);
     let level = level_of(most);
     let last = (u + most - width(level)) % DAY_MINUTES;
-    either(&table[level * DAY_MINUTES + u], &table[level * DAY_MINUTES + last])
+    either(
+        &table[level * DAY_MINUTES + u],
+        &table[level * DAY_MINUTES + last],
+    )
 }

@@ -6,7 +6,7 @@ ghost use Rattle.minute_parts.specs.Runs.{end_of_run, first_of, run_at};
 ghost use Rattle.span_unions.specs.declared.part.TheConstants.{SECONDS};
 ghost use Rattle.span_unions.specs.Unions.{AreRegular, IsUnionOf, IsUnionOver};
 
-use crate::part::{either, overlaid};
+use crate::part::{either, nothing, overlaid};
 use crate::times::{DAY_MINUTES, time_table, time_union};
 use minute_parts::{Part, Parts, Run};
 use std::alloc::{AllocError, Global};
@@ -62,6 +62,27 @@ impl Unions {
         &self.parts
     }
 
+    /// What each second may carry in the minutes from `lo` up to, and without, `hi`, all of them together. Each of them has
+    /// 60 seconds where a leap second is announced or not, as `announced` says. A second that isn't scored in one of the
+    /// minutes isn't in the union.
+    pub fn over(&self, announced: bool, lo: u32, hi: u32) -> Part
+        requires some { lo < hi }
+        requires regular { AreRegular announced lo hi self.now.end }
+        ensures { (s : ℕ) → s < SECONDS → IsUnionOver self.now.station announced lo hi s (slice_index result s) }
+    {
+        let mut union = nothing();
+        let mut t = lo;
+        for i in self.parts.run_of(lo)..self.parts.runs() {
+            let end = self.parts.run_end(i).min(hi);
+            union = either(&union, &self.over_run(announced, i, t, end));
+            if end == hi {
+                return union;
+            }
+            t = end;
+        }
+        union
+    }
+
     // The union over some minutes of a run.
     fn over_run(&self, announced: bool, i: usize, lo: u32, hi: u32) -> Part
         requires run { i < length self.now.runs }
@@ -84,5 +105,9 @@ impl Unions {
 fn date_part(run: &Run, announced: bool) -> &Part
     ensures { result.now ≡ part_where announced run.now }
 {
-    if announced { &run.announced } else { &run.plain }
+    if announced {
+        &run.announced
+    } else {
+        &run.plain
+    }
 }

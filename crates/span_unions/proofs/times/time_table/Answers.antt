@@ -1,4 +1,4 @@
-use Rattle.std.proofs.Common.{◌+◌, ◌∷◌, ◌++◌, [], List, ℕ, length, subst, sym, arith}
+use Rattle.std.proofs.Common.{◌∷◌, [], arith}
 use Rattle.std.proofs.Math.ListN.{length-append}
 use Rattle.span_unions.proofs.TimeLaws.{entries_more}
 use Rattle.span_unions.proofs.times.time_table.Goals as goal

@@ -1,7 +1,7 @@
-use Rattle.std.proofs.Common.{◌≡◌, ℕ, ◌+◌, ◌-◌, ◌%◌, ◌≤◌, ◌<◌, ◌∙◌, List, bit_or, get_or, length, slice_index, sym, subst, ap, arith}
+use Rattle.std.proofs.Common.{ℕ, ◌+◌, ◌%◌, ◌<◌, ◌∙◌, bit_or, get_or, length, slice_index, sym, subst, ap, arith}
 use Rattle.minute_parts.specs.declared.runs.Run.{Run}
 use Rattle.minute_parts.specs.Overlay.{overlay}
-use Rattle.minute_parts.specs.Parts.{IsPartTable, PartTable, part_where, set_in_run, times_at}
+use Rattle.minute_parts.specs.Parts.{PartTable, part_where, set_in_run, times_at}
 use Rattle.minute_parts.specs.Runs.{run_at}
 use Rattle.span_unions.specs.Times.{IsTimeTable}
 use Rattle.span_unions.specs.Unions.{IsUnionOf}
@@ -20,8 +20,8 @@ returns-then-hi-lo-eq1 c = λ s lt.
     let time = ap (λ xs. get_or xs s 0) c.time_part.ensures in
     let set = c.overlaid.ensures.sets s lt ∙ ap (λ m. overlay m (get_or c.date_part-date.result.now s 0)) time ∙ ap (overlay (get_or (times_at p u) s 0)) date in
     subst (λ (q : PartTable). IsUnionOf (λ t. set_in_run q announced (run_at q.runs c.args.i) t s) c.args.lo c.args.hi (slice_index c.overlaid.result s)) c.self.view_is
-        (over_one p c.self.invariant.0 announced c.args.i is s lt c.args.lo c.args.hi u (slice_index c.overlaid.result s)
-            (omega (arith, c.if-hi-lo-eq1.true, c.requires.some)) (omega (arith, shift)) set (c.overlaid.ensures.bytes s lt))
+    (over_one p c.self.invariant.0 announced c.args.i is s lt c.args.lo c.args.hi u (slice_index c.overlaid.result s)
+    (omega (arith, c.if-hi-lo-eq1.true, c.requires.some)) (omega (arith, shift)) set (c.overlaid.ensures.bytes s lt))
 
 pub returns : goal.returns
 returns c = λ s lt.
@@ -36,5 +36,5 @@ returns c = λ s lt.
     let table = subst (IsTimeTable p.times) (sym c.deref.ensures.value) c.self.invariant.1 in
     let set = c.either.ensures.sets s lt ∙ ap (bit_or told) date in
     subst (λ (q : PartTable). IsUnionOf (λ t. set_in_run q announced (run_at q.runs c.args.i) t s) c.args.lo c.args.hi (slice_index c.either.result s)) c.self.view_is
-        (over_more p c.self.invariant.0 announced c.args.i is s lt c.args.lo c.args.hi u told (slice_index c.either.result s)
-            (omega (arith, c.if-hi-lo-eq1.false, c.requires.some)) (omega (arith, shift)) (c.time_union.ensures p.times s table lt) set (c.either.ensures.bytes s lt))
+    (over_more p c.self.invariant.0 announced c.args.i is s lt c.args.lo c.args.hi u told (slice_index c.either.result s)
+    (omega (arith, c.if-hi-lo-eq1.false, c.requires.some)) (omega (arith, shift)) (c.time_union.ensures p.times s table lt) set (c.either.ensures.bytes s lt))
