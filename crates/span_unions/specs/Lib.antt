@@ -1,3 +1,4 @@
 pub mod Unions
 pub mod Walks
 pub mod Times
+pub mod Layers

@@ -2,10 +2,12 @@
 #![tactic(auto)]
 
 mod laws;
+mod layers;
 mod part;
 mod times;
 mod unions;
 
 pub use laws::block_unions_are_unions_over_minutes;
+pub use layers::Layers;
 pub use minute_parts::{Part, Parts};
 pub use unions::{Unions, UnionsFault};

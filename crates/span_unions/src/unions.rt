@@ -51,6 +51,7 @@ impl Unions {
         ensures { IfOk result (λ unions. unions ≡ parts) }
     {
         let times = time_table(alloc, &parts)?;
+        // Whatever parts these are, they are those of a station.
         parts.end();
         Ok(Unions { parts, times })
     }
