@@ -1,0 +1,24 @@
+use Rattle.std.proofs.Common.{◌≡◌, ◌<◌, ℕ, get_or, sym, ap, ◌∙◌, arith, below_more}
+use Rattle.std.proofs.lemmas.List.{get_or-set_same}
+use Rattle.signal_base.specs.declared.station.Station.{Station}
+use Rattle.walk_costs.specs.Dates.{date_cost, is_given_up}
+use Rattle.walk_costs.proofs.WalkLaws.{given_up_cost, lost_le, none_lost}
+use Rattle.walk_costs.proofs.date.by_minute.Goals as goal
+
+pub returns-then-not-gives_up : goal.returns-then-not-gives_up
+returns-then-not-gives_up c = λ m few.
+    let grid = c.args.columns.now in
+    let none = none_lost grid c.args.p m c.args.part.now
+    (λ s. ap (λ (t : Station). is_given_up t s) (sym c.station-station.ensures) ∙ c.gives_up.ensures c.if-not-gives_up.true s) in
+    omega (arith, none, c.part_cost-whole.ensures.cost, c.alike-costs.ensures m few)
+
+pub overflow_sub-costs : goal.overflow_sub-costs
+overflow_sub-costs c =
+    let grid = c.args.columns.now in
+    omega (
+      arith,
+      given_up_cost grid c.args.p c.loop-m.m c.args.part.now c.station-station.result c.given_up-given_up.result c.minute_cost.result
+          c.station-station.ensures c.given_up-given_up.ensures c.minute_cost.ensures.cost,
+      lost_le grid c.args.p c.loop-m.m c.args.part.now,
+      c.part_cost-whole.ensures.cost,
+    )

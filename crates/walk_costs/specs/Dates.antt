@@ -1,0 +1,62 @@
+-- What a walk of 60 seconds in each minute costs by the two parts of its telegrams, and what DUT1 adds to it.
+use Rattle.std.specs.Prelude.{ℕ, ◌≡◌, ◌+◌, ◌-◌, ◌*◌, ◌/◌, ◌%◌, ◌<◌, Bool, true, false, ◌==◌, ◌||◌, if◌then◌else◌, List, length, map, slice_index, unwrap_or, ℤ}
+use Rattle.std.specs.List.{range_with_len}
+use Rattle.signal_base.specs.declared.station.Station.{Station}
+use Rattle.signal_base.specs.declared.station.Station.TheVariants.{Jjy}
+use Rattle.definitions.specs.codes.Vocabulary.{free, is_within, only}
+use Rattle.definitions.specs.heard.Costs.{least}
+use Rattle.definitions.specs.heard.Dut1.{dut1_symbol, dut1_values, has_dut1, is_dut1_second}
+use Rattle.symbol_cost.specs.Grid.{Grid, cost_at}
+use Rattle.slot_columns.specs.Parts.{layered_cost, minute_cost}
+use Rattle.slot_columns.specs.declared.limits.TheConstants.{SECONDS_PER_MINUTE}
+
+-- what a part costs over the slots of a grid where each minute of the walk carries it
+abbrev pub part_cost : Grid → ℕ → List ℕ → ℕ
+part_cost grid p part = layered_cost grid.station (cost_at grid.rows) (length grid.rows) p part part
+
+-- JJY gives up some seconds of the date for its call sign, in the minutes 15 and 45 of each hour; no other station does
+abbrev pub is_given_up : Station → ℕ → Bool
+is_given_up Jjy s = is_within 40 48 s || is_within 50 55 s
+is_given_up station s = false
+
+-- what the date tells of these seconds, and 0 elsewhere
+abbrev pub given_up_set : Station → List ℕ → ℕ → ℕ
+given_up_set station part s = if is_given_up station s then slice_index part s else 0
+
+unfoldable pub given_up : Station → List ℕ → List ℕ
+given_up station part = map (given_up_set station part) (range_with_len 0 60)
+
+-- the first minute from v, a minute of an hour, on that is 15 or 45: it comes so many minutes later
+abbrev pub minutes_to_call : ℕ → ℕ
+minutes_to_call v = (75 - v % 60) % 30
+
+-- what the date tells costs this in a walk of which the call sign takes walk minute m
+abbrev pub date_cost : Grid → ℕ → ℕ → List ℕ → ℕ
+date_cost grid p m part =
+    part_cost grid p part - minute_cost grid.station (cost_at grid.rows) (length grid.rows) p m (given_up grid.station part)
+
+-- In the seconds that tell DUT1 each minute has the set of both symbols, or, where d tenths are told, one of them.
+abbrev pub free_set : Station → ℕ → ℕ
+free_set station s = if is_dut1_second station s then free else 0
+
+unfoldable pub free_part : Station → List ℕ
+free_part station = map (free_set station) (range_with_len 0 60)
+
+abbrev pub told_set : Station → ℤ → ℕ → ℕ
+told_set station d s = if is_dut1_second station s then only (dut1_symbol station d s) else 0
+
+unfoldable pub told_part : Station → ℤ → List ℕ
+told_part station d = map (told_set station d) (range_with_len 0 60)
+
+-- what they cost where one value is told in them, at the least, from second p on
+abbrev pub least_told : Grid → ℕ → ℕ
+least_told grid p = unwrap_or (least (map (λ d. part_cost grid p (told_part grid.station d)) (dut1_values grid.station))) 0
+
+-- how much more this is than where each is free
+pub record IsAdded (grid : Grid) (p added : ℕ) : Type 0 where
+  pub some : has_dut1 grid.station ≡ true → added + part_cost grid p (free_part grid.station) ≡ least_told grid p
+  pub none : has_dut1 grid.station ≡ false → added ≡ 0
+
+-- of each second in which a walk may begin
+abbrev pub AreAdded : Grid → List ℕ → Type 0
+AreAdded grid added = (p : ℕ) → p < SECONDS_PER_MINUTE → IsAdded grid p (slice_index added p)

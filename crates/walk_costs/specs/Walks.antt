@@ -1,0 +1,58 @@
+-- Walks with 60 seconds in each minute that lie in one run of a station's minutes, and what they cost.
+use Rattle.std.specs.Prelude.{ℕ, ◌≡◌, ◌+◌, ◌-◌, ◌*◌, ◌/◌, ◌<◌, ◌≤◌, Bool, List, length, slice_index}
+use Rattle.signal_base.specs.declared.limits.TheConstants.{MOST_RECEIVERS, MOST_SECONDS}
+use Rattle.definitions.specs.declared.sequence.Sequence.{Sequence}
+use Rattle.definitions.specs.time.Calendar.{minute_length}
+use Rattle.definitions.specs.heard.Costs.{set_cost, station_cost}
+use Rattle.symbol_cost.specs.Grid.{Grid, cost_at}
+use Rattle.symbol_cost.specs.declared.limits.TheConstants.{RECEIVER_COST}
+use Rattle.minute_parts.specs.Parts.{IsInRun, IsPartTable, PartTable, part_where}
+use Rattle.minute_parts.specs.Runs.{end_of_run, run_at}
+use Rattle.slot_columns.specs.Parts.{AreWalkCosts}
+use Rattle.slot_columns.specs.declared.limits.TheConstants.{SECONDS_PER_MINUTE}
+use Rattle.walk_costs.specs.declared.date.DateCost.{DateCost}
+use Rattle.walk_costs.specs.Dates.{AreAdded, date_cost}
+
+-- the parts of a station's telegrams, and what its symbols cost in the slots of a window
+pub record PricedParts : Type 0 where
+  pub parts : PartTable
+  pub grid : Grid
+
+-- how many minutes a walk of n slots goes on after its first minute, of which it takes second p first
+abbrev pub later_minutes : ℕ → ℕ → ℕ
+later_minutes n p = (p + n - 1) / SECONDS_PER_MINUTE
+
+abbrev pub last_minute : PricedParts → ℕ → ℕ → ℕ
+last_minute w p t0 = t0 + later_minutes (length w.grid.rows) p
+
+-- the walk from second p of the minute t0 has 60 seconds in each minute, and lies in the run i
+pub record IsPlainIn (w : PricedParts) (announced : Bool) (p t0 i : ℕ) : Type 0 where
+  pub second : p < SECONDS_PER_MINUTE
+  pub begins : IsInRun w.parts t0 i
+  pub ends : last_minute w p t0 < end_of_run w.parts.runs w.parts.end i
+  pub short : (t : ℕ) → t0 ≤ t → t ≤ last_minute w p t0 → minute_length announced t ≡ 60
+
+-- what the sequence costs the station
+abbrev pub cost_of : PricedParts → Bool → ℕ → ℕ → ℕ
+cost_of w announced p t0 =
+    station_cost w.grid.station (cost_at w.grid.rows) (length w.grid.rows) (record { first = t0; second = p; announced = announced })
+
+-- no set costs more in a slot than its receivers can make of it
+abbrev pub AreSmall : Grid → Type 0
+AreSmall grid = (k set : ℕ) → k < length grid.rows → set_cost grid.station (cost_at grid.rows k) set ≤ grid.receivers * RECEIVER_COST
+
+-- the walks through a day cost this by the time of day, and DUT1 adds that
+pub record ArePriced (parts : PartTable) (grid : Grid) (costs : List (List ℕ)) (more : List ℕ) : Type 0 where
+  pub station : parts.station ≡ grid.station
+  pub table : IsPartTable parts
+  pub short : length grid.rows ≤ MOST_SECONDS
+  pub few : grid.receivers ≤ MOST_RECEIVERS
+  pub small : AreSmall grid
+  pub walks : AreWalkCosts costs grid parts.times
+  pub added : AreAdded grid more
+
+-- what the date of a run costs where a walk begins in this second, for each walk minute that the call sign may take
+pub record IsDateCost (w : PricedParts) (date : DateCost) : Type 0 where
+  pub shift : date.shift ≡ (run_at w.parts.runs date.run).shift
+  pub by_minute : (m : ℕ) → m < 30
+      → slice_index date.by_minute m ≡ date_cost w.grid date.second m (part_where date.announced (run_at w.parts.runs date.run))

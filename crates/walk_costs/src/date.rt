@@ -1,0 +1,104 @@
+//! What the date of a run costs in a walk.
+
+ghost use Rattle.std.specs.Prelude.{◌≡◌, ◌<◌, ℕ, false, slice_index};
+ghost use Rattle.walk_costs.specs.Dates.{date_cost, given_up, given_up_set, is_given_up};
+
+use signal_base::Station;
+use slot_columns::{Part, SECONDS_PER_MINUTE, SlotColumns};
+use std::array;
+
+/// Every so many minutes of an hour JJY sends its call sign.
+pub const CALL_MINUTES: usize = 30;
+
+/// A cost for each minute up to the next call sign.
+pub type ByMinute = [u32; CALL_MINUTES];
+
+/// What the date of a run costs in the walks that lie in the run and begin in one second.
+#[derive(Clone, Copy, Debug, PartialEq, Eq)]
+pub struct DateCost {
+    /// Whether a leap second is announced.
+    pub announced: bool,
+    /// The second in which the walks begin.
+    pub second: u8,
+    /// The run's number.
+    pub run: usize,
+    /// By how many minutes the local time that is encoded is ahead of the sent minute in UTC.
+    pub shift: u16,
+    /// What the date costs, by how many minutes after the walk's first one the call sign of JJY comes.
+    pub by_minute: ByMinute,
+}
+
+/// What a part by the date costs in the walks from second `p` of which the call sign of JJY takes minute `m`.
+pub fn date_cost(columns: &SlotColumns, p: u8, m: u8, part: &Part) -> u32
+    requires { p < SECONDS_PER_MINUTE }
+    ensures { result ≡ date_cost columns.now p m part.now }
+{
+    let station = columns.station();
+    let whole = columns.part_cost(p, part);
+    if !gives_up(station) {
+        return whole;
+    }
+    whole - columns.minute_cost(p, m, &given_up(station, part))
+}
+
+/// The same for each `m` below 30; a walk has no minute after its 21st.
+pub fn by_minute(columns: &SlotColumns, p: u8, part: &Part) -> ByMinute
+    requires { p < SECONDS_PER_MINUTE }
+    ensures { (m : ℕ) → m < CALL_MINUTES → slice_index result m ≡ date_cost columns.now p m part.now }
+{
+    let station = columns.station();
+    let whole = columns.part_cost(p, part);
+    let mut costs = alike(whole);
+    if !gives_up(station) {
+        return costs;
+    }
+    let given_up = given_up(station, part);
+    for m in 0..CALL_MINUTES {
+        costs[m] = whole - columns.minute_cost(p, m as u8, &given_up);
+    }
+    costs
+}
+
+// The same cost for each minute.
+fn alike(cost: u32) -> ByMinute
+    ensures { (m : ℕ) → m < CALL_MINUTES → slice_index result m ≡ cost }
+{
+    [cost; CALL_MINUTES]
+}
+
+// Whether the station gives up seconds for its call sign.
+fn gives_up(station: Station) -> bool
+    ensures { result ≡ false → (s : ℕ) → is_given_up station s ≡ false }
+{
+    match station {
+        Station::Jjy => true,
+        Station::Dcf77 | Station::Msf | Station::Wwvb => false,
+    }
+}
+
+// What the date tells of the seconds that the station gives up for its call sign.
+fn given_up(station: Station, part: &Part) -> Part
+    ensures { result ≡ given_up station part.now }
+{
+    array::from_fn(|second| given_up_set(station, part, second))
+}
+
+fn given_up_set(station: Station, part: &Part, second: usize) -> u8
+    requires { second < SECONDS_PER_MINUTE }
+    ensures { result ≡ given_up_set station part.now second }
+{
+    if is_given_up(station, second) {
+        part[second]
+    } else {
+        0
+    }
+}
+
+fn is_given_up(station: Station, second: usize) -> bool
+    ensures { result ≡ is_given_up station second }
+{
+    match station {
+        Station::Jjy => 40 <= second && second <= 48 || 50 <= second && second <= 55,
+        Station::Dcf77 | Station::Msf | Station::Wwvb => false,
+    }
+}

@@ -1,0 +1,10 @@
+//! What a sequence costs a station where each minute that it walks through has 60 seconds and the date tells the same in
+//! all of them: a sum of three numbers that were made before.
+#![tactic(auto)]
+
+mod date;
+mod dut;
+mod small;
+mod tenths;
+
+pub use date::{ByMinute, CALL_MINUTES, DateCost};
