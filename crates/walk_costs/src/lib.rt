@@ -6,5 +6,7 @@ mod date;
 mod dut;
 mod small;
 mod tenths;
+mod walks;
 
 pub use date::{ByMinute, CALL_MINUTES, DateCost};
+pub use walks::{StationWalks, WalksFault};

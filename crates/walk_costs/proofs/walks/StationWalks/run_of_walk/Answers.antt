@@ -1,0 +1,43 @@
+use Rattle.std.proofs.Common.{◌≡◌, ◌<◌, ◌≤◌, ℕ, ap, ◌∙◌, subst, arith}
+use Rattle.minute_parts.specs.Parts.{IsInRun, IsPartTable}
+use Rattle.minute_parts.specs.Runs.{end_of_run}
+use Rattle.walk_costs.specs.Walks.{PricedParts}
+use Rattle.walk_costs.proofs.RunLaws.{ends, in_century, one_run}
+use Rattle.walk_costs.proofs.walks.StationWalks.run_of_walk.Goals.{then-p-ge-SECONDS_PER_MINUTE-via-then-p-ge-SECONDS_PER_MINUTE, then-p-ge-SECONDS_PER_MINUTE-via-else-p-ge-SECONDS_PER_MINUTE+then-t0-end}
+use Rattle.walk_costs.proofs.walks.StationWalks.run_of_walk.Goals as goal
+
+pub returns-then-p-ge-SECONDS_PER_MINUTE-clause-none : goal.returns-then-p-ge-SECONDS_PER_MINUTE-clause-none
+returns-then-p-ge-SECONDS_PER_MINUTE-clause-none c = λ is_none i plain.
+    let w = c.args.self.now in
+    let table = subst (λ (v : PricedParts). IsPartTable v.parts) c.self.view_is c.self.invariant.table in
+    let end = ap (λ (v : PricedParts). v.parts.end) c.self.view_is in
+    elim c.then-p-ge-SECONDS_PER_MINUTE.branch [
+      | then-p-ge-SECONDS_PER_MINUTE-via-then-p-ge-SECONDS_PER_MINUTE w ↦ omega (arith, plain.second, w.if-p-ge-SECONDS_PER_MINUTE.true)
+      | then-p-ge-SECONDS_PER_MINUTE-via-else-p-ge-SECONDS_PER_MINUTE+then-t0-end w ↦ omega (
+        arith,
+        plain.begins.not_over,
+        ends c.args.self.now.parts table i plain.begins.is_run,
+        end,
+        w.end.ensures.value,
+        w.if-t0-end.true,
+      )
+    ]
+
+pub returns-then-later-run_end-clause-none : goal.returns-then-later-run_end-clause-none
+returns-then-later-run_end-clause-none c = λ is_none i plain.
+    let w = c.args.self.now in
+    let run = c.run_of-run.result in
+    let table = subst (λ (v : PricedParts). IsPartTable v.parts) c.self.view_is c.self.invariant.table in
+    let here = subst (λ (v : PricedParts). IsInRun v.parts c.args.t0 c.run_of-run.result) c.self.view_is c.run_of-run.ensures in
+    let end = c.run_end.ensures ∙ ap (λ (v : PricedParts). end_of_run v.parts.runs v.parts.end c.run_of-run.result) c.self.view_is in
+    let same = ap (end_of_run w.parts.runs w.parts.end) (one_run w.parts table c.args.t0 i run plain.begins here) in
+    omega (arith, plain.ends, same, end, c.later_minutes-later.ensures.count, c.if-later-run_end.true, here.not_over)
+
+pub meets_leap_end-requires-clause-century : goal.meets_leap_end-requires-clause-century
+meets_leap_end-requires-clause-century c =
+    let w = c.args.self.now in
+    let run = c.run_of-run.result in
+    let table = subst (λ (v : PricedParts). IsPartTable v.parts) c.self.view_is c.self.invariant.table in
+    let here = subst (λ (v : PricedParts). IsInRun v.parts c.args.t0 c.run_of-run.result) c.self.view_is c.run_of-run.ensures in
+    let end = c.run_end.ensures ∙ ap (λ (v : PricedParts). end_of_run v.parts.runs v.parts.end c.run_of-run.result) c.self.view_is in
+    omega (arith, end, c.if-later-run_end.false, ends w.parts table run here.is_run, in_century w.parts table)

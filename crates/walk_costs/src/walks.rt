@@ -1,0 +1,263 @@
+//! What sequences cost a station, by tables that were made for a window.
+
+ghost use Rattle.std.specs.Prelude.{◌≡◌, ◌==◌, ◌+◌, ◌/◌, ◌%◌, ◌<◌, ◌≤◌, ◌↔◌, ℕ, IfOk, IfSome, IsNone, IsTrue, false, length, true};
+ghost use Rattle.definitions.specs.time.Calendar.{century_minutes, is_leap_end, minutes_per_day};
+ghost use Rattle.symbol_cost.specs.Grid.{HasCosts, cost_at};
+ghost use Rattle.minute_parts.specs.Parts.{IsPartTable, part_where};
+ghost use Rattle.slot_columns.specs.Parts.{AreWalkCosts, most_cost};
+ghost use Rattle.walk_costs.specs.Dates.{AreAdded, IsAdded, minutes_to_call};
+ghost use Rattle.walk_costs.specs.Walks.{IsDateCost, IsPlainIn, cost_of, last_minute, later_minutes};
+
+use crate::date::{CALL_MINUTES, DateCost, by_minute, date_cost};
+use crate::dut::added;
+use crate::small::look_at_all;
+use civil::Civil;
+use definitions::{CENTURY_MINUTES, MINUTES_PER_DAY, MINUTES_PER_HOUR};
+use minute_parts::{Part, Parts, Run};
+use slot_columns::{ColumnsFault, SECONDS_PER_MINUTE, SlotColumns, WalkTable};
+use std::alloc::{AllocError, Global};
+use std::marker::Model;
+use symbol_cost::CostGrid;
+
+/// Why the tables can't be made.
+#[derive(Clone, Copy, Debug, PartialEq, Eq)]
+pub enum WalksFault {
+    /// Memory wasn't found.
+    NoMemory,
+}
+
+impl From<AllocError> for WalksFault {
+    fn from(_error: AllocError) -> WalksFault {
+        WalksFault::NoMemory
+    }
+}
+
+impl From<ColumnsFault> for WalksFault {
+    fn from(_fault: ColumnsFault) -> WalksFault {
+        WalksFault::NoMemory
+    }
+}
+
+/// What a station's sequences cost in the slots of a window. Contracts see the parts of its telegrams and the grid of
+/// costs.
+#[derive(Drop)]
+pub struct StationWalks {
+    parts: Parts,
+    columns: SlotColumns,
+    walks: WalkTable,
+    added: [u32; SECONDS_PER_MINUTE],
+}
+
+impl Model for StationWalks {
+    ghost use Rattle.walk_costs.specs.Walks.{ArePriced, PricedParts};
+
+    ghost Value = { PricedParts };
+
+    ghost view = { λ w. record { parts = w.parts; grid = w.columns } };
+
+    ghost invariant = { λ w. ArePriced w.parts w.columns w.walks w.added };
+}
+
+impl StationWalks {
+    /// Adds up what the parts of a station cost by its grid.
+    pub fn make(alloc: Global, parts: Parts, grid: &CostGrid) -> Result<StationWalks, WalksFault>
+        requires { parts.station ≡ grid.now.station }
+        ensures parts { IfOk result (λ walks. walks.parts ≡ parts) }
+        ensures costs { IfOk result (λ walks. HasCosts walks.grid grid.now.station (length grid.now.rows) (cost_at grid.now.rows)) }
+        ensures receivers { IfOk result (λ walks. walks.grid.receivers ≡ grid.now.receivers) }
+    {
+        // The parts are a table, as their end is one.
+        prove!(parts.end() <= CENTURY_MINUTES);
+        let columns = SlotColumns::make(alloc, grid)?;
+        let walks = walks_of(alloc, &parts, &columns)?;
+        let added = all_added(&columns);
+        look_at_all(&columns);
+        Ok(StationWalks {
+            parts,
+            columns,
+            walks,
+            added,
+        })
+    }
+
+    /// What the station's seconds may carry.
+    pub fn parts(&self) -> &Parts
+        ensures { result.now ≡ self.now.parts }
+    {
+        &self.parts
+    }
+
+    /// The run in which the walk from second `p` of the minute `t0` lies, where that is a walk through minutes of 60 seconds
+    /// that lie in one run. None exactly where it isn't.
+    pub fn run_of_walk(&self, civil: &Civil, announced: bool, p: u8, t0: u32) -> Option<usize>
+        ensures found { IfSome result (λ i. IsPlainIn self.now announced p t0 i) }
+        ensures none { IsNone result → (i : ℕ) → ¬ (IsPlainIn self.now announced p t0 i) }
+    {
+        if p as usize >= SECONDS_PER_MINUTE || t0 >= self.parts.end() {
+            return None;
+        }
+        let run = self.parts.run_of(t0);
+        let later = self.later_minutes(p);
+        if later >= self.parts.run_end(run) - t0 {
+            return None;
+        }
+        if announced && meets_leap_end(civil, t0, t0 + later) {
+            return None;
+        }
+        Some(run)
+    }
+
+    /// What a sequence costs the station, where its walk from second `p` of the minute `t0` has 60 seconds in each minute
+    /// and lies in one run. None exactly where it doesn't.
+    pub fn cost(&self, civil: &Civil, announced: bool, p: u8, t0: u32) -> Option<u32>
+        ensures cost { IfSome result (λ cost. cost ≡ cost_of self.now announced p t0) }
+        ensures bound { IfSome result (λ cost. cost ≤ most_cost self.now.grid) }
+        ensures none { IsNone result → (i : ℕ) → ¬ (IsPlainIn self.now announced p t0 i) }
+    {
+        match self.run_of_walk(civil, announced, p, t0) {
+            Some(run) => Some(self.cost_in(announced, p, t0, run)),
+            None => None,
+        }
+    }
+
+    // What the sequence costs, whose walk lies in the run of this number.
+    fn cost_in(&self, announced: bool, p: u8, t0: u32, number: usize) -> u32
+        requires { IsPlainIn self.now announced p t0 number }
+        ensures cost { result ≡ cost_of self.now announced p t0 }
+        ensures bound { result ≤ most_cost self.now.grid }
+    {
+        let run = self.parts.run(number);
+        let u = local_time(run.shift, t0);
+        let part = part_where(announced, run);
+        let date = date_cost(&self.columns, p, minutes_to_call(u), part);
+        self.walks.cost(p, u) + date + self.added_from(p, t0)
+    }
+
+    /// What the date of a run costs in the walks that begin in second `p`, below 60.
+    pub fn date_cost(&self, announced: bool, p: u8, run: usize) -> DateCost
+        requires second { p < SECONDS_PER_MINUTE }
+        requires run { run < length self.now.parts.runs }
+        ensures walks { (result.announced ≡ announced) × (result.second ≡ p) × (result.run ≡ run) }
+        ensures cost { IsDateCost self.now result }
+    {
+        let at = self.parts.run(run);
+        DateCost {
+            announced,
+            second: p,
+            run,
+            shift: at.shift,
+            by_minute: by_minute(&self.columns, p, part_where(announced, at)),
+        }
+    }
+
+    /// What a sequence costs the station that begins in the minute `t0`, where its walk has 60 seconds in each minute and
+    /// lies in the run.
+    pub fn cost_by(&self, date: &DateCost, t0: u32) -> u32
+        requires date { IsDateCost self.now date.now }
+        requires walk { IsPlainIn self.now date.now.announced date.now.second t0 date.now.run }
+        ensures cost { result ≡ cost_of self.now date.now.announced date.now.second t0 }
+        ensures bound { result ≤ most_cost self.now.grid }
+    {
+        let walks = &self.walks;
+        let u = local_time(date.shift, t0);
+        let p = date.second;
+        walks.cost(p, u) + date.by_minute[minutes_to_call(u) as usize] + self.added_from(p, t0)
+    }
+
+    // How many minutes a walk goes on after its first.
+    fn later_minutes(&self, p: u8) -> u32
+        requires { p < SECONDS_PER_MINUTE }
+        ensures count { result ≡ later_minutes (length self.now.grid.rows) p }
+        ensures bound { result ≤ 20 }
+    {
+        let seconds = self.columns.seconds() as usize;
+        ((p as usize + seconds).saturating_sub(1) / SECONDS_PER_MINUTE) as u32
+    }
+
+    // What the seconds of DUT1 add: nothing where the walk goes on to another UTC day.
+    fn added_from(&self, p: u8, t0: u32) -> u32
+        requires second { p < SECONDS_PER_MINUTE }
+        requires minute { t0 < century_minutes }
+        ensures one_day { (last_minute self.now p t0 / minutes_per_day == t0 / minutes_per_day) ≡ true → IsAdded self.now.grid p result }
+        ensures two_days { (last_minute self.now p t0 / minutes_per_day == t0 / minutes_per_day) ≡ false → result ≡ 0 }
+    {
+        let last = t0 + self.later_minutes(p);
+        if last / MINUTES_PER_DAY == t0 / MINUTES_PER_DAY {
+            self.added[p as usize]
+        } else {
+            0
+        }
+    }
+}
+
+// What the walks through a day cost by the time of day.
+fn walks_of(alloc: Global, parts: &Parts, columns: &SlotColumns) -> Result<WalkTable, WalksFault>
+    requires { IsPartTable parts.now }
+    ensures { IfOk result (λ walks. AreWalkCosts walks columns.now parts.now.times) }
+{
+    let times = times_of(alloc, parts)?;
+    let walks = WalkTable::make(alloc, columns, &times)?;
+    Ok(walks)
+}
+
+// The parts by the time of day, in a row.
+fn times_of(alloc: Global, parts: &Parts) -> Result<Vec<Part>, AllocError>
+    requires { IsPartTable parts.now }
+    ensures { IfOk result (λ times. times.items ≡ parts.now.times) }
+{
+    let mut times = Vec::with_capacity(alloc, MINUTES_PER_DAY as usize)?;
+    for u in 0..MINUTES_PER_DAY as u16 {
+        times.push(*parts.time_part(u))?;
+    }
+    Ok(times)
+}
+
+// What DUT1 adds, for each second in which a walk may begin.
+fn all_added(columns: &SlotColumns) -> [u32; SECONDS_PER_MINUTE]
+    ensures { AreAdded columns.now result }
+{
+    let mut all = [0; SECONDS_PER_MINUTE];
+    for p in 0..SECONDS_PER_MINUTE {
+        all[p] = added(columns, p as u8);
+    }
+    all
+}
+
+// Whether one of these minutes, at most 21, is the last one of a 30 June or a 31 December.
+fn meets_leap_end(civil: &Civil, first: u32, last: u32) -> bool
+    requires order { first ≤ last }
+    requires few { last ≤ first + 20 }
+    requires century { last < century_minutes }
+    ensures { IsTrue result ↔ ((t : ℕ) × (first ≤ t) × (t ≤ last) × (is_leap_end t ≡ true)) }
+{
+    let end = first / MINUTES_PER_DAY * MINUTES_PER_DAY + (MINUTES_PER_DAY - 1);
+    end <= last && civil.leap_end(end)
+}
+
+// What the date tells in a run.
+fn part_where(announced: bool, run: &Run) -> &Part
+    ensures { result.now ≡ part_where announced run.now }
+{
+    if announced {
+        &run.announced
+    } else {
+        &run.plain
+    }
+}
+
+// The minute of the local day that is encoded in the minute `t`.
+fn local_time(shift: u16, t: u32) -> u16
+    requires { t < century_minutes }
+    ensures time { result ≡ (t + shift) % minutes_per_day }
+    ensures bound { result < minutes_per_day }
+{
+    ((t + shift as u32) % MINUTES_PER_DAY) as u16
+}
+
+// After how many minutes the minute 15 or 45 of the hour comes.
+fn minutes_to_call(u: u16) -> u8
+    ensures minutes { result ≡ minutes_to_call u }
+    ensures bound { result < CALL_MINUTES }
+{
+    ((75 - u % MINUTES_PER_HOUR as u16) % CALL_MINUTES as u16) as u8
+}
