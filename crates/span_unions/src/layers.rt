@@ -1,9 +1,10 @@
 //! The unions of a block whose walks reach some minutes: one for the minutes in which they begin, one for those after it.
 
-ghost use Rattle.std.specs.Prelude.{ℕ, ◌+◌, ◌<◌, IfSome};
-ghost use Rattle.span_unions.specs.Layers.{AreLayers};
+ghost use Rattle.std.specs.Prelude.{ℕ, ◌+◌, ◌<◌, IfSome, IsSome};
+ghost use Rattle.span_unions.specs.Layers.{AreLayers, IsSteady};
 ghost use Rattle.span_unions.specs.Unions.{AreRegular};
 
+use crate::part::same;
 use crate::unions::Unions;
 use minute_parts::Part;
 
@@ -24,7 +25,8 @@ impl Unions {
     pub fn layers(&self, announced: bool, lo: u32, hi: u32, reach: u32) -> Option<Layers>
         requires some { lo < hi }
         requires regular { AreRegular announced lo (hi + reach) self.now.end }
-        ensures { IfSome result (λ layers. AreLayers self.now.station announced lo hi reach layers) }
+        ensures layers { IfSome result (λ layers. AreLayers self.now.station announced lo hi reach layers) }
+        ensures steady { IsSteady self.now.station announced lo hi reach → IsSome result }
     {
         // What ends before it fits.
         self.parts().end();
@@ -37,9 +39,10 @@ impl Unions {
         }
         let rest = self.over(announced, lo + 1, hi + reach);
         let common = self.over(announced, lo + reach, hi + 1);
-        if rest != common {
-            return None;
+        let steady = same(&rest, &common);
+        if steady {
+            return Some(Layers { first, rest });
         }
-        Some(Layers { first, rest })
+        None
     }
 }

@@ -1,6 +1,6 @@
 //! Parts of telegrams, two of them at a time.
 
-ghost use Rattle.std.specs.Prelude.{ℕ, ◌≡◌, ◌<◌, bit_or, slice_index};
+ghost use Rattle.std.specs.Prelude.{ℕ, ◌≡◌, ◌<◌, bit_or, false, slice_index, true};
 ghost use Rattle.minute_parts.specs.Overlay.{overlay};
 
 use minute_parts::Part;
@@ -49,4 +49,12 @@ pub fn overlaid(time: &Part, date: &Part) -> Part
         part[s] = if time[s] == 0 { date[s] } else { time[s] };
     }
     part
+}
+
+/// Whether two parts tell the same of each second.
+pub fn same(a: &Part, b: &Part) -> bool
+    ensures same { result ≡ true → (s : ℕ) → s < SECONDS → slice_index a.now s ≡ slice_index b.now s }
+    ensures differ { result ≡ false → ((s : ℕ) → s < SECONDS → slice_index a.now s ≡ slice_index b.now s) → ⊥ }
+{
+    a == b
 }

@@ -65,7 +65,7 @@ impl Unions {
 
     /// What each second may carry in the minutes from `lo` up to, and without, `hi`, all of them together. Each of them has
     /// 60 seconds where a leap second is announced or not, as `announced` says. A second that isn't scored in one of the
-    /// minutes isn't in the union.
+    /// minutes isn't scored in the union.
     pub fn over(&self, announced: bool, lo: u32, hi: u32) -> Part
         requires some { lo < hi }
         requires regular { AreRegular announced lo hi self.now.end }
