@@ -10,6 +10,12 @@ returns-in-Some-clause-only g c =
     (added (m.disk c.args.machine.now) (m.disk c.append_opened.new.machine) c.args.name.now c.args.bytes.now (m.leads c.in-Some.opened.file) c.append_opened.result
     (g.met.M.Machine.apart c.args.machine.now) was.same c.append_opened.ensures.appended c.append_opened.ensures.same).0
 
+pub returns-clause-only : goal.returns-clause-only
+returns-clause-only g c =
+    let m = g.M.Machine in
+    (made_and_added (m.disk c.args.machine.now) (m.disk c.open_to_append.new.self) (m.disk c.append_opened-appended.new.machine) c.args.name.now c.args.bytes.now (m.leads c.new.result.file) c.append_opened-appended.result
+    (g.met.M.Machine.apart c.open_to_append.new.self) (ap m.leads c.new.ensures.file ∙ c.in_ok-file.ensures.opened.same) c.in_ok-file.ensures.made c.append_opened-appended.ensures.appended c.append_opened-appended.ensures.same).0
+
 pub returns-clause-stays : goal.returns-clause-stays
 returns-clause-stays g c =
     let m = g.M.Machine in
