@@ -1,8 +1,8 @@
 -- What the seconds of DUT1 cost where they tell a value, and where they are free.
-use Rattle.std.proofs.Common.{◌≡◌, ℕ, zero, suc, ◌+◌, ◌%◌, ◌^◌, ◌<◌, ◌≤◌, Bool, true, false, if◌then◌else◌, ℤ, List, [], ◌∷◌, length, map, Option, Some, min, unwrap_or, refl, sym, ap, ◌∙◌, subst, arith}
+use Rattle.std.proofs.Common.{◌≡◌, ℕ, zero, suc, ◌+◌, ◌%◌, ◌^◌, ◌<◌, ◌≤◌, Bool, true, false, if◌then◌else◌, ℤ, length, refl, subst, arith}
 use Rattle.signal_base.specs.declared.station.Station.{Station}
 use Rattle.signal_base.specs.declared.station.Station.TheVariants.{Dcf77, Msf, Wwvb, Jjy}
-use Rattle.definitions.specs.heard.Costs.{set_cost, sum_below}
+use Rattle.definitions.specs.heard.Costs.{set_cost}
 use Rattle.definitions.specs.heard.Dut1.{dut1_symbol, has_dut1, is_dut1_second}
 use Rattle.definitions.proofs.Dut1Laws.{dut1_bit}
 use Rattle.definitions.proofs.SetLaws.{IsBit}

@@ -1,5 +1,5 @@
 -- What a walk costs by the parts of its minutes.
-use Rattle.std.proofs.Common.{◌≡◌, ℕ, zero, suc, ◌+◌, ◌-◌, ◌*◌, ◌/◌, ◌%◌, ◌^◌, ◌<◌, ◌≤◌, Bool, true, false, ◌==◌, ◌&&◌, ◌||◌, if◌then◌else◌, ℤ, List, [], ◌∷◌, length, map, fold, min, get_or, slice_index, slice_index_or, Option, Some, unwrap_or, refl, sym, ap, ◌∙◌, subst, arith}
+use Rattle.std.proofs.Common.{◌≡◌, ℕ, ◌+◌, ◌*◌, ◌/◌, ◌%◌, ◌^◌, ◌<◌, ◌≤◌, Bool, true, false, ◌==◌, ◌&&◌, ◌||◌, if◌then◌else◌, ℤ, List, [], ◌∷◌, length, map, fold, min, get_or, slice_index_or, unwrap_or, refl, sym, ap, ◌∙◌, arith}
 use Rattle.std.proofs.Math.Nat.{mul-le-mul_left}
 use Rattle.signal_base.specs.declared.station.Station.{Station}
 use Rattle.signal_base.specs.declared.station.Station.TheVariants.{Dcf77, Msf, Wwvb, Jjy}
@@ -7,14 +7,14 @@ use Rattle.signal_base.specs.Waveform.{symbol_count}
 use Rattle.definitions.specs.declared.sequence.Sequence.{Sequence}
 use Rattle.definitions.specs.codes.Allowed.{allowed}
 use Rattle.definitions.specs.sequences.Walks.{place_at, set_at}
-use Rattle.definitions.specs.heard.Costs.{cost_outside_dut1, dut1_cost, least, least_dut1_cost, lies_in_one_day, set_cost, station_cost, sum_below}
+use Rattle.definitions.specs.heard.Costs.{cost_outside_dut1, dut1_cost, least, least_dut1_cost, lies_in_one_day, sum_below}
 use Rattle.definitions.specs.heard.Dut1.{dut1_symbol, dut1_values, has_dut1, is_dut1_second}
 use Rattle.definitions.proofs.CostLaws.{sum_below_bound, sum_below_same}
 use Rattle.definitions.proofs.Dut1Laws.{dut1_sets}
 use Rattle.symbol_cost.specs.Grid.{Grid, cost_at}
 use Rattle.symbol_cost.specs.declared.limits.TheConstants.{RECEIVER_COST}
-use Rattle.minute_parts.specs.Overlay.{is_time_second, overlay, tells_time}
-use Rattle.minute_parts.specs.Parts.{IsInRun, PartTable, local_time, part_where, times_at}
+use Rattle.minute_parts.specs.Overlay.{is_time_second, overlay}
+use Rattle.minute_parts.specs.Parts.{local_time, part_where, times_at}
 use Rattle.minute_parts.specs.Runs.{run_at}
 use Rattle.slot_columns.specs.Parts.{minute_cost, most_cost, walk_cost, walk_set}
 use Rattle.slot_columns.proofs.SetLaws.{none_chosen, only_costs}

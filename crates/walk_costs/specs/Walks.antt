@@ -1,7 +1,6 @@
 -- Walks with 60 seconds in each minute that lie in one run of a station's minutes, and what they cost.
 use Rattle.std.specs.Prelude.{ℕ, ◌≡◌, ◌+◌, ◌-◌, ◌*◌, ◌/◌, ◌<◌, ◌≤◌, Bool, List, length, slice_index}
 use Rattle.signal_base.specs.declared.limits.TheConstants.{MOST_RECEIVERS, MOST_SECONDS}
-use Rattle.definitions.specs.declared.sequence.Sequence.{Sequence}
 use Rattle.definitions.specs.time.Calendar.{minute_length}
 use Rattle.definitions.specs.heard.Costs.{set_cost, station_cost}
 use Rattle.symbol_cost.specs.Grid.{Grid, cost_at}

@@ -6,6 +6,8 @@ mod date;
 mod dut;
 mod small;
 mod tenths;
+#[cfg(test)]
+mod tests;
 mod walks;
 
 pub use date::{ByMinute, CALL_MINUTES, DateCost};

@@ -1,4 +1,3 @@
-use Rattle.std.proofs.Common.{arith}
 use Rattle.std.proofs.lemmas.List.{get_or-replicate}
 use Rattle.walk_costs.proofs.date.alike.Goals as goal
 

@@ -1,7 +1,6 @@
-use Rattle.std.proofs.Common.{◌≡◌, ◌<◌, ℕ, get_or, sym, ap, ◌∙◌, arith, below_more}
-use Rattle.std.proofs.lemmas.List.{get_or-set_same}
+use Rattle.std.proofs.Common.{sym, ap, ◌∙◌, arith}
 use Rattle.signal_base.specs.declared.station.Station.{Station}
-use Rattle.walk_costs.specs.Dates.{date_cost, is_given_up}
+use Rattle.walk_costs.specs.Dates.{is_given_up}
 use Rattle.walk_costs.proofs.WalkLaws.{given_up_cost, lost_le, none_lost}
 use Rattle.walk_costs.proofs.date.by_minute.Goals as goal
 

@@ -1,8 +1,6 @@
-use Rattle.std.proofs.Common.{◌≡◌, ℕ, List, sym, ap, ◌∙◌, arith}
-use Rattle.symbol_cost.specs.Grid.{cost_at}
+use Rattle.std.proofs.Common.{sym, ap, ◌∙◌, arith}
 use Rattle.signal_base.specs.declared.station.Station.{Station}
-use Rattle.slot_columns.specs.Parts.{minute_cost}
-use Rattle.walk_costs.specs.Dates.{given_up, is_given_up}
+use Rattle.walk_costs.specs.Dates.{is_given_up}
 use Rattle.walk_costs.proofs.WalkLaws.{given_up_cost, lost_le, none_lost}
 use Rattle.walk_costs.proofs.date.date_cost.Goals as goal
 

@@ -1,4 +1,4 @@
-use Rattle.std.proofs.Common.{◌≡◌, ◌*◌, ◌<◌, ◌≤◌, ℕ, arith, below_more}
+use Rattle.std.proofs.Common.{◌*◌, ◌≤◌, arith, below_more}
 use Rattle.definitions.specs.heard.Costs.{set_cost}
 use Rattle.symbol_cost.specs.Grid.{cost_at}
 use Rattle.symbol_cost.specs.declared.limits.TheConstants.{RECEIVER_COST}

@@ -1,4 +1,4 @@
-use Rattle.std.proofs.Common.{◌≡◌, ◌+◌, ◌%◌, ◌<◌, ◌≤◌, ℕ, ap, ◌∙◌, subst, arith}
+use Rattle.std.proofs.Common.{◌+◌, ◌%◌, ap, ◌∙◌, subst, arith}
 use Rattle.minute_parts.specs.Parts.{IsPartTable}
 use Rattle.walk_costs.specs.Walks.{ArePriced, PricedParts}
 use Rattle.walk_costs.proofs.RunLaws.{ends, in_century}

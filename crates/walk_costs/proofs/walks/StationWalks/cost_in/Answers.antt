@@ -1,8 +1,7 @@
-use Rattle.std.proofs.Common.{◌≡◌, ◌+◌, ◌%◌, ◌<◌, ◌≤◌, ℕ, List, ap, ◌∙◌, subst, arith}
+use Rattle.std.proofs.Common.{◌+◌, ◌%◌, ap, ◌∙◌, subst, arith}
 use Rattle.minute_parts.specs.declared.runs.Run.{Run}
 use Rattle.minute_parts.specs.Parts.{IsPartTable, part_where}
 use Rattle.minute_parts.specs.Runs.{run_at}
-use Rattle.symbol_cost.specs.Grid.{Grid}
 use Rattle.walk_costs.specs.Dates.{date_cost}
 use Rattle.walk_costs.specs.Walks.{ArePriced, PricedParts}
 use Rattle.walk_costs.proofs.RunLaws.{ends, in_century}

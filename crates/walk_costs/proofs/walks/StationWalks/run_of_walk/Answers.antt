@@ -1,4 +1,4 @@
-use Rattle.std.proofs.Common.{◌≡◌, ◌<◌, ◌≤◌, ℕ, ap, ◌∙◌, subst, arith}
+use Rattle.std.proofs.Common.{ap, ◌∙◌, subst, arith}
 use Rattle.minute_parts.specs.Parts.{IsInRun, IsPartTable}
 use Rattle.minute_parts.specs.Runs.{end_of_run}
 use Rattle.walk_costs.specs.Walks.{PricedParts}

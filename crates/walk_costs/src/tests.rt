@@ -1,0 +1,122 @@
+//! Walks of which four seconds are known, whose costs were worked out by hand.
+
+ghost use Rattle.std.specs.Prelude.{◌≡◌, ◌≤◌, IfOk, false};
+ghost use Rattle.signal_base.specs.Limits.{IsPriced};
+ghost use Rattle.signal_base.specs.declared.limits.TheConstants.{MOST_COST};
+ghost use Rattle.walk_costs.specs.Walks.{IsPlainIn};
+
+use crate::StationWalks;
+use civil::Civil;
+use minute_parts::Parts;
+use pulse_log::read_log;
+use signal_base::{CostTable, Station, Tuning};
+use std::alloc::Global;
+use std::test::Fail;
+use symbol_cost::CostGrid;
+
+// What a tenth costs that should be low, and one that should be high, whatever was heard.
+fn table(low: u8, high: u8) -> CostTable
+    requires low { low ≤ MOST_COST }
+    requires high { high ≤ MOST_COST }
+    ensures { IsPriced result }
+{
+    CostTable {
+        low: [low; 101],
+        high: [high; 101],
+    }
+}
+
+// The slots 0, 2, 60 and 61 are known, and the others cost nothing.
+const SOME_SLOTS: &[u8] = b"0 H\n1000 X\n2000 H\n3000 X\n60000 H\n62000 H\n";
+
+fn grid(alloc: Global, station: Station, table: &CostTable) -> Result<CostGrid, Fail>
+    requires { IsPriced table.now }
+    ensures { IfOk result (λ grid. grid.station ≡ station) }
+{
+    let log = read_log(alloc, SOME_SLOTS)?;
+    let tuning = Tuning {
+        delay: 0,
+        weight: 1,
+    };
+    let grid = CostGrid::make(alloc, station, &[tuning], table, &[log], 0, 0, 62)?;
+    Ok(grid)
+}
+
+fn walks(
+    alloc: Global,
+    civil: &Civil,
+    station: Station,
+    table: &CostTable,
+) -> Result<StationWalks, Fail>
+    requires { IsPriced table.now }
+{
+    let parts = Parts::make(alloc, civil, station)?;
+    let walks = StationWalks::make(alloc, parts, &grid(alloc, station, table)?)?;
+    Ok(walks)
+}
+
+// 2024-06-10T06:45Z, at which JJY sends its call sign, in a run of 1,440 minutes.
+const CALL: u32 = 12_855_285;
+
+const RUN_END: u32 = 12_854_340 + 1440;
+
+// A low tenth costs 20 and a high one 10, so 0, 1 and a marker cost 120, 150 and 180. The seconds 40 to 48 carry 000100100,
+// for the year 24. The run ends at midnight in Japan; in the minutes 58 and 59 second 1 is a 1 and second 2 a 0.
+#[test]
+fn the_call_sign_costs_nothing(rt: HostRuntime) -> Result<(), Fail> {
+    let civil = Civil::make(rt.alloc())?;
+    let walks = walks(rt.alloc(), &civil, Station::Jjy, &table(20, 10))?;
+    for (second, minute, cost) in [
+        (40, CALL, Some(120 + 120)),
+        (40, CALL - 1, Some(120 + 120)),
+        (40, CALL + 1, Some(4 * 120)),
+        (43, CALL + 1, Some(150 + 120 + 150 + 120)),
+        (60, CALL, None),
+        (0, RUN_END - 2, Some(180 + 120 + 180 + 150)),
+        (0, RUN_END - 1, None),
+    ] {
+        assert_eq!(rt;
+            walks.cost(&civil, false, second, minute),
+            cost,
+            "second {second} of {minute}"
+        );
+    }
+    Ok(())
+}
+
+// A low tenth costs 10 and a high one 20, so 0 and 1 cost 190 and 180. The known slots are the seconds 8 and 10 of the one
+// minute and 8 and 9 of the next. Each of them can be a 1, but DUT1 has ones up to second 8 or from second 9 on.
+#[test]
+fn one_value_of_dut1_is_told_in_a_day(rt: HostRuntime) -> Result<(), Fail> {
+    let civil = Civil::make(rt.alloc())?;
+    let walks = walks(rt.alloc(), &civil, Station::Msf, &table(10, 20))?;
+    // 2024-01-10T10:00Z, and the last minute of that day.
+    for (minute, cost) in [(12_636_600, 180 + 190 + 180 + 190), (12_637_439, 4 * 180)] {
+        assert_eq!(rt;
+            walks.cost(&civil, false, 8, minute),
+            Some(cost),
+            "at {minute}"
+        );
+        assert_eq!(rt;
+            by_date(&walks, &civil, 8, minute),
+            Some(cost),
+            "at {minute}"
+        );
+    }
+    Ok(())
+}
+
+// The same by what the run's date costs.
+fn by_date(walks: &StationWalks, civil: &Civil, p: u8, t0: u32) -> Option<u32> {
+    match walks.run_of_walk(civil, false, p, t0) {
+        Some(run) => Some(cost_in_run(walks, p, t0, run)),
+        None => None,
+    }
+}
+
+fn cost_in_run(walks: &StationWalks, p: u8, t0: u32, run: usize) -> u32
+    requires { IsPlainIn walks.now false p t0 run }
+{
+    let date = walks.date_cost(false, p, run);
+    walks.cost_by(&date, t0)
+}
