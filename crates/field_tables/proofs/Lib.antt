@@ -1,6 +1,3 @@
-pub mod AgreementLaws
-pub mod GridLaws
-pub mod BitLaws
-pub mod WalkLaws
-pub mod ValueLaws
-pub mod UnionLaws
+pub mod StationLaws
+pub mod WalkableLaws
+pub mod SumLaws

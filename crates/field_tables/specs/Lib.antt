@@ -1,7 +1,4 @@
 pub mod Grids
-pub mod Scored
 pub mod Agreement
-pub mod Tenths
-pub mod WalkCosts
-pub mod Unions
-pub mod Made
+pub mod Scored
+pub mod Sums

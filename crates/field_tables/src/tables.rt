@@ -9,13 +9,13 @@ ghost use Rattle.definitions.specs.answers.Blocks.{HasWalk, IsBlock, IsUnion, Is
 ghost use Rattle.field_tables.specs.Grids.{AreGrids};
 ghost use Rattle.field_tables.specs.Scored.{costs_of};
 
-use crate::bound::union_bound;
-use crate::grids::grid_of;
-use crate::plain::plain_cost;
-use crate::unions::{has_walk, unions_of};
+use crate::stations::SumsFault;
+use crate::sums::WindowSums;
 use civil::Civil;
 use definitions::{Block, Sequence};
+use plain_costs::{grid_of, has_walk, plain_cost, union_bound, unions_of};
 use signal_base::{GREATEST_COST, Station, Window};
+use slot_columns::SECONDS_PER_MINUTE;
 use std::alloc::Global;
 use std::marker::Model;
 use symbol_cost::CostGrid;
@@ -27,6 +27,12 @@ pub enum TablesFault {
     NoMemory,
 }
 
+impl From<SumsFault> for TablesFault {
+    fn from(_fault: SumsFault) -> TablesFault {
+        TablesFault::NoMemory
+    }
+}
+
 /// A window and the costs of its stations' symbols: what each sequence costs, and what the sequences of a block allow
 /// together. Contracts see the window and the grids.
 #[derive(Drop)]
@@ -34,25 +40,25 @@ pub struct Tables<'a> {
     grids: &'a [CostGrid],
     civil: &'a Civil,
     window: Window,
+    sums: WindowSums,
 }
 
 impl<'a> Model for Tables<'a> {
     ghost use Rattle.field_tables.specs.Scored.{Scored};
-    ghost use Rattle.definitions.specs.sequences.Windows.{IsWindow};
-    ghost use Rattle.field_tables.specs.Grids.{AreGrids};
+    ghost use Rattle.field_tables.specs.Sums.{AreTables};
 
     ghost Value = { Scored };
 
     ghost view = { λ t. record { window = t.window; grids = t.grids.now } };
 
-    ghost invariant = { λ t. IsWindow t.window × AreGrids t.window t.grids.now };
+    ghost invariant = { λ t. AreTables t.window t.grids.now t.sums };
 }
 
 impl<'a> Tables<'a> {
     /// Tables of a window. There is one grid for each station of the window, in the order DCF77, MSF, WWVB, JJY, each with
     /// the window's slots, and all made from at most 8 receivers together. `NoMemory` comes only for want of memory.
     pub fn make(
-        _alloc: Global,
+        alloc: Global,
         grids: &'a [CostGrid],
         civil: &'a Civil,
         window: &Window,
@@ -62,10 +68,12 @@ impl<'a> Tables<'a> {
         ensures window { IfOk result (λ tables. tables.window ≡ window.now) }
         ensures grids { IfOk result (λ tables. tables.grids ≡ grids.now) }
     {
+        let sums = WindowSums::make(alloc, civil, grids, window)?;
         Ok(Tables {
             grids,
             civil,
             window: *window,
+            sums,
         })
     }
 
@@ -82,6 +90,9 @@ impl<'a> Tables<'a> {
         requires { IsSequence q.now }
         ensures { IsTrue result ↔ IsLegal self.now.window q.now }
     {
+        if !q.announced && (q.second as usize) < SECONDS_PER_MINUTE {
+            return self.sums.walkable(q);
+        }
         sequence::legal(self.civil, &self.window, q)
     }
 
@@ -92,7 +103,10 @@ impl<'a> Tables<'a> {
         ensures cost { result ≡ sequence_cost (costs_of self.now) self.now.window q.now }
         ensures bound { result ≤ GREATEST_COST }
     {
-        plain_cost(self.grids, self.civil, &self.window, q)
+        match self.sums.cost(self.civil, q) {
+            Some(cost) => cost,
+            None => plain_cost(self.grids, self.civil, &self.window, q),
+        }
     }
 
     /// What a set costs a station of the window in a slot below the window's seconds: its cheapest symbol, and nothing

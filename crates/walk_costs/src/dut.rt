@@ -3,7 +3,7 @@
 ghost use Rattle.std.specs.Prelude.{◌≡◌, ◌<◌, ◌≤◌, true};
 ghost use Rattle.definitions.specs.codes.Vocabulary.{only};
 ghost use Rattle.definitions.specs.heard.Dut1.{has_dut1};
-ghost use Rattle.field_tables.specs.Tenths.{tenths_at, value_count};
+ghost use Rattle.plain_costs.specs.Tenths.{tenths_at, value_count};
 ghost use Rattle.slot_columns.specs.Parts.{most_cost};
 ghost use Rattle.walk_costs.specs.Dates.{IsAdded, free_part, free_set, least_told, part_cost, told_part, told_set};
 

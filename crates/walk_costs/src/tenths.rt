@@ -2,7 +2,7 @@
 
 ghost use Rattle.std.specs.Prelude.{◌≡◌, ◌<◌, ◌≤◌};
 ghost use Rattle.definitions.specs.heard.Dut1.{dut1_symbol, has_dut1, is_dut1_second, msf_dut1, wwvb_dut1, wwvb_sign};
-ghost use Rattle.field_tables.specs.Tenths.{tenths_at, value_count};
+ghost use Rattle.plain_costs.specs.Tenths.{tenths_at, value_count};
 
 use signal_base::Station;
 

@@ -2,8 +2,8 @@ use Rattle.std.proofs.Common.{◌≡◌, ℕ, Option, Some, List, map, unwrap_or
 use Rattle.signal_base.specs.declared.station.Station.{Station}
 use Rattle.definitions.specs.heard.Costs.{least}
 use Rattle.definitions.specs.heard.Dut1.{dut1_values}
-use Rattle.field_tables.specs.Tenths.{value_count}
-use Rattle.field_tables.proofs.ValueLaws.{all_values, least_with, some_values, values_below}
+use Rattle.plain_costs.specs.Tenths.{value_count}
+use Rattle.plain_costs.proofs.ValueLaws.{all_values, least_with, some_values, values_below}
 use Rattle.walk_costs.specs.Dates.{part_cost, told_part}
 use Rattle.walk_costs.proofs.dut.least_told.Goals as goal
 

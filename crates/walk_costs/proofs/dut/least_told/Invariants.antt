@@ -1,6 +1,6 @@
 use Rattle.std.proofs.Common.{◌≡◌, ◌≤◌, Some, map}
 use Rattle.definitions.specs.heard.Costs.{least}
-use Rattle.field_tables.proofs.ValueLaws.{values_below}
+use Rattle.plain_costs.proofs.ValueLaws.{values_below}
 use Rattle.walk_costs.specs.Dates.{free_part, part_cost, told_part}
 use Rattle.walk_costs.proofs.dut.least_told.Given as goal
 

@@ -1,5 +1,5 @@
 use Rattle.std.proofs.Common.{arith, ap, ◌∙◌}
-use Rattle.field_tables.specs.Tenths.{tenths_at}
+use Rattle.plain_costs.specs.Tenths.{tenths_at}
 use Rattle.walk_costs.specs.Dates.{part_cost}
 use Rattle.walk_costs.proofs.ToldLaws.{not_less}
 use Rattle.walk_costs.proofs.dut.told_cost.Goals as goal

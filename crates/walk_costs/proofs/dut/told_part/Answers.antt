@@ -1,6 +1,6 @@
 use Rattle.std.proofs.Common.{rules}
 use Rattle.telegram_fields.proofs.Calls.{made_by_calls}
-use Rattle.field_tables.specs.Tenths.{tenths_at}
+use Rattle.plain_costs.specs.Tenths.{tenths_at}
 use Rattle.walk_costs.specs.Dates.{told_part, told_set}
 use Rattle.walk_costs.proofs.dut.told_part.Goals as goal
 

@@ -1,0 +1,67 @@
+-- Sums over the stations of a window.
+use Rattle.std.proofs.Common.{◌≡◌, ℕ, ◌+◌, ◌*◌, ◌<◌, ◌≤◌, true, length, sum_by, take, get_or, sym, ap, ◌∙◌, subst, arith}
+use Rattle.std.proofs.Math.ListN.{get_or-map}
+use Rattle.std.proofs.lemmas.List.{length-map, take_all}
+use Rattle.std.proofs.lemmas.List.Sums.{sum_by-take-le, sum_by_more}
+use Rattle.signal_base.specs.declared.limits.TheConstants.{GREATEST_COST}
+use Rattle.signal_base.specs.declared.station.Station.{Station}
+use Rattle.definitions.specs.codes.Allowed.{has_station, stations_of}
+use Rattle.symbol_cost.specs.Grid.{Grid, cost_at}
+use Rattle.symbol_cost.specs.declared.limits.TheConstants.{RECEIVER_COST}
+use Rattle.slot_columns.specs.Parts.{most_cost}
+use Rattle.plain_costs.specs.Grids.{grid_costs}
+use Rattle.plain_costs.proofs.GridLaws.{heard_at, sum_by_station}
+use Rattle.plain_costs.proofs.WalkLaws.{few_slots, more_receivers}
+use Rattle.walk_costs.specs.Walks.{PricedParts}
+use Rattle.field_tables.specs.Sums.{AreSums, Sums, grids_of}
+
+abbrev pub receivers : Grid → ℕ
+receivers g = g.receivers
+
+-- a sum over the first stations is within what their receivers can make of the slots
+abbrev pub IsWithin : Sums → ℕ → ℕ → Type 0
+IsWithin sums i total = total ≤ sums.window.seconds * (sum_by receivers (take i (grids_of sums.stations)) * RECEIVER_COST)
+
+module _ (sums : Sums) (are : AreSums sums) where
+  as_long : length (grids_of sums.stations) ≡ length sums.stations
+  as_long = length-map sums.stations (λ (v : PricedParts). v.grid)
+
+  pub small : (i total : ℕ) → IsWithin sums i total → total ≤ GREATEST_COST
+  small i total within =
+      let some = sum_by-take-le receivers (grids_of sums.stations) i in
+      let most = few_slots sums.window.seconds (sum_by receivers (take i (grids_of sums.stations))) are.window.not_long (omega (arith, some, are.grids.few)) in
+      omega (arith, within, most)
+
+  -- a sum over all of them is one over the window's stations
+  pub whole : (F : Station → (ℕ → ℕ → ℕ) → ℕ) (i total : ℕ) → length sums.stations ≤ i
+      → total ≡ sum_by (λ (g : Grid). F g.station (cost_at g.rows)) (take i (grids_of sums.stations))
+      → total ≡ sum_by (λ s. F s (grid_costs (grids_of sums.stations) s)) (stations_of sums.window.stations)
+  whole F i total past is =
+      is ∙ ap (sum_by (λ (g : Grid). F g.station (cost_at g.rows))) (take_all i (grids_of sums.stations) (omega (arith, past, as_long)))
+      ∙ sum_by_station sums.window (grids_of sums.stations) are.grids F
+
+  module _ (i : ℕ) (w : PricedParts) (lt : i < length sums.stations) (is : w ≡ get_or sums.stations i w) where
+    its_grid : w.grid ≡ get_or (grids_of sums.stations) i w.grid
+    its_grid = ap (λ (v : PricedParts). v.grid) is ∙ sym (get_or-map (λ (v : PricedParts). v.grid) sums.stations i w)
+
+    within_grids : i < length (grids_of sums.stations)
+    within_grids = omega (arith, lt, as_long)
+
+    pub slots : length w.grid.rows ≡ sums.window.seconds
+    slots = ap (λ (g : Grid). length g.rows) its_grid ∙ are.grids.slots i w.grid within_grids
+
+    pub heard : has_station sums.window.stations w.grid.station ≡ true
+    heard = ap (λ (g : Grid). has_station sums.window.stations g.station) its_grid ∙ heard_at sums.window (grids_of sums.stations) are.grids i w.grid within_grids
+
+    pub next : (F : Grid → ℕ) (total cost : ℕ) → total ≡ sum_by F (take i (grids_of sums.stations)) → cost ≡ F w.grid
+        → total + cost ≡ sum_by F (take (i + 1) (grids_of sums.stations))
+    next F total cost before here =
+        let more = sum_by_more F (grids_of sums.stations) i w.grid within_grids in
+        let price : F w.grid ≡ F (get_or (grids_of sums.stations) i w.grid) = ap F its_grid in
+        omega (arith, more, price, before, here)
+
+    pub next_within : (total cost : ℕ) → IsWithin sums i total → cost ≤ most_cost w.grid → IsWithin sums (i + 1) (total + cost)
+    next_within total cost before here =
+        let all = sum_by_more receivers (grids_of sums.stations) i w.grid within_grids ∙ ap (λ r. sum_by receivers (take i (grids_of sums.stations)) + r) (sym (ap receivers its_grid)) in
+        let few : cost ≤ sums.window.seconds * (w.grid.receivers * RECEIVER_COST) = subst (λ n. cost ≤ n * (w.grid.receivers * RECEIVER_COST)) slots here in
+        more_receivers sums.window.seconds (sum_by receivers (take i (grids_of sums.stations))) w.grid.receivers _ total cost all before few

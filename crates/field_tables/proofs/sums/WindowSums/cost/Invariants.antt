@@ -1,0 +1,12 @@
+use Rattle.std.proofs.Common.{◌≡◌, sum_by, take}
+use Rattle.definitions.specs.heard.Costs.{station_cost}
+use Rattle.symbol_cost.specs.Grid.{Grid, cost_at}
+use Rattle.field_tables.specs.Sums.{grids_of}
+use Rattle.field_tables.proofs.SumLaws.{IsWithin}
+use Rattle.field_tables.proofs.sums.WindowSums.cost.Given as goal
+
+abbrev pub invariant-loop-walks : goal.invariant-loop-walks
+invariant-loop-walks l = record {
+  cost : l.total ≡ sum_by (λ (g : Grid). station_cost g.station (cost_at g.rows) l.self.window.seconds l.q) (take l.walks-index (grids_of l.self.stations));
+  bound : IsWithin l.self l.walks-index l.total;
+}

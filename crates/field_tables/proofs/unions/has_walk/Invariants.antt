@@ -1,5 +1,0 @@
-use Rattle.field_tables.proofs.UnionLaws.{NoneWalks}
-use Rattle.field_tables.proofs.unions.has_walk.Given as goal
-
-abbrev pub invariant-loop-first : goal.invariant-loop-first
-invariant-loop-first l = NoneWalks l.window l.block l.first

@@ -1,0 +1,104 @@
+//! What the sequences and blocks of a window cost, by sums that were made once for a log.
+
+ghost use Rattle.std.specs.Prelude.{◌≡◌, ◌<◌, ◌≤◌, ◌↔◌, IfOk, IfSome, IsTrue, false};
+ghost use Rattle.definitions.specs.heard.Costs.{sequence_cost};
+ghost use Rattle.definitions.specs.sequences.Walks.{IsWalkable};
+ghost use Rattle.definitions.specs.sequences.Windows.{IsWindow};
+ghost use Rattle.field_tables.specs.Agreement.{AgreeOn};
+ghost use Rattle.field_tables.specs.Grids.{AreGrids, grid_costs};
+ghost use Rattle.field_tables.specs.Sums.{costs_by};
+ghost use Rattle.walk_costs.specs.Walks.{later_minutes};
+
+use crate::stations::{SumsFault, end_of, stations_of};
+use civil::Civil;
+use definitions::Sequence;
+use signal_base::{GREATEST_COST, Window};
+use slot_columns::SECONDS_PER_MINUTE;
+use std::alloc::Global;
+use std::marker::Model;
+use symbol_cost::CostGrid;
+use walk_costs::StationWalks;
+
+/// A window, what the seconds of its stations may carry, and what the symbols cost there. It answers what costs little to
+/// answer, and leaves the rest to a walk over the slots.
+#[derive(Drop)]
+pub struct WindowSums {
+    pub(crate) window: Window,
+    pub(crate) stations: Vec<StationWalks>,
+    pub(crate) end: u32,
+}
+
+impl Model for WindowSums {
+    ghost use Rattle.field_tables.specs.Sums.{AreSums, Sums};
+
+    ghost Value = { Sums };
+
+    ghost view = { λ s. record { window = s.window; stations = s.stations.items; end = s.end } };
+
+    ghost invariant = { λ s. AreSums (record { window = s.window; stations = s.stations.items; end = s.end }) };
+}
+
+impl WindowSums {
+    /// Makes the sums of a window's grids.
+    pub fn make(
+        alloc: Global,
+        civil: &Civil,
+        grids: &[CostGrid],
+        window: &Window,
+    ) -> Result<WindowSums, SumsFault>
+        requires window { IsWindow window.now }
+        requires grids { AreGrids window.now grids.now }
+        ensures window { IfOk result (λ sums. sums.window ≡ window.now) }
+        ensures costs { IfOk result (λ sums. AgreeOn window.now (costs_by sums) (grid_costs grids.now)) }
+    {
+        let stations = stations_of(alloc, civil, grids)?;
+        let end = end_of(&stations);
+        Ok(WindowSums {
+            window: *window,
+            stations,
+            end,
+        })
+    }
+
+    /// What a sequence costs where at each station its walk has 60 seconds in each minute and lies in one run of the
+    /// station's minutes, and else None.
+    pub fn cost(&self, civil: &Civil, q: &Sequence) -> Option<u32>
+        ensures cost { IfSome result (λ cost. cost ≡ sequence_cost (costs_by self.now) self.now.window q.now) }
+        ensures bound { IfSome result (λ cost. cost ≤ GREATEST_COST) }
+    {
+        // No grid is made from more, so that no sum is too large.
+        let mut total = 0;
+        for walks in &self.stations {
+            let Some(cost) = walks.cost(civil, q.announced, q.second, q.first) else {
+                return None;
+            };
+            total += cost;
+        }
+        Some(total)
+    }
+
+    /// Whether a sequence that isn't announced is walkable.
+    pub fn walkable(&self, q: &Sequence) -> bool
+        requires plain { q.now.announced ≡ false }
+        requires second { q.now.second < SECONDS_PER_MINUTE }
+        ensures { IsTrue result ↔ IsWalkable self.now.window q.now }
+    {
+        if q.first < self.window.from {
+            return false;
+        }
+        if q.first >= self.window.to {
+            return false;
+        }
+        q.first + self.later_minutes(q.second) < self.end
+    }
+
+    /// How many minutes a walk goes on after its first, where each has 60 seconds.
+    pub(crate) fn later_minutes(&self, second: u8) -> u32
+        requires { second < SECONDS_PER_MINUTE }
+        ensures count { result ≡ later_minutes self.now.window.seconds second }
+        ensures bound { result ≤ 20 }
+    {
+        let places = second as usize + self.window.seconds as usize;
+        (places.saturating_sub(1) / SECONDS_PER_MINUTE) as u32
+    }
+}
