@@ -86,7 +86,7 @@ module _ (p : PartTable) (table : IsPartTable p) (announced : Bool) (i : ℕ) (i
       subst (λ h. IsUnionOf sets lo h set) (sym end) (subst (IsUnionOf sets lo (lo + 1)) here one)
 
   -- where the date tells of the second, it does so in one of any two minutes on end
-  leaves : (t : ℕ) → date ≢ 0 → (time t ≡ 0) ⊎ (time (t + 1) ≡ 0)
+  pub leaves : (t : ℕ) → date ≢ 0 → (time t ≡ 0) ⊎ (time (t + 1) ≡ 0)
   leaves t some = elim (cases_Bool (is_time_second p.station s)) [
     | inl always ↦ absurd (some (table.date_alone announced i s is within always))
     | inr other ↦ elim (cases_Bool (tells_time p.station (local_time run t) s)) [

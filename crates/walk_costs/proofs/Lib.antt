@@ -4,3 +4,4 @@ pub mod PlaceLaws
 pub mod RunLaws
 pub mod SplitLaws
 pub mod WalkLaws
+pub mod ShownLaws

@@ -115,7 +115,7 @@ module _ (w : PricedParts) (costs : List (List ℕ)) (more : List ℕ) (priced :
   place_is k within = nominal q n plain.second plain.short k within
 
   -- the set of a slot, by the two parts
-  set_is : (k t s : ℕ) → k < n → t ≡ t0 + (p + k) / 60 → s ≡ (p + k) % 60
+  pub set_is : (k t s : ℕ) → k < n → t ≡ t0 + (p + k) / 60 → s ≡ (p + k) % 60
       → set_at w.grid.station q k ≡ overlay (get_or (times_at w.parts (time_of t)) s 0) (get_or part s 0)
   set_is k t s within minute second =
       let le : t ≤ last_minute w p t0 = omega arith in

@@ -1,7 +1,9 @@
 -- Walks with 60 seconds in each minute that lie in one run of a station's minutes, and what they cost.
-use Rattle.std.specs.Prelude.{ℕ, ◌≡◌, ◌+◌, ◌-◌, ◌*◌, ◌/◌, ◌<◌, ◌≤◌, Bool, List, length, slice_index}
+use Rattle.std.specs.Prelude.{ℕ, ◌≡◌, ◌≢◌, ◌+◌, ◌-◌, ◌*◌, ◌/◌, ◌<◌, ◌≤◌, Bool, List, length, slice_index}
 use Rattle.signal_base.specs.declared.limits.TheConstants.{MOST_RECEIVERS, MOST_SECONDS}
+use Rattle.definitions.specs.declared.sequence.Sequence.{Sequence}
 use Rattle.definitions.specs.time.Calendar.{minute_length}
+use Rattle.definitions.specs.sequences.Walks.{set_at, unannounced}
 use Rattle.definitions.specs.heard.Costs.{set_cost, station_cost}
 use Rattle.symbol_cost.specs.Grid.{Grid, cost_at}
 use Rattle.symbol_cost.specs.declared.limits.TheConstants.{RECEIVER_COST}
@@ -10,6 +12,8 @@ use Rattle.minute_parts.specs.Runs.{end_of_run, run_at}
 use Rattle.slot_columns.specs.Parts.{AreWalkCosts}
 use Rattle.slot_columns.specs.declared.limits.TheConstants.{SECONDS_PER_MINUTE}
 use Rattle.walk_costs.specs.declared.date.DateCost.{DateCost}
+use Rattle.walk_costs.specs.declared.shown.Shown.{Shown}
+use Rattle.walk_costs.specs.declared.shown.Shown.TheVariants.{Never, Always, Sometimes}
 use Rattle.walk_costs.specs.Dates.{AreAdded, date_cost}
 
 -- the parts of a station's telegrams, and what its symbols cost in the slots of a window
@@ -50,8 +54,23 @@ pub record ArePriced (parts : PartTable) (grid : Grid) (costs : List (List ℕ))
   pub walks : AreWalkCosts costs grid parts.times
   pub added : AreAdded grid more
 
--- what the date of a run costs where a walk begins in this second, for each walk minute that the call sign may take
+-- in some slot the station may carry another set than without the announcement
+abbrev pub ShowsAnnouncement : PricedParts → Sequence → Type 0
+ShowsAnnouncement w q =
+    (k : ℕ) × (k < length w.grid.rows) × (set_at w.grid.station q k ≢ set_at w.grid.station (unannounced q) k)
+
+-- what is told of the walks that lie in the run i and begin in second p
+abbrev pub IsShown : PricedParts → Bool → ℕ → ℕ → Shown → Type 0
+IsShown w announced p i Never =
+    (t0 : ℕ) → IsPlainIn w announced p t0 i → ¬ (ShowsAnnouncement w (record { first = t0; second = p; announced = announced }))
+IsShown w announced p i Always =
+    (t0 : ℕ) → IsPlainIn w announced p t0 i → ShowsAnnouncement w (record { first = t0; second = p; announced = announced })
+IsShown w announced p i Sometimes = Unit {0}
+
+-- what the date of a run costs where a walk begins in this second, for each walk minute that the call sign may take, and
+-- whether these walks show an announcement
 pub record IsDateCost (w : PricedParts) (date : DateCost) : Type 0 where
   pub shift : date.shift ≡ (run_at w.parts.runs date.run).shift
   pub by_minute : (m : ℕ) → m < 30
       → slice_index date.by_minute m ≡ date_cost w.grid date.second m (part_where date.announced (run_at w.parts.runs date.run))
+  pub shown : IsShown w date.announced date.second date.run date.shown

@@ -3,6 +3,7 @@
 ghost use Rattle.std.specs.Prelude.{◌≡◌, ◌<◌, ℕ, false, slice_index};
 ghost use Rattle.walk_costs.specs.Dates.{date_cost, given_up, given_up_set, is_given_up};
 
+use crate::shown::Shown;
 use signal_base::Station;
 use slot_columns::{Part, SECONDS_PER_MINUTE, SlotColumns};
 use std::array;
@@ -26,6 +27,8 @@ pub struct DateCost {
     pub shift: u16,
     /// What the date costs, by how many minutes after the walk's first one the call sign of JJY comes.
     pub by_minute: ByMinute,
+    /// Whether the walks show that a leap second is announced.
+    pub shown: Shown,
 }
 
 /// What a part by the date costs in the walks from second `p` of which the call sign of JJY takes minute `m`.
@@ -94,7 +97,8 @@ fn given_up_set(station: Station, part: &Part, second: usize) -> u8
     }
 }
 
-fn is_given_up(station: Station, second: usize) -> bool
+/// Whether the call sign takes the second, in the minutes 15 and 45 of an hour.
+pub fn is_given_up(station: Station, second: usize) -> bool
     ensures { result ≡ is_given_up station second }
 {
     match station {

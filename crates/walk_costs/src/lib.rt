@@ -4,6 +4,7 @@
 
 mod date;
 mod dut;
+mod shown;
 mod small;
 mod tenths;
 #[cfg(test)]
@@ -11,4 +12,5 @@ mod tests;
 mod walks;
 
 pub use date::{ByMinute, CALL_MINUTES, DateCost};
+pub use shown::Shown;
 pub use walks::{StationWalks, WalksFault};

@@ -10,6 +10,7 @@ use civil::Civil;
 use minute_parts::Parts;
 use pulse_log::read_log;
 use signal_base::{CostTable, Station, Tuning};
+use span_unions::Unions;
 use std::alloc::Global;
 use std::test::Fail;
 use symbol_cost::CostGrid;
@@ -50,8 +51,8 @@ fn walks(
 ) -> Result<StationWalks, Fail>
     requires { IsPriced table.now }
 {
-    let parts = Parts::make(alloc, civil, station)?;
-    let walks = StationWalks::make(alloc, parts, &grid(alloc, station, table)?)?;
+    let unions = Unions::make(alloc, Parts::make(alloc, civil, station)?)?;
+    let walks = StationWalks::make(alloc, unions, &grid(alloc, station, table)?)?;
     Ok(walks)
 }
 
@@ -119,4 +120,36 @@ fn cost_in_run(walks: &StationWalks, p: u8, t0: u32, run: usize) -> u32
 {
     let date = walks.date_cost(false, p, run);
     walks.cost_by(&date, t0)
+}
+
+// JJY tells of a leap second in the seconds 53 and 54, but not in the minutes of its call sign. Of 62 slots from second 55
+// on, these seconds come once, in the next minute.
+#[test]
+fn the_call_sign_hides_the_announcement(rt: HostRuntime) -> Result<(), Fail> {
+    let civil = Civil::make(rt.alloc())?;
+    let walks = walks(rt.alloc(), &civil, Station::Jjy, &table(20, 10))?;
+    for (second, minute, shown) in [
+        (40, CALL, Some(false)),
+        (40, CALL - 1, Some(true)),
+        (55, CALL, Some(true)),
+        (55, CALL - 1, Some(false)),
+        (53, CALL, Some(true)),
+        // 2024-05-10, in a month at whose end no leap second can come.
+        (40, CALL - 1 - 31 * 1440, Some(false)),
+        (40, RUN_END - 1, None),
+    ] {
+        assert_eq!(rt;
+            shows(&walks, &civil, second, minute),
+            shown,
+            "second {second} of {minute}"
+        );
+    }
+    Ok(())
+}
+
+fn shows(walks: &StationWalks, civil: &Civil, p: u8, t0: u32) -> Option<bool> {
+    match walks.run_of_walk(civil, true, p, t0) {
+        Some(run) => Some(walks.shows(p, run, t0)),
+        None => None,
+    }
 }

@@ -6,15 +6,17 @@ ghost use Rattle.symbol_cost.specs.Grid.{HasCosts, cost_at};
 ghost use Rattle.minute_parts.specs.Parts.{IsPartTable, part_where};
 ghost use Rattle.slot_columns.specs.Parts.{AreWalkCosts, most_cost};
 ghost use Rattle.walk_costs.specs.Dates.{AreAdded, IsAdded, minutes_to_call};
-ghost use Rattle.walk_costs.specs.Walks.{IsDateCost, IsPlainIn, cost_of, last_minute, later_minutes};
+ghost use Rattle.walk_costs.specs.Walks.{AreSmall, IsDateCost, IsPlainIn, IsShown, ShowsAnnouncement, cost_of, last_minute, later_minutes};
 
 use crate::date::{CALL_MINUTES, DateCost, by_minute, date_cost};
 use crate::dut::added;
+use crate::shown::{Shown, TWO_MINUTES, differs_elsewhere, some_slot_shows};
 use crate::small::look_at_all;
 use civil::Civil;
 use definitions::{CENTURY_MINUTES, MINUTES_PER_DAY, MINUTES_PER_HOUR};
 use minute_parts::{Part, Parts, Run};
 use slot_columns::{ColumnsFault, SECONDS_PER_MINUTE, SlotColumns, WalkTable};
+use span_unions::Unions;
 use std::alloc::{AllocError, Global};
 use std::marker::Model;
 use symbol_cost::CostGrid;
@@ -42,7 +44,7 @@ impl From<ColumnsFault> for WalksFault {
 /// costs.
 #[derive(Drop)]
 pub struct StationWalks {
-    parts: Parts,
+    unions: Unions,
     columns: SlotColumns,
     walks: WalkTable,
     added: [u32; SECONDS_PER_MINUTE],
@@ -53,27 +55,28 @@ impl Model for StationWalks {
 
     ghost Value = { PricedParts };
 
-    ghost view = { λ w. record { parts = w.parts; grid = w.columns } };
+    ghost view = { λ w. record { parts = w.unions; grid = w.columns } };
 
-    ghost invariant = { λ w. ArePriced w.parts w.columns w.walks w.added };
+    ghost invariant = { λ w. ArePriced w.unions w.columns w.walks w.added };
 }
 
 impl StationWalks {
     /// Adds up what the parts of a station cost by its grid.
-    pub fn make(alloc: Global, parts: Parts, grid: &CostGrid) -> Result<StationWalks, WalksFault>
-        requires { parts.station ≡ grid.now.station }
-        ensures parts { IfOk result (λ walks. walks.parts ≡ parts) }
+    pub fn make(alloc: Global, unions: Unions, grid: &CostGrid) -> Result<StationWalks, WalksFault>
+        requires { unions.station ≡ grid.now.station }
+        ensures parts { IfOk result (λ walks. walks.parts ≡ unions) }
         ensures costs { IfOk result (λ walks. HasCosts walks.grid grid.now.station (length grid.now.rows) (cost_at grid.now.rows)) }
         ensures receivers { IfOk result (λ walks. walks.grid.receivers ≡ grid.now.receivers) }
     {
         // The parts are a table, as their end is one.
+        let parts = unions.parts();
         prove!(parts.end() <= CENTURY_MINUTES);
         let columns = SlotColumns::make(alloc, grid)?;
-        let walks = walks_of(alloc, &parts, &columns)?;
+        let walks = walks_of(alloc, parts, &columns)?;
         let added = all_added(&columns);
         look_at_all(&columns);
         Ok(StationWalks {
-            parts,
+            unions,
             columns,
             walks,
             added,
@@ -84,7 +87,23 @@ impl StationWalks {
     pub fn parts(&self) -> &Parts
         ensures { result.now ≡ self.now.parts }
     {
-        &self.parts
+        self.unions.parts()
+    }
+
+    /// The same over ranges of minutes.
+    pub fn unions(&self) -> &Unions
+        ensures unions { result.now ≡ self.now.parts }
+        ensures station { self.now.parts.station ≡ self.now.grid.station }
+    {
+        &self.unions
+    }
+
+    /// What sets cost in the slots.
+    pub fn columns(&self) -> &SlotColumns
+        ensures columns { result.now ≡ self.now.grid }
+        ensures small { AreSmall self.now.grid }
+    {
+        &self.columns
     }
 
     /// The run in which the walk from second `p` of the minute `t0` lies, where that is a walk through minutes of 60 seconds
@@ -93,12 +112,13 @@ impl StationWalks {
         ensures found { IfSome result (λ i. IsPlainIn self.now announced p t0 i) }
         ensures none { IsNone result → (i : ℕ) → ¬ (IsPlainIn self.now announced p t0 i) }
     {
-        if p as usize >= SECONDS_PER_MINUTE || t0 >= self.parts.end() {
+        let parts = self.unions.parts();
+        if p as usize >= SECONDS_PER_MINUTE || t0 >= parts.end() {
             return None;
         }
-        let run = self.parts.run_of(t0);
+        let run = parts.run_of(t0);
         let later = self.later_minutes(p);
-        if later >= self.parts.run_end(run) - t0 {
+        if later >= parts.run_end(run) - t0 {
             return None;
         }
         if announced && meets_leap_end(civil, t0, t0 + later) {
@@ -126,7 +146,7 @@ impl StationWalks {
         ensures cost { result ≡ cost_of self.now announced p t0 }
         ensures bound { result ≤ most_cost self.now.grid }
     {
-        let run = self.parts.run(number);
+        let run = self.unions.parts().run(number);
         let u = local_time(run.shift, t0);
         let part = part_where(announced, run);
         let date = date_cost(&self.columns, p, minutes_to_call(u), part);
@@ -140,14 +160,60 @@ impl StationWalks {
         ensures walks { (result.announced ≡ announced) × (result.second ≡ p) × (result.run ≡ run) }
         ensures cost { IsDateCost self.now result }
     {
-        let at = self.parts.run(run);
+        let at = self.parts().run(run);
         DateCost {
             announced,
             second: p,
             run,
             shift: at.shift,
             by_minute: by_minute(&self.columns, p, part_where(announced, at)),
+            shown: self.shown(announced, p, run),
         }
+    }
+
+    // Whether the walks show an announcement that lie in the run and begin in second `p`.
+    fn shown(&self, announced: bool, p: u8, run: usize) -> Shown
+        requires { run < length self.now.parts.runs }
+        ensures { IsShown self.now announced p run result }
+    {
+        if !announced {
+            return Shown::Never;
+        }
+        let at = self.unions.parts().run(run);
+        if at.plain == at.announced {
+            return Shown::Never;
+        }
+        let seconds = self.columns.seconds();
+        if seconds >= TWO_MINUTES {
+            return Shown::Always;
+        }
+        if seconds as usize >= SECONDS_PER_MINUTE && differs_elsewhere(self.columns.station(), at) {
+            return Shown::Always;
+        }
+        Shown::Sometimes
+    }
+
+    /// Whether an announced sequence shows the announcement, whose walk from second `p` of the minute `t0` lies in the run.
+    pub fn shows(&self, p: u8, run: usize, t0: u32) -> bool
+        requires { IsPlainIn self.now true p t0 run }
+        ensures { IsTrue result ↔ ShowsAnnouncement self.now (record { first = t0; second = p; announced = true }) }
+    {
+        match self.shown(true, p, run) {
+            Shown::Never => false,
+            Shown::Always => true,
+            Shown::Sometimes => self.shows_in_slot(p, run, t0),
+        }
+    }
+
+    // The same by a look at the slots.
+    fn shows_in_slot(&self, p: u8, run: usize, t0: u32) -> bool
+        requires { IsPlainIn self.now true p t0 run }
+        ensures { IsTrue result ↔ ShowsAnnouncement self.now (record { first = t0; second = p; announced = true }) }
+    {
+        let parts = self.unions.parts();
+        let at = parts.run(run);
+        let u = local_time(at.shift, t0);
+        some_slot_shows(parts, at, u, p, self.columns.seconds())
     }
 
     /// What a sequence costs the station that begins in the minute `t0`, where its walk has 60 seconds in each minute and
@@ -164,8 +230,8 @@ impl StationWalks {
         walks.cost(p, u) + date.by_minute[minutes_to_call(u) as usize] + self.added_from(p, t0)
     }
 
-    // How many minutes a walk goes on after its first.
-    fn later_minutes(&self, p: u8) -> u32
+    /// How many minutes a walk from second `p` goes on after its first.
+    pub fn later_minutes(&self, p: u8) -> u32
         requires { p < SECONDS_PER_MINUTE }
         ensures count { result ≡ later_minutes (length self.now.grid.rows) p }
         ensures bound { result ≤ 20 }

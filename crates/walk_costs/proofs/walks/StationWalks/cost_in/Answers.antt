@@ -1,6 +1,6 @@
 use Rattle.std.proofs.Common.{◌+◌, ◌%◌, ap, ◌∙◌, subst, arith}
 use Rattle.minute_parts.specs.declared.runs.Run.{Run}
-use Rattle.minute_parts.specs.Parts.{IsPartTable, part_where}
+use Rattle.minute_parts.specs.Parts.{IsPartTable, PartTable, part_where}
 use Rattle.minute_parts.specs.Runs.{run_at}
 use Rattle.walk_costs.specs.Dates.{date_cost}
 use Rattle.walk_costs.specs.Walks.{ArePriced, PricedParts}
@@ -28,7 +28,7 @@ overflow_add-result c =
     let priced = subst (λ (v : PricedParts). ArePriced v.parts v.grid c.self.inside.walks c.self.inside.added) c.self.view_is c.self.invariant in
     let u = c.local_time-u.result in
     let m = c.minutes_to_call.result in
-    let run_is = c.run-run.ensures ∙ ap (λ (v : PricedParts). run_at v.parts.runs c.args.number) c.self.view_is in
+    let run_is = c.run-run.ensures ∙ ap (λ (v : PartTable). run_at v.runs c.args.number) (c.parts.ensures ∙ ap (λ (v : PricedParts). v.parts) c.self.view_is) in
     let part_is = c.part_where-part.ensures ∙ ap (part_where c.args.announced) run_is in
     let date_is = c.date_cost-date.ensures ∙ ap (date_cost own.columns c.args.p c.minutes_to_call.result) part_is
     ∙ ap (λ (v : PricedParts). date_cost v.grid c.args.p c.minutes_to_call.result (part_where c.args.announced (run_at c.args.self.now.parts.runs c.args.number))) c.self.view_is in
@@ -43,7 +43,7 @@ overflow_add-result-2 c =
     let priced = subst (λ (v : PricedParts). ArePriced v.parts v.grid c.self.inside.walks c.self.inside.added) c.self.view_is c.self.invariant in
     let u = c.local_time-u.result in
     let m = c.minutes_to_call.result in
-    let run_is = c.run-run.ensures ∙ ap (λ (v : PricedParts). run_at v.parts.runs c.args.number) c.self.view_is in
+    let run_is = c.run-run.ensures ∙ ap (λ (v : PartTable). run_at v.runs c.args.number) (c.parts.ensures ∙ ap (λ (v : PricedParts). v.parts) c.self.view_is) in
     let part_is = c.part_where-part.ensures ∙ ap (part_where c.args.announced) run_is in
     let date_is = c.date_cost-date.ensures ∙ ap (date_cost own.columns c.args.p c.minutes_to_call.result) part_is
     ∙ ap (λ (v : PricedParts). date_cost v.grid c.args.p c.minutes_to_call.result (part_where c.args.announced (run_at c.args.self.now.parts.runs c.args.number))) c.self.view_is in
@@ -62,7 +62,7 @@ returns-clause-cost c =
     let priced = subst (λ (v : PricedParts). ArePriced v.parts v.grid c.self.inside.walks c.self.inside.added) c.self.view_is c.self.invariant in
     let u = c.local_time-u.result in
     let m = c.minutes_to_call.result in
-    let run_is = c.run-run.ensures ∙ ap (λ (v : PricedParts). run_at v.parts.runs c.args.number) c.self.view_is in
+    let run_is = c.run-run.ensures ∙ ap (λ (v : PartTable). run_at v.runs c.args.number) (c.parts.ensures ∙ ap (λ (v : PricedParts). v.parts) c.self.view_is) in
     let part_is = c.part_where-part.ensures ∙ ap (part_where c.args.announced) run_is in
     let date_is = c.date_cost-date.ensures ∙ ap (date_cost own.columns c.args.p c.minutes_to_call.result) part_is
     ∙ ap (λ (v : PricedParts). date_cost v.grid c.args.p c.minutes_to_call.result (part_where c.args.announced (run_at c.args.self.now.parts.runs c.args.number))) c.self.view_is in
@@ -79,7 +79,7 @@ returns-clause-bound c =
     let priced = subst (λ (v : PricedParts). ArePriced v.parts v.grid c.self.inside.walks c.self.inside.added) c.self.view_is c.self.invariant in
     let u = c.local_time-u.result in
     let m = c.minutes_to_call.result in
-    let run_is = c.run-run.ensures ∙ ap (λ (v : PricedParts). run_at v.parts.runs c.args.number) c.self.view_is in
+    let run_is = c.run-run.ensures ∙ ap (λ (v : PartTable). run_at v.runs c.args.number) (c.parts.ensures ∙ ap (λ (v : PricedParts). v.parts) c.self.view_is) in
     let part_is = c.part_where-part.ensures ∙ ap (part_where c.args.announced) run_is in
     let date_is = c.date_cost-date.ensures ∙ ap (date_cost own.columns c.args.p c.minutes_to_call.result) part_is
     ∙ ap (λ (v : PricedParts). date_cost v.grid c.args.p c.minutes_to_call.result (part_where c.args.announced (run_at c.args.self.now.parts.runs c.args.number))) c.self.view_is in

@@ -1,5 +1,5 @@
 use Rattle.std.proofs.Common.{ap, ◌∙◌, subst, arith}
-use Rattle.minute_parts.specs.Parts.{IsInRun, IsPartTable}
+use Rattle.minute_parts.specs.Parts.{IsInRun, IsPartTable, PartTable}
 use Rattle.minute_parts.specs.Runs.{end_of_run}
 use Rattle.walk_costs.specs.Walks.{PricedParts}
 use Rattle.walk_costs.proofs.RunLaws.{ends, in_century, one_run}
@@ -10,7 +10,7 @@ pub returns-then-p-ge-SECONDS_PER_MINUTE-clause-none : goal.returns-then-p-ge-SE
 returns-then-p-ge-SECONDS_PER_MINUTE-clause-none c = λ is_none i plain.
     let w = c.args.self.now in
     let table = subst (λ (v : PricedParts). IsPartTable v.parts) c.self.view_is c.self.invariant.table in
-    let end = ap (λ (v : PricedParts). v.parts.end) c.self.view_is in
+    let end = ap (λ (v : PartTable). v.end) (c.parts-parts.ensures ∙ ap (λ (v : PricedParts). v.parts) c.self.view_is) in
     elim c.then-p-ge-SECONDS_PER_MINUTE.branch [
       | then-p-ge-SECONDS_PER_MINUTE-via-then-p-ge-SECONDS_PER_MINUTE w ↦ omega (arith, plain.second, w.if-p-ge-SECONDS_PER_MINUTE.true)
       | then-p-ge-SECONDS_PER_MINUTE-via-else-p-ge-SECONDS_PER_MINUTE+then-t0-end w ↦ omega (
@@ -28,8 +28,8 @@ returns-then-later-run_end-clause-none c = λ is_none i plain.
     let w = c.args.self.now in
     let run = c.run_of-run.result in
     let table = subst (λ (v : PricedParts). IsPartTable v.parts) c.self.view_is c.self.invariant.table in
-    let here = subst (λ (v : PricedParts). IsInRun v.parts c.args.t0 c.run_of-run.result) c.self.view_is c.run_of-run.ensures in
-    let end = c.run_end.ensures ∙ ap (λ (v : PricedParts). end_of_run v.parts.runs v.parts.end c.run_of-run.result) c.self.view_is in
+    let here = subst (λ (v : PartTable). IsInRun v c.args.t0 c.run_of-run.result) (c.parts-parts.ensures ∙ ap (λ (v : PricedParts). v.parts) c.self.view_is) c.run_of-run.ensures in
+    let end = c.run_end.ensures ∙ ap (λ (v : PartTable). end_of_run v.runs v.end c.run_of-run.result) (c.parts-parts.ensures ∙ ap (λ (v : PricedParts). v.parts) c.self.view_is) in
     let same = ap (end_of_run w.parts.runs w.parts.end) (one_run w.parts table c.args.t0 i run plain.begins here) in
     omega (arith, plain.ends, same, end, c.later_minutes-later.ensures.count, c.if-later-run_end.true, here.not_over)
 
@@ -38,6 +38,6 @@ meets_leap_end-requires-clause-century c =
     let w = c.args.self.now in
     let run = c.run_of-run.result in
     let table = subst (λ (v : PricedParts). IsPartTable v.parts) c.self.view_is c.self.invariant.table in
-    let here = subst (λ (v : PricedParts). IsInRun v.parts c.args.t0 c.run_of-run.result) c.self.view_is c.run_of-run.ensures in
-    let end = c.run_end.ensures ∙ ap (λ (v : PricedParts). end_of_run v.parts.runs v.parts.end c.run_of-run.result) c.self.view_is in
+    let here = subst (λ (v : PartTable). IsInRun v c.args.t0 c.run_of-run.result) (c.parts-parts.ensures ∙ ap (λ (v : PricedParts). v.parts) c.self.view_is) c.run_of-run.ensures in
+    let end = c.run_end.ensures ∙ ap (λ (v : PartTable). end_of_run v.runs v.end c.run_of-run.result) (c.parts-parts.ensures ∙ ap (λ (v : PricedParts). v.parts) c.self.view_is) in
     omega (arith, end, c.if-later-run_end.false, ends w.parts table run here.is_run, in_century w.parts table)

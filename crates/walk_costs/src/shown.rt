@@ -1,0 +1,69 @@
+//! Whether the walks of announced sequences show the announcement.
+
+ghost use Rattle.std.specs.Prelude.{◌≡◌, ◌<◌, ◌≤◌, ◌≢◌, ◌↔◌, ℕ, IsTrue, length, slice_index, true, false};
+ghost use Rattle.signal_base.specs.declared.limits.TheConstants.{MOST_SECONDS};
+ghost use Rattle.definitions.specs.time.Calendar.{minutes_per_day};
+ghost use Rattle.walk_costs.specs.Dates.{is_given_up};
+ghost use Rattle.walk_costs.specs.Shown.{DiffersElsewhere, shows_in};
+
+use crate::date::is_given_up;
+use definitions::MINUTES_PER_DAY;
+use minute_parts::{Parts, Run};
+use signal_base::Station;
+use slot_columns::SECONDS_PER_MINUTE;
+
+/// Whether the walks that lie in one run, begin in one second and announce a leap second or don't, show that one is
+/// announced: whether the station may carry another set in some slot than without the announcement.
+#[derive(Clone, Copy, Debug, PartialEq, Eq)]
+pub enum Shown {
+    /// None of them does.
+    Never,
+    /// Each of them does.
+    Always,
+    /// It takes a look at the minute in which a walk begins.
+    Sometimes,
+}
+
+/// So many slots have each second in two minutes, one after the other. The call sign of JJY takes at most one of them.
+pub const TWO_MINUTES: u16 = 120;
+
+/// Whether the date tells another set where a leap second is announced, in a second that no call sign takes.
+pub fn differs_elsewhere(station: Station, run: &Run) -> bool
+    ensures { result ≡ true → DiffersElsewhere station run.now }
+{
+    for s in 0..SECONDS_PER_MINUTE {
+        if !is_given_up(station, s) && run.plain[s] != run.announced[s] {
+            return true;
+        }
+    }
+    false
+}
+
+/// Whether one of the first `n` slots shows it, of a walk from second `p` of minute `u` of the local day.
+pub fn some_slot_shows(parts: &Parts, run: &Run, u: u16, p: u8, n: u16) -> bool
+    requires minute { u < minutes_per_day }
+    requires second { p < SECONDS_PER_MINUTE }
+    requires slots { n ≤ MOST_SECONDS }
+    ensures { IsTrue result ↔ ((k : ℕ) × (k < n) × (shows_in parts.now run.now u p k ≡ true)) }
+{
+    for k in 0..n {
+        if slot_shows(parts, run, u, p, k) {
+            return true;
+        }
+    }
+    false
+}
+
+// Whether slot `k` does: the time of day tells nothing of its second, and the date not what it tells without the
+// announcement.
+fn slot_shows(parts: &Parts, run: &Run, u: u16, p: u8, k: u16) -> bool
+    requires minute { u < minutes_per_day }
+    requires second { p < SECONDS_PER_MINUTE }
+    requires slot { k < MOST_SECONDS }
+    ensures { result ≡ shows_in parts.now run.now u p k }
+{
+    let place = p as usize + k as usize;
+    let s = place % SECONDS_PER_MINUTE;
+    let minute = (u as usize + place / SECONDS_PER_MINUTE) % MINUTES_PER_DAY as usize;
+    parts.time_part(minute as u16)[s] == 0 && run.plain[s] != run.announced[s]
+}
