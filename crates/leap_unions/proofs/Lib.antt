@@ -1,0 +1,3 @@
+pub mod LeapLaws
+pub mod PieceLaws
+pub mod PlainLaws

@@ -1,0 +1,12 @@
+//! What the sequences of a block allow together where a leap second is announced: for the blocks of a search whose walks
+//! may meet a minute of 61 seconds.
+#![tactic(auto)]
+
+mod leap_ends;
+mod pieces;
+mod rows;
+mod sets;
+mod unions;
+
+pub use sets::Sets;
+pub use unions::{LeapFault, LeapUnions};

@@ -1,0 +1,166 @@
+//! The minutes in which a block's walks begin, piece by piece.
+
+ghost use Rattle.std.specs.Prelude.{ℕ, ◌≡◌, ◌+◌, ◌-◌, ◌/◌, ◌<◌, ◌≤◌, ◌↔◌, false, slice_index, true};
+ghost use Rattle.definitions.specs.codes.Allowed.{has_station, CanBeEncoded};
+ghost use Rattle.definitions.specs.sequences.Windows.{IsWindow};
+ghost use Rattle.definitions.specs.time.Calendar.{century_minutes, is_leap_end};
+ghost use Rattle.leap_unions.specs.Pieces.{AreOfBoth, AreUnionsFrom};
+
+use crate::leap_ends::next_leap_end;
+use crate::rows::{SECONDS, plain_row};
+use crate::sets::{Sets, either, row_sets, walk_sets};
+use civil::Civil;
+use definitions::Sequence;
+use sequence::walkable;
+use signal_base::{Station, Window};
+use span_unions::Unions;
+
+// The inserted second of a minute of 61 seconds.
+const LEAP_SECOND: u8 = 60;
+
+/// The walks of a window that begin in a second, where a leap second is announced.
+#[derive(Drop)]
+pub struct Walks<'a> {
+    pub civil: &'a Civil,
+    /// The station that is asked for, one of the window's.
+    pub station: Station,
+    /// Of this station.
+    pub unions: &'a Unions,
+    pub window: &'a Window,
+    /// The first minute that isn't encoded by all stations of the window.
+    pub end: u32,
+    /// The second in which the walks begin.
+    pub second: u8,
+    ghost is_window: { IsWindow window.now },
+    ghost heard: { has_station window.now.stations station ≡ true },
+    ghost of_station: { unions.now.station ≡ station },
+    ghost encoded: { (t : ℕ) → t < end ↔ CanBeEncoded window.now.stations t },
+    ghost is_second: { second ≤ 60 },
+}
+
+// Some of a block's minutes, from its first or from the end of another piece on.
+struct Piece {
+    // Their end.
+    end: u32,
+    // The unions of the walks that begin in them, if there are any.
+    sets: Option<Sets>,
+}
+
+impl<'a> Walks<'a> {
+    /// The unions of the walks that begin in the minutes from `lo` up to, and without, `hi`. None exactly where there are
+    /// none.
+    pub fn unions(&self, lo: u32, hi: u32) -> Option<Sets>
+        requires order { lo < hi }
+        requires from { self.now.window.now.from ≤ lo }
+        requires to { hi ≤ self.now.window.now.to }
+        ensures { AreUnionsFrom self.now.window.now self.now.second self.now.station lo hi result }
+    {
+        let mut sets = None;
+        let mut t = lo;
+        while t < hi {
+            let Piece { end, sets: more } = self.piece(t, hi);
+            sets = both(sets, more);
+            t = end;
+        }
+        sets
+    }
+
+    // The piece that begins at `t`.
+    fn piece(&self, t: u32, hi: u32) -> Piece
+        requires order { t < hi }
+        requires from { self.now.window.now.from ≤ t }
+        requires to { hi ≤ self.now.window.now.to }
+        ensures grows { t < result.end }
+        ensures within { result.end ≤ hi }
+        ensures unions { AreUnionsFrom self.now.window.now self.now.second self.now.station t result.end result.sets }
+    {
+        let leap = next_leap_end(self.civil, t);
+        if self.second == LEAP_SECOND {
+            if t < leap {
+                return Piece {
+                    end: leap.min(hi),
+                    sets: None,
+                };
+            }
+            return Piece {
+                end: t + 1,
+                sets: self.walk(t),
+            };
+        }
+        let reach = self.reach();
+        if t + reach < leap {
+            return self.plain(t, hi.min(leap - reach), reach);
+        }
+        Piece {
+            end: t + 1,
+            sets: self.walk(t),
+        }
+    }
+
+    // How many minutes after its first one a walk reaches that meets no leap second.
+    fn reach(&self) -> u32
+        ensures value { result ≡ (self.now.second + self.now.window.now.seconds - 1) / 60 }
+        ensures few { result ≤ 20 }
+    {
+        (self.second as u32 + self.window.seconds as u32 - 1) / SECONDS as u32
+    }
+
+    // The walks that begin in some minutes and meet no leap second: those that end in time, and then the others.
+    fn plain(&self, t: u32, hi: u32, reach: u32) -> Piece
+        requires order { t < hi }
+        requires from { self.now.window.now.from ≤ t }
+        requires to { hi ≤ self.now.window.now.to }
+        requires second { self.now.second < 60 }
+        requires reach { reach ≡ (self.now.second + self.now.window.now.seconds - 1) / 60 }
+        requires short { (u : ℕ) → t ≤ u → u < hi + reach → is_leap_end u ≡ false }
+        requires century { hi + reach ≤ century_minutes }
+        ensures grows { t < result.end }
+        ensures within { result.end ≤ hi }
+        ensures unions { AreUnionsFrom self.now.window.now self.now.second self.now.station t result.end result.sets }
+    {
+        let cut = hi.min(self.end.saturating_sub(reach));
+        if cut <= t {
+            return Piece {
+                end: hi,
+                sets: None,
+            };
+        }
+        // The station can encode what all stations of the window can.
+        self.unions.parts().end();
+        let row = plain_row(self.unions, t, cut, reach);
+        Piece {
+            end: cut,
+            sets: Some(row_sets(&row, self.second)),
+        }
+    }
+
+    // The sets of the walk that begins in a minute, if there is one.
+    fn walk(&self, first: u32) -> Option<Sets>
+        requires from { self.now.window.now.from ≤ first }
+        requires to { first < self.now.window.now.to }
+        ensures { AreUnionsFrom self.now.window.now self.now.second self.now.station first (first + 1) result }
+    {
+        let q = Sequence {
+            first,
+            second: self.second,
+            announced: true,
+        };
+        if !walkable(self.civil, self.window, &q) {
+            return None;
+        }
+        Some(walk_sets(self.civil, self.station, self.window, &q))
+    }
+}
+
+// The sets of both, where there are any.
+fn both(a: Option<Sets>, b: Option<Sets>) -> Option<Sets>
+    ensures { AreOfBoth a b result }
+{
+    let Some(x) = a else {
+        return b;
+    };
+    let Some(y) = b else {
+        return Some(x);
+    };
+    Some(either(&x, &y))
+}

@@ -1,0 +1,97 @@
+//! The unions of blocks that announce a leap second.
+
+ghost use Rattle.std.specs.Prelude.{ℕ, ◌≡◌, ◌<◌, ◌≤◌, ◌↔◌, IfOk, MatchOption, slice_index, true};
+ghost use Rattle.signal_base.specs.declared.limits.TheConstants.{MOST_SECONDS};
+ghost use Rattle.definitions.specs.codes.Allowed.{has_station, CanBeEncoded};
+ghost use Rattle.definitions.specs.sequences.Windows.{IsWindow};
+ghost use Rattle.definitions.specs.answers.Blocks.{HasWalk, IsBlock, IsUnion};
+
+use crate::pieces::Walks;
+use crate::sets::Sets;
+use civil::Civil;
+use definitions::Block;
+use signal_base::{Station, Window};
+use span_unions::Unions;
+use std::alloc::{AllocError, Global};
+use std::marker::Model;
+
+/// Why the unions can't be made.
+#[derive(Clone, Copy, Debug, PartialEq, Eq)]
+pub enum LeapFault {
+    /// Memory wasn't found.
+    NoMemory,
+}
+
+impl From<AllocError> for LeapFault {
+    fn from(_error: AllocError) -> LeapFault {
+        LeapFault::NoMemory
+    }
+}
+
+/// What the blocks of a search allow a station where a leap second is announced, for windows of so many seconds. Contracts
+/// see the station and the seconds.
+#[derive(Drop)]
+pub struct LeapUnions {
+    station: Station,
+    seconds: u16,
+}
+
+impl Model for LeapUnions {
+    ghost use Rattle.leap_unions.specs.Scope.{Scope};
+
+    ghost Value = { Scope };
+
+    ghost view = { λ u. record { station = u.station; seconds = u.seconds } };
+}
+
+impl LeapUnions {
+    /// Makes ready for windows of `seconds` seconds, of the station that the unions are of. `NoMemory` comes only for want
+    /// of memory.
+    pub fn make(
+        _alloc: Global,
+        _civil: &Civil,
+        station: Station,
+        _unions: &Unions,
+        seconds: u16,
+    ) -> Result<LeapUnions, LeapFault>
+        requires station { _unions.now.station ≡ station }
+        requires some { 1 ≤ seconds }
+        requires few { seconds ≤ MOST_SECONDS }
+        ensures station { IfOk result (λ u. u.station ≡ station) }
+        ensures seconds { IfOk result (λ u. u.seconds ≡ seconds) }
+    {
+        Ok(LeapUnions { station, seconds })
+    }
+
+    /// In each slot the union of the sets that the walkable sequences of a block of the window allow the station. None
+    /// exactly where no sequence of the block is walkable. `end` is the first minute that isn't encoded by all stations of
+    /// the window.
+    pub fn unions_of(
+        &self,
+        civil: &Civil,
+        unions: &Unions,
+        window: &Window,
+        end: u32,
+        block: &Block,
+    ) -> Option<Sets>
+        requires window { IsWindow window.now }
+        requires block { IsBlock window.now block.now }
+        requires announced { block.now.announced ≡ true }
+        requires station { has_station window.now.stations self.now.station ≡ true }
+        requires seconds { window.now.seconds ≡ self.now.seconds }
+        requires end { (t : ℕ) → t < end ↔ CanBeEncoded window.now.stations t }
+        requires unions { unions.now.station ≡ self.now.station }
+        ensures { MatchOption result (¬ (HasWalk window.now block.now)) (λ sets. HasWalk window.now block.now
+            × ((k : ℕ) → k < window.now.seconds → IsUnion window.now block.now self.now.station k (slice_index sets k))) }
+    {
+        let walks = Walks {
+            civil,
+            station: self.station,
+            unions,
+            window,
+            end,
+            second: block.second,
+        };
+        walks.unions(block.lo, block.hi)
+    }
+}
