@@ -1,0 +1,69 @@
+//! The tables of a station's blocks.
+
+ghost use Rattle.std.specs.Prelude.{ℕ, ◌≡◌, ◌+◌, ◌<◌, ◌≤◌, IfOk, length};
+ghost use Rattle.span_unions.specs.Unions.{AreRegular};
+ghost use Rattle.slot_columns.specs.Parts.{most_cost};
+ghost use Rattle.slot_columns.specs.declared.limits.TheConstants.{SECONDS_PER_MINUTE};
+ghost use Rattle.walk_costs.specs.Walks.{later_minutes};
+ghost use Rattle.block_costs.specs.Blocks.{AreUnionsOfWalks, unions_cost};
+
+use crate::asked::cost_as_asked;
+use std::alloc::{AllocError, Global};
+use std::marker::Model;
+use walk_costs::StationWalks;
+
+/// Why the tables can't be made.
+#[derive(Clone, Copy, Debug, PartialEq, Eq)]
+pub enum BlocksFault {
+    /// Memory wasn't found.
+    NoMemory,
+}
+
+impl From<AllocError> for BlocksFault {
+    fn from(_error: AllocError) -> BlocksFault {
+        BlocksFault::NoMemory
+    }
+}
+
+/// What the blocks of a search cost one station. Contracts see the parts of its telegrams and the grid of costs, as with
+/// the walks.
+#[derive(Drop)]
+pub struct StationBlocks {
+    walks: StationWalks,
+}
+
+impl Model for StationBlocks {
+    ghost use Rattle.walk_costs.specs.Walks.{PricedParts};
+
+    ghost Value = { PricedParts };
+
+    ghost view = { λ b. b.walks };
+}
+
+impl StationBlocks {
+    /// Makes ready for the blocks of walks that cost this.
+    pub fn make(_alloc: Global, walks: StationWalks) -> Result<StationBlocks, BlocksFault>
+        ensures { IfOk result (λ blocks. blocks ≡ walks) }
+    {
+        Ok(StationBlocks { walks })
+    }
+
+    /// What the station's sequences cost one by one.
+    pub fn walks(&self) -> &StationWalks
+        ensures { result.now ≡ self.now }
+    {
+        &self.walks
+    }
+
+    /// What the unions over a block cost whose walks have 60 seconds in each minute: from second `p`, below 60, of the
+    /// minutes from `lo` up to, and without, `hi`.
+    pub fn union_cost(&self, announced: bool, p: u8, lo: u32, hi: u32) -> u32
+        requires second { p < SECONDS_PER_MINUTE }
+        requires some { lo < hi }
+        requires regular { AreRegular announced lo (hi + later_minutes (length self.now.grid.rows) p) self.now.parts.end }
+        ensures cost { (sets : ℕ → ℕ) → AreUnionsOfWalks self.now.grid.station announced p lo hi (length self.now.grid.rows) sets → result ≡ unions_cost self.now.grid sets }
+        ensures bound { result ≤ most_cost self.now.grid }
+    {
+        cost_as_asked(&self.walks, announced, p, lo, hi)
+    }
+}

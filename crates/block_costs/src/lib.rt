@@ -1,0 +1,8 @@
+//! What the blocks of a search cost one station where each minute that their walks go through has 60 seconds: the costs of
+//! what their sequences may carry, all of them together.
+#![tactic(auto)]
+
+mod asked;
+mod blocks;
+
+pub use blocks::{BlocksFault, StationBlocks};
