@@ -1,3 +1,5 @@
 pub mod StationLaws
 pub mod WalkableLaws
 pub mod SumLaws
+pub mod BlockLaws
+pub mod UnionBoundLaws

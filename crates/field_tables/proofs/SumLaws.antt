@@ -1,10 +1,20 @@
 -- Sums over the stations of a window.
-use Rattle.std.proofs.Common.{◌≡◌, ℕ, ◌+◌, ◌*◌, ◌<◌, ◌≤◌, true, length, sum_by, take, get_or, sym, ap, ◌∙◌, subst, arith}
+use Rattle.std.proofs.Common.{◌≡◌, ℕ, ◌+◌, ◌*◌, ◌<◌, ◌≤◌, Bool, List, slice_index, true, length, sum_by, take, get_or, sym, ap, ◌∙◌, subst, arith}
 use Rattle.std.proofs.Math.ListN.{get_or-map}
 use Rattle.std.proofs.lemmas.List.{length-map, take_all}
 use Rattle.std.proofs.lemmas.List.Sums.{sum_by-take-le, sum_by_more}
 use Rattle.signal_base.specs.declared.limits.TheConstants.{GREATEST_COST}
 use Rattle.signal_base.specs.declared.station.Station.{Station}
+use Rattle.definitions.specs.declared.block.Block.{Block}
+use Rattle.definitions.specs.answers.Blocks.{IsUnion}
+use Rattle.definitions.specs.heard.Costs.{set_cost, sum_below}
+use Rattle.definitions.proofs.BoundLaws.{unions_one}
+use Rattle.definitions.proofs.CostLaws.{sum_below_same}
+use Rattle.span_unions.specs.Unions.{AreRegular}
+use Rattle.block_costs.specs.Blocks.{AreUnionsOfWalks, unions_cost}
+use Rattle.plain_costs.specs.Unions.{AreUnions}
+use Rattle.field_tables.specs.Blocks.{AreUnionsOver}
+use Rattle.field_tables.proofs.UnionBoundLaws.{some_station}
 use Rattle.definitions.specs.codes.Allowed.{has_station, stations_of}
 use Rattle.symbol_cost.specs.Grid.{Grid, cost_at}
 use Rattle.symbol_cost.specs.declared.limits.TheConstants.{RECEIVER_COST}
@@ -12,7 +22,7 @@ use Rattle.slot_columns.specs.Parts.{most_cost}
 use Rattle.plain_costs.specs.Grids.{grid_costs}
 use Rattle.plain_costs.proofs.GridLaws.{heard_at, sum_by_station}
 use Rattle.plain_costs.proofs.WalkLaws.{few_slots, more_receivers}
-use Rattle.walk_costs.specs.Walks.{PricedParts}
+use Rattle.walk_costs.specs.Walks.{PricedParts, later_minutes}
 use Rattle.field_tables.specs.Sums.{AreSums, Sums, grids_of}
 
 abbrev pub receivers : Grid → ℕ
@@ -65,3 +75,43 @@ module _ (sums : Sums) (are : AreSums sums) where
         let all = sum_by_more receivers (grids_of sums.stations) i w.grid within_grids ∙ ap (λ r. sum_by receivers (take i (grids_of sums.stations)) + r) (sym (ap receivers its_grid)) in
         let few : cost ≤ sums.window.seconds * (w.grid.receivers * RECEIVER_COST) = subst (λ n. cost ≤ n * (w.grid.receivers * RECEIVER_COST)) slots here in
         more_receivers sums.window.seconds (sum_by receivers (take i (grids_of sums.stations))) w.grid.receivers _ total cost all before few
+
+    pub own_station : w.parts.station ≡ w.grid.station
+    own_station = subst (λ (v : PricedParts). v.parts.station ≡ v.grid.station) (sym is) (are.parts i w lt)
+
+    -- the minutes of a block's walks are regular for each station
+    pub regular : (announced : Bool) (p lo hi : ℕ) → AreRegular announced lo (hi + later_minutes sums.window.seconds p) sums.end
+        → AreRegular announced lo (hi + later_minutes (length w.grid.rows) p) w.parts.end
+    regular announced p lo hi are_so =
+        let within : sums.end ≤ w.parts.end = subst (λ (v : PricedParts). sums.end ≤ v.parts.end) (sym is) (are.within i w lt) in
+        subst (λ n. AreRegular announced lo (hi + later_minutes n p) w.parts.end) (sym slots)
+        (record { early = omega (arith, are_so.early, within); short = are_so.short })
+
+    -- unions for each station are those of its walks
+    pub of_walks : (b : Block) (hi : ℕ) (unions : Station → ℕ → ℕ) → AreUnionsOver sums.window b hi unions
+        → AreUnionsOfWalks w.grid.station b.announced b.second b.lo hi (length w.grid.rows) (unions w.grid.station)
+    of_walks b hi unions over = λ k less. over w.grid.station k heard (omega (arith, less, slots))
+
+    -- sets cost the station this over the window's slots
+    pub price_of : (sets : ℕ → ℕ) (cost : ℕ) → cost ≡ unions_cost w.grid sets
+        → cost ≡ sum_below sums.window.seconds (λ k. set_cost w.grid.station (cost_at w.grid.rows k) (sets k))
+    price_of sets cost e = e ∙ ap (λ n. sum_below n (λ k. set_cost w.grid.station (cost_at w.grid.rows k) (sets k))) slots
+
+    -- what unions cost that are the sets found
+    pub price_found : (b : Block) (unions : Station → ℕ → ℕ) (sets : List ℕ) (cost : ℕ) → AreUnions sums.window b unions
+        → ((k : ℕ) → k < sums.window.seconds → IsUnion sums.window b w.grid.station k (slice_index sets k))
+        → cost ≡ unions_cost w.grid (slice_index sets)
+        → cost ≡ sum_below sums.window.seconds (λ k. set_cost w.grid.station (cost_at w.grid.rows k) (unions w.grid.station k))
+    price_found b unions sets cost each found e =
+        price_of (slice_index sets) cost e
+        ∙ sum_below_same sums.window.seconds _ _ (λ k less.
+        ap (set_cost w.grid.station (cost_at w.grid.rows k))
+        (unions_one sums.window b w.grid.station k (slice_index sets k) (unions w.grid.station k) (found k less) (each w.grid.station k heard less)))
+
+-- there is a station
+pub some_of_them : (sums : Sums) → AreSums sums → 0 < length sums.stations
+some_of_them sums are =
+    let some = some_station sums.window are.window in
+    let same = ap length are.grids.stations in
+    let as_many = length-map (grids_of sums.stations) (λ (g : Grid). g.station) in
+    omega (arith, some, same, as_many, as_long sums are)

@@ -2,3 +2,4 @@ pub mod Grids
 pub mod Agreement
 pub mod Scored
 pub mod Sums
+pub mod Blocks

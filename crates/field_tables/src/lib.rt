@@ -1,6 +1,9 @@
 //! What a search asks of a window's sequences and of blocks of them, by tables that are made once for a log.
 #![tactic(auto)]
 
+mod bound;
+mod leaps;
+mod station;
 mod stations;
 mod sums;
 mod tables;

@@ -1,30 +1,33 @@
 //! What the sequences and blocks of a window cost, by sums that were made once for a log.
 
-ghost use Rattle.std.specs.Prelude.{◌≡◌, ◌<◌, ◌≤◌, ◌↔◌, IfOk, IfSome, IsTrue, false};
+ghost use Rattle.std.specs.Prelude.{◌≡◌, ◌<◌, ◌≤◌, ◌↔◌, IfOk, IfSome, IsTrue, false, true};
+ghost use Rattle.definitions.specs.answers.Blocks.{IsBlock};
 ghost use Rattle.definitions.specs.heard.Costs.{sequence_cost};
 ghost use Rattle.definitions.specs.sequences.Walks.{IsWalkable};
 ghost use Rattle.definitions.specs.sequences.Windows.{IsWindow};
+ghost use Rattle.field_tables.specs.Blocks.{HasShortWalks};
 ghost use Rattle.field_tables.specs.Agreement.{AgreeOn};
 ghost use Rattle.field_tables.specs.Grids.{AreGrids, grid_costs};
 ghost use Rattle.field_tables.specs.Sums.{costs_by};
 ghost use Rattle.walk_costs.specs.Walks.{later_minutes};
 
-use crate::stations::{SumsFault, end_of, stations_of};
+use crate::leaps::meets_leap_end;
+use crate::station::{StationSums, SumsFault};
+use crate::stations::{end_of, stations_of};
 use civil::Civil;
-use definitions::Sequence;
+use definitions::{Block, Sequence};
 use signal_base::{GREATEST_COST, Window};
 use slot_columns::SECONDS_PER_MINUTE;
 use std::alloc::Global;
 use std::marker::Model;
 use symbol_cost::CostGrid;
-use walk_costs::StationWalks;
 
 /// A window, what the seconds of its stations may carry, and what the symbols cost there. It answers what costs little to
 /// answer, and leaves the rest to a walk over the slots.
 #[derive(Drop)]
 pub struct WindowSums {
     pub(crate) window: Window,
-    pub(crate) stations: Vec<StationWalks>,
+    pub(crate) stations: Vec<StationSums>,
     pub(crate) end: u32,
 }
 
@@ -51,7 +54,7 @@ impl WindowSums {
         ensures window { IfOk result (λ sums. sums.window ≡ window.now) }
         ensures costs { IfOk result (λ sums. AgreeOn window.now (costs_by sums) (grid_costs grids.now)) }
     {
-        let stations = stations_of(alloc, civil, grids)?;
+        let stations = stations_of(alloc, civil, grids, window)?;
         let end = end_of(&stations);
         Ok(WindowSums {
             window: *window,
@@ -66,9 +69,9 @@ impl WindowSums {
         ensures cost { IfSome result (λ cost. cost ≡ sequence_cost (costs_by self.now) self.now.window q.now) }
         ensures bound { IfSome result (λ cost. cost ≤ GREATEST_COST) }
     {
-        // No grid is made from more, so that no sum is too large.
         let mut total = 0;
-        for walks in &self.stations {
+        for station in &self.stations {
+            let walks = station.walks();
             let Some(cost) = walks.cost(civil, q.announced, q.second, q.first) else {
                 return None;
             };
@@ -92,11 +95,24 @@ impl WindowSums {
         q.first + self.later_minutes(q.second) < self.end
     }
 
+    /// Whether it is known that the walks of a block have 60 seconds in each minute.
+    pub fn has_short_walks(&self, civil: &Civil, block: &Block) -> bool
+        requires { IsBlock self.now.window block.now }
+        ensures { result ≡ true → HasShortWalks self.now.window block.now }
+    {
+        let second = block.second;
+        if second as usize >= SECONDS_PER_MINUTE {
+            return false;
+        }
+        !block.announced || !meets_leap_end(civil, block.lo, block.hi + self.later_minutes(second))
+    }
+
     /// How many minutes a walk goes on after its first, where each has 60 seconds.
     pub(crate) fn later_minutes(&self, second: u8) -> u32
         requires { second < SECONDS_PER_MINUTE }
         ensures count { result ≡ later_minutes self.now.window.seconds second }
         ensures bound { result ≤ 20 }
+        ensures window { IsWindow self.now.window }
     {
         let places = second as usize + self.window.seconds as usize;
         (places.saturating_sub(1) / SECONDS_PER_MINUTE) as u32

@@ -9,7 +9,7 @@ ghost use Rattle.definitions.specs.answers.Blocks.{HasWalk, IsBlock, IsUnion, Is
 ghost use Rattle.field_tables.specs.Grids.{AreGrids};
 ghost use Rattle.field_tables.specs.Scored.{costs_of};
 
-use crate::stations::SumsFault;
+use crate::station::SumsFault;
 use crate::sums::WindowSums;
 use civil::Civil;
 use definitions::{Block, Sequence};
@@ -145,6 +145,12 @@ impl<'a> Tables<'a> {
         ensures bound { IsUnionBound (costs_of self.now) self.now.window block.now result }
         ensures small { IfSome result (λ n. n ≤ GREATEST_COST) }
     {
+        if self.sums.has_short_walks(self.civil, block) {
+            return self.sums.union_bound(block);
+        }
+        if block.announced {
+            return self.sums.leap_bound(self.civil, block);
+        }
         union_bound(self.grids, self.civil, &self.window, block)
     }
 }

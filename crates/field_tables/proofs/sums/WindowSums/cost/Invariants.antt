@@ -5,8 +5,8 @@ use Rattle.field_tables.specs.Sums.{grids_of}
 use Rattle.field_tables.proofs.SumLaws.{IsWithin}
 use Rattle.field_tables.proofs.sums.WindowSums.cost.Given as goal
 
-abbrev pub invariant-loop-walks : goal.invariant-loop-walks
-invariant-loop-walks l = record {
-  cost : l.total ≡ sum_by (λ (g : Grid). station_cost g.station (cost_at g.rows) l.self.window.seconds l.q) (take l.walks-index (grids_of l.self.stations));
-  bound : IsWithin l.self l.walks-index l.total;
+abbrev pub invariant-loop-station : goal.invariant-loop-station
+invariant-loop-station l = record {
+  cost : l.total ≡ sum_by (λ (g : Grid). station_cost g.station (cost_at g.rows) l.self.window.seconds l.q) (take l.station-index (grids_of l.self.stations));
+  bound : IsWithin l.self l.station-index l.total;
 }

@@ -1,0 +1,20 @@
+-- Blocks whose walks have 60 seconds in each minute.
+use Rattle.std.specs.Prelude.{ℕ, ◌+◌, ◌/◌, ◌%◌, ◌≡◌, ◌<◌, ◌≤◌, true}
+use Rattle.signal_base.specs.declared.station.Station.{Station}
+use Rattle.signal_base.specs.declared.window.Window.{Window}
+use Rattle.definitions.specs.declared.block.Block.{Block}
+use Rattle.definitions.specs.time.Calendar.{minute_length}
+use Rattle.definitions.specs.codes.Allowed.{has_station}
+use Rattle.span_unions.specs.Unions.{IsUnionOver}
+use Rattle.span_unions.specs.Walks.{reach}
+
+-- the walks of the block have 60 seconds in each minute
+pub record HasShortWalks (window : Window) (b : Block) : Type 0 where
+  pub second : b.second < 60
+  pub short : (t : ℕ) → b.lo ≤ t → t < b.hi + reach window b → minute_length b.announced t ≡ 60
+
+-- in each slot the union of what the station may carry in the minutes that the walks are in there which begin from the
+-- block's first minute up to, and without, hi
+abbrev pub AreUnionsOver : Window → Block → ℕ → (Station → ℕ → ℕ) → Type 0
+AreUnionsOver window b hi unions = (station : Station) (k : ℕ) → has_station window.stations station ≡ true → k < window.seconds
+    → IsUnionOver station b.announced (b.lo + (b.second + k) / 60) (hi + (b.second + k) / 60) ((b.second + k) % 60) (unions station k)

@@ -1,0 +1,86 @@
+//! What the sequences of a block cost at the least, by sums.
+
+ghost use Rattle.std.specs.Prelude.{◌≡◌, ◌+◌, ◌<◌, ◌≤◌, ℕ, IfSome, length, slice_index, true};
+ghost use Rattle.signal_base.specs.declared.station.Station.{Station};
+ghost use Rattle.definitions.specs.answers.Blocks.{IsBlock, IsUnionBound, union_cost};
+ghost use Rattle.definitions.specs.heard.Costs.{set_cost, sum_below};
+ghost use Rattle.symbol_cost.specs.Grid.{cost_at};
+ghost use Rattle.slot_columns.specs.Parts.{most_cost};
+ghost use Rattle.span_unions.specs.Unions.{AreRegular};
+ghost use Rattle.span_unions.specs.Walks.{reach};
+ghost use Rattle.field_tables.specs.Blocks.{AreUnionsOver, HasShortWalks};
+ghost use Rattle.field_tables.specs.Sums.{costs_by};
+
+use crate::sums::WindowSums;
+use civil::Civil;
+use definitions::Block;
+use leap_unions::Sets;
+use signal_base::{GREATEST_COST, MOST_RECEIVERS};
+use slot_columns::{SECONDS_PER_MINUTE, SlotColumns};
+
+impl WindowSums {
+    /// What the unions of a block cost whose walks have 60 seconds in each minute. None exactly where none of its sequences
+    /// is walkable.
+    pub fn union_bound(&self, block: &Block) -> Option<u32>
+        requires block { IsBlock self.now.window block.now }
+        requires walks { HasShortWalks self.now.window block.now }
+        ensures bound { IsUnionBound (costs_by self.now) self.now.window block.now result }
+        ensures small { IfSome result (λ n. n ≤ GREATEST_COST) }
+    {
+        let reach = self.later_minutes(block.second);
+        let hi = block.hi.min(self.end.saturating_sub(reach));
+        if hi <= block.lo {
+            return None;
+        }
+        Some(self.cost_of_unions(block, hi))
+    }
+
+    // What the unions cost of the sequences that begin before `hi`.
+    fn cost_of_unions(&self, block: &Block, hi: u32) -> u32
+        requires second { block.now.second < SECONDS_PER_MINUTE }
+        requires some { block.now.lo < hi }
+        requires regular { AreRegular block.now.announced block.now.lo (hi + reach self.now.window block.now) self.now.end }
+        ensures cost { (unions : Station → ℕ → ℕ) → AreUnionsOver self.now.window block.now hi unions
+            → result ≡ union_cost (costs_by self.now) self.now.window unions }
+        ensures bound { result ≤ GREATEST_COST }
+    {
+        let mut total = 0;
+        for station in &self.stations {
+            let blocks = station.blocks();
+            total += blocks.union_cost(block.announced, block.second, block.lo, hi);
+        }
+        total
+    }
+
+    /// What the unions of an announced block cost, whether its walks meet a leap second or not. None exactly where none of
+    /// its sequences is walkable.
+    pub fn leap_bound(&self, civil: &Civil, block: &Block) -> Option<u32>
+        requires block { IsBlock self.now.window block.now }
+        requires announced { block.now.announced ≡ true }
+        ensures bound { IsUnionBound (costs_by self.now) self.now.window block.now result }
+        ensures small { IfSome result (λ n. n ≤ GREATEST_COST) }
+    {
+        let mut total = 0;
+        for station in &self.stations {
+            let Some(sets) = station.leap_unions(civil, &self.window, self.end, block) else {
+                return None;
+            };
+            total += cost_of_sets(station.walks().columns(), &sets);
+        }
+        Some(total)
+    }
+}
+
+// What a set in each slot costs.
+fn cost_of_sets(columns: &SlotColumns, sets: &Sets) -> u32
+    ensures cost { result ≡ sum_below (length columns.now.rows) (λ k. set_cost columns.now.station (cost_at columns.now.rows k) (slice_index sets.now k)) }
+    ensures bound { result ≤ most_cost columns.now }
+{
+    // No columns are made of more, so that no sum is too large.
+    prove!(columns.receivers() as usize <= MOST_RECEIVERS);
+    let mut cost = 0;
+    for slot in 0..columns.seconds() {
+        cost += columns.cost(slot, sets[slot as usize]);
+    }
+    cost
+}

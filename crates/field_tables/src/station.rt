@@ -1,0 +1,134 @@
+//! What one station of a window may send, and what that costs.
+
+ghost use Rattle.std.specs.Prelude.{ℕ, ◌≡◌, ◌<◌, ◌≤◌, ◌↔◌, IfOk, MatchOption, length, slice_index, true};
+ghost use Rattle.signal_base.specs.declared.limits.TheConstants.{MOST_SECONDS};
+ghost use Rattle.definitions.specs.codes.Allowed.{CanBeEncoded, has_station};
+ghost use Rattle.definitions.specs.answers.Blocks.{HasWalk, IsBlock, IsUnion};
+ghost use Rattle.definitions.specs.sequences.Windows.{IsWindow};
+ghost use Rattle.field_tables.specs.Sums.{IsOf};
+
+use block_costs::{BlocksFault, StationBlocks};
+use civil::Civil;
+use definitions::Block;
+use leap_unions::{LeapFault, LeapUnions, Sets};
+use minute_parts::{Parts, PartsFault};
+use signal_base::Window;
+use span_unions::{Unions, UnionsFault};
+use std::alloc::{AllocError, Global};
+use std::marker::Model;
+use symbol_cost::CostGrid;
+use walk_costs::{StationWalks, WalksFault};
+
+/// Why the sums can't be made.
+#[derive(Clone, Copy, Debug, PartialEq, Eq)]
+pub enum SumsFault {
+    /// Memory wasn't found.
+    NoMemory,
+}
+
+impl From<AllocError> for SumsFault {
+    fn from(_error: AllocError) -> SumsFault {
+        SumsFault::NoMemory
+    }
+}
+
+impl From<PartsFault> for SumsFault {
+    fn from(_fault: PartsFault) -> SumsFault {
+        SumsFault::NoMemory
+    }
+}
+
+impl From<UnionsFault> for SumsFault {
+    fn from(_fault: UnionsFault) -> SumsFault {
+        SumsFault::NoMemory
+    }
+}
+
+impl From<WalksFault> for SumsFault {
+    fn from(_fault: WalksFault) -> SumsFault {
+        SumsFault::NoMemory
+    }
+}
+
+impl From<BlocksFault> for SumsFault {
+    fn from(_fault: BlocksFault) -> SumsFault {
+        SumsFault::NoMemory
+    }
+}
+
+impl From<LeapFault> for SumsFault {
+    fn from(_fault: LeapFault) -> SumsFault {
+        SumsFault::NoMemory
+    }
+}
+
+/// A station's walks and blocks with what they cost. Contracts see the parts of its telegrams and the grid of costs.
+#[derive(Drop)]
+pub struct StationSums {
+    blocks: StationBlocks,
+    leaps: LeapUnions,
+}
+
+impl Model for StationSums {
+    ghost use Rattle.std.specs.Prelude.{◌≡◌, length};
+    ghost use Rattle.walk_costs.specs.Walks.{PricedParts};
+
+    ghost Value = { PricedParts };
+
+    ghost view = { λ s. s.blocks };
+
+    ghost invariant = { λ s. (s.leaps.station ≡ s.blocks.parts.station) × (s.leaps.seconds ≡ length s.blocks.grid.rows) };
+}
+
+impl StationSums {
+    /// Makes the sums of a grid of 1 to 1,200 slots.
+    pub fn make(alloc: Global, civil: &Civil, grid: &CostGrid) -> Result<StationSums, SumsFault>
+        requires some { 1 ≤ length grid.now.rows }
+        requires few { length grid.now.rows ≤ MOST_SECONDS }
+        ensures { IfOk result (IsOf grid.now) }
+    {
+        let station = grid.station();
+        let parts = Parts::make(alloc, civil, station)?;
+        let unions = Unions::make(alloc, parts)?;
+        let leaps = LeapUnions::make(alloc, civil, station, &unions, grid.seconds())?;
+        let walks = StationWalks::make(alloc, unions, grid)?;
+        let blocks = StationBlocks::make(alloc, walks)?;
+        Ok(StationSums { blocks, leaps })
+    }
+
+    /// What the station's sequences cost one by one.
+    pub fn walks(&self) -> &StationWalks
+        ensures { result.now ≡ self.now }
+    {
+        self.blocks.walks()
+    }
+
+    /// What the blocks cost whose walks have 60 seconds in each minute.
+    pub fn blocks(&self) -> &StationBlocks
+        ensures { result.now ≡ self.now }
+    {
+        &self.blocks
+    }
+
+    /// In each slot the union of what the walkable sequences of an announced block allow the station, or None where no
+    /// sequence of the block is walkable. `end` is the first minute that not all stations of the window can encode.
+    pub fn leap_unions(
+        &self,
+        civil: &Civil,
+        window: &Window,
+        end: u32,
+        block: &Block,
+    ) -> Option<Sets>
+        requires window { IsWindow window.now }
+        requires block { IsBlock window.now block.now }
+        requires announced { block.now.announced ≡ true }
+        requires station { has_station window.now.stations self.now.parts.station ≡ true }
+        requires seconds { window.now.seconds ≡ length self.now.grid.rows }
+        requires end { (t : ℕ) → t < end ↔ CanBeEncoded window.now.stations t }
+        ensures { MatchOption result (¬ (HasWalk window.now block.now)) (λ sets. HasWalk window.now block.now
+            × ((k : ℕ) → k < window.now.seconds → IsUnion window.now block.now self.now.parts.station k (slice_index sets k))) }
+    {
+        let unions = self.blocks.walks().unions();
+        self.leaps.unions_of(civil, unions, window, end, block)
+    }
+}
