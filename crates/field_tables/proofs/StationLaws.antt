@@ -127,7 +127,7 @@ module _ (window : Window) (ws : List PricedParts) (grids : AreGrids window (gri
   encoded_by_each : (t : ℕ) → CanBeEncoded window.stations t → All (λ (w : PricedParts). t < w.parts.end) ws
   encoded_by_each t can = λ k w lt. ((tables k w lt).ends t).1 (can.0, can.1 (get_or ws k w).parts.station (heard_of k w lt))
 
-  encoded_by_all : (t : ℕ) → t < century_minutes → All (λ (w : PricedParts). t < w.parts.end) ws → CanBeEncoded window.stations t
+  pub encoded_by_all : (t : ℕ) → t < century_minutes → All (λ (w : PricedParts). t < w.parts.end) ws → CanBeEncoded window.stations t
   encoded_by_all t early each = (
     early,
     λ station heard.

@@ -14,7 +14,7 @@ use Rattle.span_unions.specs.Unions.{AreRegular}
 use Rattle.block_costs.specs.Blocks.{AreUnionsOfWalks, unions_cost}
 use Rattle.plain_costs.specs.Unions.{AreUnions}
 use Rattle.field_tables.specs.Blocks.{AreUnionsOver}
-use Rattle.field_tables.proofs.UnionBoundLaws.{some_station}
+use Rattle.field_tables.proofs.UnionBoundLaws.{four_stations, some_station}
 use Rattle.definitions.specs.codes.Allowed.{has_station, stations_of}
 use Rattle.symbol_cost.specs.Grid.{Grid, cost_at}
 use Rattle.symbol_cost.specs.declared.limits.TheConstants.{RECEIVER_COST}
@@ -115,3 +115,11 @@ some_of_them sums are =
     let same = ap length are.grids.stations in
     let as_many = length-map (grids_of sums.stations) (λ (g : Grid). g.station) in
     omega (arith, some, same, as_many, as_long sums are)
+
+-- and there are four at the most
+pub few_of_them : (sums : Sums) → AreSums sums → length sums.stations ≤ 4
+few_of_them sums are =
+    let few = four_stations sums.window are.window in
+    let same = ap length are.grids.stations in
+    let as_many = length-map (grids_of sums.stations) (λ (g : Grid). g.station) in
+    omega (arith, few, same, as_many, as_long sums are)

@@ -25,6 +25,18 @@ all_hear : all_below hears 16 ≡ true
 unfolding all_below hears
 all_hear = refl
 
+few : ℕ → Bool
+few mask = nat_lt (length (stations_of (record { mask = mask }))) 5
+
+all_few : all_below few 16 ≡ true
+unfolding all_below few
+all_few = refl
+
+-- a window hears four stations at the most
+pub four_stations : (window : Window) → IsWindow window → length (stations_of window.stations) < 5
+unfolding few
+four_stations window is = ltb-true _ 5 (below few 16 all_few window.stations.mask (omega (arith, is.stations)))
+
 -- a window hears some station
 pub some_station : (window : Window) → IsWindow window → 0 < length (stations_of window.stations)
 unfolding hears

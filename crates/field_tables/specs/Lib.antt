@@ -3,3 +3,4 @@ pub mod Agreement
 pub mod Scored
 pub mod Sums
 pub mod Blocks
+pub mod Hours

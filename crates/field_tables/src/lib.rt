@@ -2,11 +2,14 @@
 #![tactic(auto)]
 
 mod bound;
+mod dates;
+mod hour;
 mod leaps;
 mod station;
 mod stations;
 mod sums;
 mod tables;
 
+pub use hour::HourCosts;
 pub use plain_costs::{agreeing_costs_cost_alike, dut1, grids_agree_with_their_costs, plain_cost};
 pub use tables::{Tables, TablesFault};

@@ -8,7 +8,7 @@ ghost use Rattle.definitions.specs.sequences.Windows.{IsWindow};
 ghost use Rattle.field_tables.specs.Blocks.{HasShortWalks};
 ghost use Rattle.field_tables.specs.Agreement.{AgreeOn};
 ghost use Rattle.field_tables.specs.Grids.{AreGrids, grid_costs};
-ghost use Rattle.field_tables.specs.Sums.{costs_by};
+ghost use Rattle.field_tables.specs.Sums.{AreSums, costs_by};
 ghost use Rattle.walk_costs.specs.Walks.{later_minutes};
 
 use crate::leaps::meets_leap_end;
@@ -61,6 +61,14 @@ impl WindowSums {
             stations,
             end,
         })
+    }
+
+    /// The first minute that not all stations of the window can encode.
+    pub fn end(&self) -> u32
+        ensures value { result ≡ self.now.end }
+        ensures sums { AreSums self.now }
+    {
+        self.end
     }
 
     /// What a sequence costs where at each station its walk has 60 seconds in each minute and lies in one run of the

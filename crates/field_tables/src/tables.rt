@@ -9,6 +9,7 @@ ghost use Rattle.definitions.specs.answers.Blocks.{HasWalk, IsBlock, IsUnion, Is
 ghost use Rattle.field_tables.specs.Grids.{AreGrids};
 ghost use Rattle.field_tables.specs.Scored.{costs_of};
 
+use crate::hour::HourCosts;
 use crate::station::SumsFault;
 use crate::sums::WindowSums;
 use civil::Civil;
@@ -152,5 +153,21 @@ impl<'a> Tables<'a> {
             return self.sums.leap_bound(self.civil, block);
         }
         union_bound(self.grids, self.civil, &self.window, block)
+    }
+
+    /// What the minutes of an hour cost, where at each station of the window one date is told in all their walks. Of other
+    /// hours each minute is asked for by itself.
+    pub fn hour(&'a self, block: &Block) -> Option<HourCosts<'a>>
+        requires { IsBlock self.now.window block.now }
+        ensures tables { IfSome result (λ hour. hour.tables ≡ self.now) }
+        ensures block { IfSome result (λ hour. hour.block ≡ block.now) }
+    {
+        let dates = self.sums.dates_of(self.civil, block)?;
+        Some(HourCosts {
+            grids: self.grids,
+            sums: &self.sums,
+            hour: *block,
+            dates,
+        })
     }
 }
