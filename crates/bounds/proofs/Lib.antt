@@ -1,3 +1,4 @@
 pub mod BlockLists
 pub mod RankLaws
 pub mod OneRanking
+pub mod HourLaws
