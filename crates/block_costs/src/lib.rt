@@ -4,5 +4,6 @@
 
 mod asked;
 mod blocks;
+mod kept;
 
 pub use blocks::{BlocksFault, StationBlocks};
