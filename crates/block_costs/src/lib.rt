@@ -5,5 +5,7 @@
 mod asked;
 mod blocks;
 mod kept;
+#[cfg(test)]
+mod tests;
 
 pub use blocks::{BlocksFault, StationBlocks};
