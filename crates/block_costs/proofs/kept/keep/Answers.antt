@@ -1,4 +1,4 @@
-use Rattle.std.proofs.Common.{◌≡◌, ◌∙◌, ℕ, false, subst, sym, ap, arith}
+use Rattle.std.proofs.Common.{◌∙◌, false, subst, ap}
 use Rattle.signal_base.specs.declared.station.Station.{Station}
 use Rattle.minute_parts.specs.Parts.{PartTable}
 use Rattle.span_unions.specs.Layers.{AreLayers}

@@ -1,4 +1,4 @@
-use Rattle.std.proofs.Common.{◌≡◌, ◌≤◌, ◌∙◌, ℕ, false, length, ap, arith}
+use Rattle.std.proofs.Common.{◌∙◌, false, length, ap, arith}
 use Rattle.symbol_cost.specs.Grid.{Grid, cost_at}
 use Rattle.slot_columns.specs.Parts.{layered_cost}
 use Rattle.walk_costs.specs.Walks.{later_minutes}
