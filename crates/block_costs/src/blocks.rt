@@ -8,6 +8,8 @@ ghost use Rattle.walk_costs.specs.Walks.{later_minutes};
 ghost use Rattle.block_costs.specs.Blocks.{AreUnionsOfWalks, unions_cost};
 
 use crate::asked::cost_as_asked;
+use crate::kept::{Kept, YEAR_DAYS, is_kept, kept_cost, kept_days, kept_years};
+use definitions::MINUTES_PER_DAY;
 use std::alloc::{AllocError, Global};
 use std::marker::Model;
 use walk_costs::StationWalks;
@@ -30,6 +32,8 @@ impl From<AllocError> for BlocksFault {
 #[derive(Drop)]
 pub struct StationBlocks {
     walks: StationWalks,
+    days: Vec<Kept>,
+    years: Vec<Kept>,
 }
 
 impl Model for StationBlocks {
@@ -37,15 +41,21 @@ impl Model for StationBlocks {
 
     ghost Value = { PricedParts };
 
+    ghost use Rattle.block_costs.specs.Keeping.{AreKept};
+
     ghost view = { λ b. b.walks };
+
+    ghost invariant = { λ b. AreKept b.walks b.days.items × AreKept b.walks b.years.items };
 }
 
 impl StationBlocks {
     /// Makes ready for the blocks of walks that cost this.
-    pub fn make(_alloc: Global, walks: StationWalks) -> Result<StationBlocks, BlocksFault>
+    pub fn make(alloc: Global, walks: StationWalks) -> Result<StationBlocks, BlocksFault>
         ensures { IfOk result (λ blocks. blocks ≡ walks) }
     {
-        Ok(StationBlocks { walks })
+        let days = kept_days(alloc, &walks)?;
+        let years = kept_years(alloc, &walks)?;
+        Ok(StationBlocks { walks, days, years })
     }
 
     /// What the station's sequences cost one by one.
@@ -64,6 +74,17 @@ impl StationBlocks {
         ensures cost { (sets : ℕ → ℕ) → AreUnionsOfWalks self.now.grid.station announced p lo hi (length self.now.grid.rows) sets → result ≡ unions_cost self.now.grid sets }
         ensures bound { result ≤ most_cost self.now.grid }
     {
+        if announced {
+            return cost_as_asked(&self.walks, announced, p, lo, hi);
+        }
+        let day = (lo / MINUTES_PER_DAY) as usize;
+        if is_kept(&self.days, day, lo, hi) {
+            return kept_cost(&self.walks, p, &self.days[day]);
+        }
+        let year = day / YEAR_DAYS as usize;
+        if is_kept(&self.years, year, lo, hi) {
+            return kept_cost(&self.walks, p, &self.years[year]);
+        }
         cost_as_asked(&self.walks, announced, p, lo, hi)
     }
 }

@@ -4,5 +4,8 @@
 
 mod asked;
 mod blocks;
+mod kept;
+#[cfg(test)]
+mod tests;
 
 pub use blocks::{BlocksFault, StationBlocks};

@@ -1,4 +1,4 @@
-use Rattle.std.proofs.Common.{◌≡◌, ◌≤◌, ◌∙◌, ℕ, length, subst, sym, ap, arith}
+use Rattle.std.proofs.Common.{◌∙◌, length, subst, ap, arith}
 use Rattle.signal_base.specs.declared.station.Station.{Station}
 use Rattle.symbol_cost.specs.Grid.{Grid, cost_at}
 use Rattle.minute_parts.specs.Parts.{PartTable}

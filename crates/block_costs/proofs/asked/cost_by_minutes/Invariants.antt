@@ -1,4 +1,3 @@
-use Rattle.std.proofs.Common.{ℕ}
 use Rattle.block_costs.proofs.SumLaws.{IsCostBefore}
 use Rattle.block_costs.proofs.asked.cost_by_minutes.Given as goal
 

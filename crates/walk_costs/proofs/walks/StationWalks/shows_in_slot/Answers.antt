@@ -1,6 +1,6 @@
-use Rattle.std.proofs.Common.{◌≡◌, ◌+◌, ◌<◌, ◌≤◌, ◌∙◌, ◌%◌, ℕ, true, length, subst, sym, ap, arith}
+use Rattle.std.proofs.Common.{◌+◌, ◌∙◌, ◌%◌, ℕ, length, subst, sym, ap, arith}
 use Rattle.minute_parts.specs.declared.runs.Run.{Run}
-use Rattle.minute_parts.specs.Parts.{IsPartTable, PartTable, local_time}
+use Rattle.minute_parts.specs.Parts.{IsPartTable, PartTable}
 use Rattle.minute_parts.specs.Runs.{run_at}
 use Rattle.walk_costs.specs.Shown.{shows_in}
 use Rattle.walk_costs.specs.Walks.{ArePriced, PricedParts}

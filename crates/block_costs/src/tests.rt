@@ -1,0 +1,171 @@
+//! Blocks of which four seconds are known, whose costs were worked out by hand, and how long such costs take.
+
+ghost use Rattle.std.specs.Prelude.{◌≡◌, ◌≤◌, IfOk};
+ghost use Rattle.signal_base.specs.Limits.{IsPriced};
+ghost use Rattle.signal_base.specs.declared.limits.TheConstants.{MOST_COST};
+
+use crate::StationBlocks;
+use civil::Civil;
+use minute_parts::Parts;
+use pulse_log::read_log;
+use signal_base::{CostTable, Station, Tuning};
+use span_unions::Unions;
+use std::alloc::Global;
+use std::test::Fail;
+use std::time::Instant;
+use symbol_cost::CostGrid;
+use walk_costs::StationWalks;
+
+// What a tenth costs that should be low, and one that should be high, whatever was heard. At 20 and 10 JJY's 0, 1 and
+// marker cost 120, 150 and 180.
+fn table(low: u8, high: u8) -> CostTable
+    requires low { low ≤ MOST_COST }
+    requires high { high ≤ MOST_COST }
+    ensures { IsPriced result }
+{
+    CostTable {
+        low: [low; 101],
+        high: [high; 101],
+    }
+}
+
+// The slots 0, 2, 60 and 61 are known, and the others cost nothing.
+const SOME_SLOTS: &[u8] = b"0 H\n1000 X\n2000 H\n3000 X\n60000 H\n62000 H\n";
+
+fn grid(alloc: Global, seconds: u16) -> Result<CostGrid, Fail>
+    requires { seconds ≤ 1200 }
+    ensures { IfOk result (λ grid. grid.station ≡ Station.Jjy) }
+{
+    let log = read_log(alloc, SOME_SLOTS)?;
+    let tuning = Tuning {
+        delay: 0,
+        weight: 1,
+    };
+    let grid = CostGrid::make(
+        alloc,
+        Station::Jjy,
+        &[tuning],
+        &table(20, 10),
+        &[log],
+        0,
+        0,
+        seconds,
+    )?;
+    Ok(grid)
+}
+
+fn walks(alloc: Global, seconds: u16) -> Result<StationWalks, Fail>
+    requires { seconds ≤ 1200 }
+{
+    let civil = Civil::make(alloc)?;
+    let unions = Unions::make(alloc, Parts::make(alloc, &civil, Station::Jjy)?)?;
+    let walks = StationWalks::make(alloc, unions, &grid(alloc, seconds)?)?;
+    Ok(walks)
+}
+
+// The cost of a block, and none where it reaches past the last minute that is encoded.
+fn cost(blocks: &StationBlocks, p: u8, lo: u32, hi: u32) -> Option<u32> {
+    if p >= 60 || lo >= hi {
+        return None;
+    }
+    let end = blocks.walks().parts().end();
+    let reach = blocks.walks().later_minutes(p);
+    if hi > end || end - hi < reach {
+        return None;
+    }
+    Some(blocks.union_cost(false, p, lo, hi))
+}
+
+// 2024-06-10T06:46Z, a minute after JJY's call sign; the minutes 46 to 55 of the hour come then. That day, and that year.
+const MINUTE: u32 = 12_855_286;
+
+const DAY: u32 = 12_854_880;
+
+const YEAR: u32 = 12_623_040;
+
+// Of a minute the seconds 0 to 3 are a marker and its tens: 40, 20 and 10. Of the date the seconds 43 to 45 carry 100, but
+// nothing in the minutes of the call sign.
+#[test]
+fn unions_of_known_seconds(rt: HostRuntime) -> Result<(), Fail> {
+    let blocks = StationBlocks::make(rt.alloc(), walks(rt.alloc(), 62)?)?;
+    for (second, lo, hi, expected) in [
+        (0, MINUTE, MINUTE + 10, 180 + 120 + 180 + 150),
+        (1, MINUTE, MINUTE + 10, 150 + 120 + 150 + 120),
+        (1, MINUTE, MINUTE + 1, 150 + 120 + 150 + 120),
+        (59, MINUTE, MINUTE + 1, 180 + 150 + 180 + 180),
+        (43, MINUTE, MINUTE + 10, 150 + 120 + 150 + 120),
+        (43, MINUTE - 1, MINUTE + 9, 150 + 120),
+        (0, DAY, DAY + 1440, 180 + 120 + 180 + 120),
+        (43, DAY, DAY + 1440, 0),
+        (1, YEAR, YEAR + 366 * 1440, 4 * 120),
+    ] {
+        assert_eq!(rt;
+            cost(&blocks, second, lo, hi),
+            Some(expected),
+            "second {second} of {lo} to {hi}"
+        );
+    }
+    Ok(())
+}
+
+// How long costs take that are made so often.
+fn tell(rt: &HostRuntime, what: &str, begin: Instant, times: u128) -> Result<(), Fail>
+    requires { 1 ≤ times }
+{
+    let each = begin.elapsed(rt)?.as_nanos() / times;
+    println!(rt; "{what}: {each} ns")?;
+    Ok(())
+}
+
+fn of_days(blocks: &StationBlocks) -> u32 {
+    let mut all = 0;
+    for day in 0..36_000u32 {
+        all ^= cost(blocks, 17, day * 1440, day * 1440 + 1440).unwrap_or(0);
+    }
+    all
+}
+
+fn of_hours(blocks: &StationBlocks) -> u32 {
+    let mut all = 0;
+    for hour in 0..360_000u32 {
+        all ^= cost(blocks, 17, hour * 60, hour * 60 + 60).unwrap_or(0);
+    }
+    all
+}
+
+fn of_years(blocks: &StationBlocks) -> u32 {
+    let mut all = 0;
+    for _ in 0..10_000u32 {
+        all ^= cost(blocks, 17, YEAR, YEAR + 366 * 1440).unwrap_or(0);
+    }
+    all
+}
+
+fn times_of(rt: &HostRuntime, seconds: u16) -> Result<u32, Fail>
+    requires { seconds ≤ 1200 }
+{
+    let walks = walks(rt.alloc(), seconds)?;
+    let begin = Instant::now(rt)?;
+    let blocks = StationBlocks::make(rt.alloc(), walks)?;
+    tell(rt, "all layers that are kept", begin, 1)?;
+    let begin = Instant::now(rt)?;
+    let days = of_days(&blocks);
+    tell(rt, "a day", begin, 36_000)?;
+    let begin = Instant::now(rt)?;
+    let hours = of_hours(&blocks);
+    tell(rt, "an hour", begin, 360_000)?;
+    let begin = Instant::now(rt)?;
+    let years = of_years(&blocks);
+    tell(rt, "a year", begin, 10_000)?;
+    Ok(days ^ hours ^ years)
+}
+
+// Tells the times of three minutes and of twenty.
+#[test]
+fn times_of_unions(rt: HostRuntime) -> Result<(), Fail> {
+    for seconds in [180, 1200] {
+        let sum = times_of(&rt, seconds)?;
+        println!(&rt; "{seconds} seconds, {sum}")?;
+    }
+    Ok(())
+}
