@@ -1,3 +1,5 @@
 pub mod LeapLaws
 pub mod PieceLaws
 pub mod PlainLaws
+pub mod NominalLaws
+pub mod KeptLaws
