@@ -3,3 +3,4 @@ pub mod PieceLaws
 pub mod PlainLaws
 pub mod NominalLaws
 pub mod KeptLaws
+mod TestLaws

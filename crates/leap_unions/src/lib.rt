@@ -9,6 +9,8 @@ mod pieces;
 mod rows;
 mod sets;
 mod tapes;
+#[cfg(test)]
+mod tests;
 mod unions;
 
 pub use sets::Sets;
