@@ -1,3 +1,6 @@
 pub mod LeapLaws
 pub mod PieceLaws
 pub mod PlainLaws
+pub mod NominalLaws
+pub mod KeptLaws
+mod TestLaws

@@ -2,10 +2,15 @@
 //! may meet a minute of 61 seconds.
 #![tactic(auto)]
 
+mod kept;
 mod leap_ends;
+mod maker;
 mod pieces;
 mod rows;
 mod sets;
+mod tapes;
+#[cfg(test)]
+mod tests;
 mod unions;
 
 pub use sets::Sets;

@@ -1,22 +1,30 @@
 //! The minutes in which a block's walks begin, piece by piece.
 
-ghost use Rattle.std.specs.Prelude.{ℕ, ◌≡◌, ◌+◌, ◌-◌, ◌/◌, ◌<◌, ◌≤◌, ◌↔◌, false, slice_index, true};
+ghost use Rattle.std.specs.Prelude.{ℕ, ◌≡◌, ◌+◌, ◌-◌, ◌/◌, ◌<◌, ◌≤◌, ◌↔◌, IfSome, false, slice_index, true};
+ghost use Rattle.std.specs.List.{All};
 ghost use Rattle.definitions.specs.codes.Allowed.{has_station, CanBeEncoded};
 ghost use Rattle.definitions.specs.sequences.Windows.{IsWindow};
 ghost use Rattle.definitions.specs.time.Calendar.{century_minutes, is_leap_end};
+ghost use Rattle.leap_unions.specs.Kept.{IsKept};
 ghost use Rattle.leap_unions.specs.Pieces.{AreOfBoth, AreUnionsFrom};
 
+use crate::kept::Kept;
 use crate::leap_ends::next_leap_end;
+use crate::maker::row_reach;
 use crate::rows::{SECONDS, plain_row};
-use crate::sets::{Sets, either, row_sets, walk_sets};
+use crate::sets::{Sets, either, sets_from};
+use crate::tapes::tape_of;
 use civil::Civil;
-use definitions::Sequence;
+use definitions::{MINUTES_PER_DAY, Sequence};
 use sequence::walkable;
 use signal_base::{Station, Window};
 use span_unions::Unions;
 
 // The inserted second of a minute of 61 seconds.
 const LEAP_SECOND: u8 = 60;
+
+// The minutes of the longest year.
+const LONGEST_YEAR: u32 = 366 * MINUTES_PER_DAY;
 
 /// The walks of a window that begin in a second, where a leap second is announced.
 #[derive(Drop)]
@@ -31,6 +39,9 @@ pub struct Walks<'a> {
     pub end: u32,
     /// The second in which the walks begin.
     pub second: u8,
+    /// The rows that are kept, of walks near leap ends and of years.
+    pub nears: &'a [Kept],
+    pub years: &'a [Kept],
     ghost is_window: { IsWindow window.now },
     ghost heard: { has_station window.now.stations station ≡ true },
     ghost of_station: { unions.now.station ≡ station },
@@ -39,6 +50,7 @@ pub struct Walks<'a> {
 }
 
 // Some of a block's minutes, from its first or from the end of another piece on.
+#[derive(Drop)]
 struct Piece {
     // Their end.
     end: u32,
@@ -53,6 +65,8 @@ impl<'a> Walks<'a> {
         requires order { lo < hi }
         requires from { self.now.window.now.from ≤ lo }
         requires to { hi ≤ self.now.window.now.to }
+        requires nears { All (IsKept self.now.station self.now.window.now.seconds) self.now.nears.now }
+        requires years { All (IsKept self.now.station self.now.window.now.seconds) self.now.years.now }
         ensures { AreUnionsFrom self.now.window.now self.now.second self.now.station lo hi result }
     {
         let mut sets = None;
@@ -70,31 +84,95 @@ impl<'a> Walks<'a> {
         requires order { t < hi }
         requires from { self.now.window.now.from ≤ t }
         requires to { hi ≤ self.now.window.now.to }
+        requires nears { All (IsKept self.now.station self.now.window.now.seconds) self.now.nears.now }
+        requires years { All (IsKept self.now.station self.now.window.now.seconds) self.now.years.now }
         ensures grows { t < result.end }
         ensures within { result.end ≤ hi }
         ensures unions { AreUnionsFrom self.now.window.now self.now.second self.now.station t result.end result.sets }
     {
-        let leap = next_leap_end(self.civil, t);
         if self.second == LEAP_SECOND {
-            if t < leap {
-                return Piece {
-                    end: leap.min(hi),
-                    sets: None,
-                };
-            }
-            return Piece {
-                end: t + 1,
-                sets: self.walk(t),
-            };
+            return self.from_leap_second(t, hi);
         }
-        let reach = self.reach();
+        if let Some(piece) = self.kept_from(self.years, 1, t, hi) {
+            return piece;
+        }
+        if let Some(piece) = self.kept_from(self.nears, 2, t, hi) {
+            return piece;
+        }
+        let leap = next_leap_end(self.civil, t);
+        let reach = row_reach(self.window.seconds);
         if t + reach < leap {
-            return self.plain(t, hi.min(leap - reach), reach);
+            return self.plain(t, hi.min(leap - reach), self.reach());
         }
         Piece {
             end: t + 1,
             sets: self.walk(t),
         }
+    }
+
+    // The piece that begins at `t`, of walks that begin with a leap second.
+    fn from_leap_second(&self, t: u32, hi: u32) -> Piece
+        requires order { t < hi }
+        requires from { self.now.window.now.from ≤ t }
+        requires to { hi ≤ self.now.window.now.to }
+        requires second { self.now.second ≡ 60 }
+        ensures grows { t < result.end }
+        ensures within { result.end ≤ hi }
+        ensures unions { AreUnionsFrom self.now.window.now self.now.second self.now.station t result.end result.sets }
+    {
+        let leap = next_leap_end(self.civil, t);
+        if t < leap {
+            return Piece {
+                end: leap.min(hi),
+                sets: None,
+            };
+        }
+        Piece {
+            end: t + 1,
+            sets: self.walk(t),
+        }
+    }
+
+    // The piece of a row that begins at `t`, where that is kept and all its walks end in time. There are `a_year` rows a
+    // year, and no year is longer than 366 days.
+    fn kept_from(&self, rows: &[Kept], a_year: u32, t: u32, hi: u32) -> Option<Piece>
+        requires rows { All (IsKept self.now.station self.now.window.now.seconds) rows.now }
+        requires from { self.now.window.now.from ≤ t }
+        requires to { hi ≤ self.now.window.now.to }
+        requires second { self.now.second < 60 }
+        requires few { a_year ≤ 2 }
+        ensures grows { IfSome result (λ piece. t < piece.end) }
+        ensures within { IfSome result (λ piece. piece.end ≤ hi) }
+        ensures unions { IfSome result (λ piece. AreUnionsFrom self.now.window.now self.now.second self.now.station t piece.end piece.sets) }
+    {
+        let kept = self.row_at(rows, t / LONGEST_YEAR * a_year, t)?;
+        if hi < kept.hi {
+            return None;
+        }
+        if self.end < kept.hi + row_reach(self.window.seconds) {
+            return None;
+        }
+        Some(Piece {
+            end: kept.hi,
+            sets: Some(sets_from(&kept.row, self.second as usize)),
+        })
+    }
+
+    // The row that begins at `t`, if one does that has at least the number `first`. The rows are in order.
+    fn row_at<'b>(&self, rows: &'b [Kept], first: u32, t: u32) -> Option<&'b Kept>
+        requires { All (IsKept self.now.station self.now.window.now.seconds) rows.now }
+        ensures kept { IfSome result (λ kept. IsKept self.now.station self.now.window.now.seconds kept.now) }
+        ensures begins { IfSome result (λ kept. kept.now.lo ≡ t) }
+    {
+        for i in first as usize..rows.len() {
+            if rows[i].lo == t {
+                return Some(&rows[i]);
+            }
+            if rows[i].lo > t {
+                return None;
+            }
+        }
+        None
     }
 
     // How many minutes after its first one a walk reaches that meets no leap second.
@@ -130,7 +208,7 @@ impl<'a> Walks<'a> {
         let row = plain_row(self.unions, t, cut, reach);
         Piece {
             end: cut,
-            sets: Some(row_sets(&row, self.second)),
+            sets: Some(sets_from(&row, self.second as usize)),
         }
     }
 
@@ -148,7 +226,8 @@ impl<'a> Walks<'a> {
         if !walkable(self.civil, self.window, &q) {
             return None;
         }
-        Some(walk_sets(self.civil, self.station, self.window, &q))
+        let tape = tape_of(self.civil, self.station, &q, self.window.seconds as usize);
+        Some(sets_from(&tape, 0))
     }
 }
 

@@ -1,15 +1,8 @@
 //! Sets of a window's slots.
 
-ghost use Rattle.std.specs.Prelude.{ℕ, ◌≡◌, ◌+◌, ◌<◌, ◌≤◌, bit_or, slice_index, true};
-ghost use Rattle.definitions.specs.codes.Allowed.{has_station};
-ghost use Rattle.definitions.specs.sequences.Walks.{IsSequence, IsWalkable, set_at};
-ghost use Rattle.definitions.specs.sequences.Windows.{IsWindow};
+ghost use Rattle.std.specs.Prelude.{ℕ, ◌≡◌, ◌+◌, ◌<◌, ◌≤◌, bit_or, length, slice_index};
 
-use crate::rows::Row;
-use civil::Civil;
-use definitions::Sequence;
-use sequence::{next_place, set_in};
-use signal_base::{MOST_SECONDS, Station, Window};
+use signal_base::MOST_SECONDS;
 
 /// A set for each slot that a window can have.
 pub type Sets = [u8; MOST_SECONDS as usize];
@@ -25,31 +18,14 @@ pub fn either(a: &Sets, b: &Sets) -> Sets
     sets
 }
 
-/// The sets of walks from a second on, of which the row is.
-pub fn row_sets(row: &Row, second: u8) -> Sets
-    requires { second ≤ 60 }
-    ensures { (k : ℕ) → k < MOST_SECONDS → slice_index result k ≡ slice_index row.now (second + k) }
+/// The sets of a row or tape, from the second `from` on.
+pub fn sets_from(row: &[u8], from: usize) -> Sets
+    requires { from + MOST_SECONDS ≤ length row.now }
+    ensures { (k : ℕ) → k < MOST_SECONDS → slice_index result k ≡ slice_index row.now (from + k) }
 {
     let mut sets = [0; MOST_SECONDS as usize];
     for k in 0..MOST_SECONDS as usize {
-        sets[k] = row[second as usize + k];
-    }
-    sets
-}
-
-/// What the walk of a sequence allows the station.
-pub fn walk_sets(civil: &Civil, station: Station, window: &Window, q: &Sequence) -> Sets
-    requires window { IsWindow window.now }
-    requires sequence { IsSequence q.now }
-    requires walkable { IsWalkable window.now q.now }
-    requires heard { has_station window.now.stations station ≡ true }
-    ensures { (k : ℕ) → k < window.now.seconds → slice_index result k ≡ set_at station q.now k }
-{
-    let mut sets = [0; MOST_SECONDS as usize];
-    let mut place = (q.first, q.second);
-    for slot in 0..window.seconds {
-        sets[slot as usize] = set_in(civil, station, q.announced, place);
-        place = next_place(civil, q.announced, place);
+        sets[k] = row[from + k];
     }
     sets
 }

@@ -6,6 +6,7 @@ ghost use Rattle.definitions.specs.codes.Allowed.{has_station, CanBeEncoded};
 ghost use Rattle.definitions.specs.sequences.Windows.{IsWindow};
 ghost use Rattle.definitions.specs.answers.Blocks.{HasWalk, IsBlock, IsUnion};
 
+use crate::maker::{Maker, Rows};
 use crate::pieces::Walks;
 use crate::sets::Sets;
 use civil::Civil;
@@ -34,6 +35,7 @@ impl From<AllocError> for LeapFault {
 pub struct LeapUnions {
     station: Station,
     seconds: u16,
+    rows: Rows,
 }
 
 impl Model for LeapUnions {
@@ -41,26 +43,42 @@ impl Model for LeapUnions {
 
     ghost Value = { Scope };
 
+    ghost use Rattle.std.specs.List.{All};
+    ghost use Rattle.leap_unions.specs.Kept.{IsKept};
+
     ghost view = { λ u. record { station = u.station; seconds = u.seconds } };
+
+    ghost invariant = { λ u. All (IsKept u.station u.seconds) u.rows.nears.items × All (IsKept u.station u.seconds) u.rows.years.items };
 }
 
 impl LeapUnions {
     /// Makes ready for windows of `seconds` seconds, of the station that the unions are of. `NoMemory` comes only for want
     /// of memory.
     pub fn make(
-        _alloc: Global,
-        _civil: &Civil,
+        alloc: Global,
+        civil: &Civil,
         station: Station,
-        _unions: &Unions,
+        unions: &Unions,
         seconds: u16,
     ) -> Result<LeapUnions, LeapFault>
-        requires station { _unions.now.station ≡ station }
+        requires station { unions.now.station ≡ station }
         requires some { 1 ≤ seconds }
         requires few { seconds ≤ MOST_SECONDS }
         ensures station { IfOk result (λ u. u.station ≡ station) }
         ensures seconds { IfOk result (λ u. u.seconds ≡ seconds) }
     {
-        Ok(LeapUnions { station, seconds })
+        let maker = Maker {
+            civil,
+            station,
+            unions,
+            seconds,
+        };
+        let rows = maker.rows(alloc)?;
+        Ok(LeapUnions {
+            station,
+            seconds,
+            rows,
+        })
     }
 
     /// In each slot the union of the sets that the walkable sequences of a block of the window allow the station. None
@@ -91,6 +109,8 @@ impl LeapUnions {
             window,
             end,
             second: block.second,
+            nears: &self.rows.nears,
+            years: &self.rows.years,
         };
         walks.unions(block.lo, block.hi)
     }

@@ -31,9 +31,9 @@ returns-clause-unions c =
     let early : cut + c.args.reach ≤ w.end = omega (arith, c.min-cut.ensures, c.saturating_sub.ensures, c.if-cut-t.false) in
     plain_unions w.window.now w.second c.requires.second c.args.t cut
     (λ u from to. c.requires.short u from (omega (arith, c.requires.reach, to, less))) (omega (arith, c.requires.reach, c.requires.century, less)) w.end w.encoded
-    w.station c.plain_row-row.result c.row_sets.result (omega (arith, c.if-cut-t.false)) c.requires.from (omega (arith, less, c.requires.to))
+    w.station c.plain_row-row.result c.sets_from.result (omega (arith, c.if-cut-t.false)) c.requires.from (omega (arith, less, c.requires.to))
     (omega (arith, early, c.requires.reach))
     (λ m s le lt.
     subst (λ (station : Station). IsUnionOver station true (c.args.t + m) (cut + m) s (slice_index c.plain_row-row.result (60 * m + s))) w.of_station
     (c.plain_row-row.ensures m s (omega (arith, le, c.requires.reach)) lt))
-    (λ k lt. c.row_sets.ensures k (omega (arith, lt, w.is_window.not_long)))
+    (λ k lt. c.sets_from.ensures k (omega (arith, lt, w.is_window.not_long)))

@@ -1,0 +1,22 @@
+use Rattle.std.proofs.Common.{arith}
+use Rattle.leap_unions.proofs.KeptLaws.{kept_joined}
+use Rattle.leap_unions.proofs.maker.Maker.half.Goals as goal
+
+pub next_leap_end-leap-requires : goal.next_leap_end-leap-requires
+next_leap_end-leap-requires c =
+    let table = c.end-end.ensures.table in
+    ((table.ends c.args.t).0 (omega (arith, c.if-t-end.false, c.end-end.ensures.value))).0
+
+pub near-near-requires-clause-century : goal.near-near-requires-clause-century
+near-near-requires-clause-century c =
+    let table = c.end-end.ensures.table in
+    let leap = c.next_leap_end-leap.result in
+    omega (arith, (table.ends leap).0 (omega (arith, c.if-end-leap.false, c.end-end.ensures.value)), c.if-leap-t.false)
+
+pub returns-clause-all : goal.returns-clause-all
+returns-clause-all c =
+    let w = c.args.self.now in
+    let plain = c.plain-plain in
+    let near = c.near-near in
+    kept_joined w.station w.seconds plain.result near.result c.joined-all.result w.few (omega (arith, plain.ensures.kept.some)) plain.ensures.kept.row near.ensures.kept
+    (omega (arith, plain.ensures.ends, near.ensures.begins)) c.joined-all.ensures.lo c.joined-all.ensures.hi c.joined-all.ensures.row
