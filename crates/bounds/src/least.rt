@@ -24,8 +24,23 @@ pub fn bound(tables: &Tables, block: &Block) -> Option<u32>
     }
 }
 
-// The same of a minute.
+// The same of a minute. Where it is announced, whether that shows is known from the date in most minutes.
 fn minute_bound(tables: &Tables, block: &Block) -> Option<u32>
+    requires { IsBlock tables.now.window block.now }
+    ensures bound { IsMinuteBound (costs_of tables.now) tables.now.window block.now result }
+    ensures small { IfSome result (λ n. n ≤ GREATEST_COST) }
+{
+    if !block.announced {
+        return sequence_bound(tables, block);
+    }
+    match tables.hour(block) {
+        Some(minute) => minute.bound(block),
+        None => sequence_bound(tables, block),
+    }
+}
+
+// The same by the minute's sequence.
+fn sequence_bound(tables: &Tables, block: &Block) -> Option<u32>
     requires { IsBlock tables.now.window block.now }
     ensures bound { IsMinuteBound (costs_of tables.now) tables.now.window block.now result }
     ensures small { IfSome result (λ n. n ≤ GREATEST_COST) }

@@ -2,7 +2,7 @@ use Rattle.std.proofs.Common.{ap, sym, ◌∙◌, subst}
 use Rattle.definitions.specs.sequences.Walks.{IsLegal}
 use Rattle.definitions.specs.heard.Costs.{sequence_cost}
 use Rattle.field_tables.specs.Scored.{costs_of}
-use Rattle.bounds.proofs.least.minute_bound.Goals as goal
+use Rattle.bounds.proofs.least.sequence_bound.Goals as goal
 
 pub returns-clause-bound : goal.returns-clause-bound
 returns-clause-bound c =
