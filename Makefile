@@ -20,18 +20,19 @@ IN_CRATE = test -n "$$CRATE" && test -d "crates/$$CRATE" || { echo "which crate?
 help: ## lists these targets
 	@sed -n 's/^\([a-z]*\):.*## \(.*\)/make \1|\2/p' Makefile | awk -F'|' '{ printf "%-15s %s\n", $$1, $$2 }'
 
-run: ## decodes the sample log: by build/tsbank, or in about a minute by an unproved run where that is missing or old
+run: ## decodes the sample over the century: by build/tsbank, or in about a minute by an unproved run where that is missing or old
 	@if $(FRESH); then \
-		build/tsbank decode 2024-06-10 sample/jjy-2024-06-10.log; \
+		cd sample && ../build/tsbank decode dcf77.toml; \
 	else \
 		echo "make run: no proved program of these sources stands (make build makes it); this quick run proves nothing" >&2; \
 		install -d build && cd crates/tsbank && \
-		rt try --seconds 600 --data sample.log=../../sample/jjy-2024-06-10.log -- decode 2024-06-10 sample.log \
+		rt try --seconds 600 --data dcf77.toml=../../sample/dcf77.toml --data attic.log=../../sample/attic.log \
+			--data cellar.log=../../sample/cellar.log -- decode dcf77.toml \
 			2> ../../build/quick-run.txt || { cat ../../build/quick-run.txt >&2; exit 1; }; \
 	fi
 
 build: ## proves the program's crates and leaves build/tsbank (minutes at first)
-	cd crates/tsbank && rt run -- decode 2024-06-10 ../../sample/jjy-2024-06-10.log > /dev/null
+	cd crates/tsbank && rt run -- encode wwvb 2024-02-29T12:34Z > /dev/null
 	install -d build
 	install -m 755 crates/tsbank/out/tsbank build/tsbank
 
@@ -66,6 +67,7 @@ fmt: ## lays out the files of every crate
 bench: ## measures the program: speed, memory, and how often its answers are wrong
 	@$(FRESH) || $(MAKE) build
 	bench/run
+	bench/decode
 	bench/wrong-answers
 
 clean: ## removes what was built and what checks kept (some gigabytes)

@@ -1,5 +1,5 @@
 pub mod Ending
 pub mod Finding
-pub mod Found
-pub mod Plain
-pub mod Words
+pub mod Hearing
+pub mod Loading
+pub mod Tasks

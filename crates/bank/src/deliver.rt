@@ -8,7 +8,7 @@ ghost use Rattle.bank.specs.Finding.{CanBeTold};
 use bank_files::{Failed, Files};
 use civil::Civil;
 use due::Due;
-use texts::{write_refusal, write_report};
+use texts::{write_feed, write_listing, write_refusal, write_report, write_trial};
 
 /// Writes the text of what is due to standard output.
 pub fn deliver<F: Files>(files: &mut F, civil: &Civil, due: &Due) -> Result<(), Failed>
@@ -22,5 +22,18 @@ pub fn deliver<F: Files>(files: &mut F, civil: &Civil, due: &Due) -> Result<(), 
             answer,
             duts,
         } => write_report(files, civil, window, answer, duts.as_slice()),
+        Due::Feed { window, sequence } => write_feed(files, civil, window, sequence),
+        Due::Listing {
+            station,
+            minute,
+            announced,
+        } => write_listing(files, civil, *station, *minute, *announced),
+        Due::Trial {
+            number,
+            station,
+            receivers,
+            sent,
+            answer,
+        } => write_trial(files, civil, *number, *station, *receivers, sent, answer),
     }
 }

@@ -1,96 +1,96 @@
 //! Finding what is due. Nothing here writes to a file.
 
-ghost use Rattle.std.specs.Prelude.{◌≡◌, ◌≢◌, ◌<◌, ◌≤◌, length, Err, IfErr, IfOk, IsErrOf};
-ghost use Rattle.bank_files.specs.Seen.{OnlyReads, ReadFails, SameCounts};
-ghost use Rattle.bank_files.specs.Told.{output_name};
-ghost use Rattle.definitions.specs.time.Calendar.{century_days};
-ghost use Rattle.due.specs.Days.{day_window, no_duts};
-ghost use Rattle.bank.specs.Finding.{CanBeTold, IsDueForLog, IsFound};
+ghost use Rattle.std.specs.Prelude.{◌≡◌, ◌≢◌, Err, IfErr, IfOk, IsErrOf, List, ℕ};
+ghost use Rattle.bank_files.specs.Seen.{OnlyReads, SameCounts};
+ghost use Rattle.due.specs.Banks.{Bank, duts_of};
+ghost use Rattle.due.specs.Rules.{told_of};
+ghost use Rattle.texts.specs.Reportable.{IsReportable};
+ghost use Rattle.bank.specs.Ending.{SomeReadFails};
+ghost use Rattle.bank.specs.Finding.{CanBeTold, IsFound};
+ghost use Rattle.bank.specs.Tasks.{Asks, IsInRange};
 
-use crate::day::{decide_day, window_of};
+use crate::hearing::bank_of;
+use crate::loading::{Unloaded, load};
 use crate::stop::Stop;
-use crate::words::Order;
-use bank_files::{Files, ReadWhole, read_whole};
+use crate::trial::trial_due;
+use crate::verdict::{Verdict, judge};
+use crate::words::Task;
+use bank_files::Files;
 use civil::Civil;
-use due::{Due, Duts};
-use formats::{LOG_LIMIT, Name, Refusal};
-use pulse_log::read_log;
+use due::Due;
+use formats::Asked;
 use sequence::Answer;
-use signal_base::{Dut, Station, StationDut};
 use std::alloc::Global;
+use std::thread::Threads;
+use workers::Gate;
 
-// The one receiver, by its number and its name.
-const RECEIVER: u8 = 1;
-
-const RECEIVER_NAME: &str = "a";
-
-/// What is due for a day and a log, which is read here. All memory that a run takes behind its calendar is taken here.
-pub fn find_due<F: Files>(
+/// What is due for what a run is asked to do. All files are read here, and all memory that a run takes behind its calendar
+/// is taken here.
+pub fn find_due<R: Threads + Sync, F: Files, G: Gate + Sync>(
+    rt: &R,
     alloc: Global,
     civil: &Civil,
-    order: &Order,
+    task: &Task,
     files: &mut F,
+    gate: &G,
 ) -> Result<Due, Stop>
-    requires day { order.now.day < century_days }
-    requires file { order.now.log.now ≢ output_name }
-    ensures due { IfOk result (IsFound (F.view files.old) order.now.day order.now.log.now) }
+    requires { IsInRange task.now }
+    ensures due { IfOk result (λ due. (words : List (List ℕ)) → Asks words task.now → IsFound (F.view files.old) words due) }
     ensures told { IfOk result CanBeTold }
-    ensures failed { IsErrOf result Stop.Failed → ReadFails order.now.log.now (F.view files.old) (F.view files.new) }
+    ensures failed { IsErrOf result Stop.Failed → (words : List (List ℕ)) → Asks words task.now → SomeReadFails (F.view files.old) (F.view files.new) words }
     ensures same_counts { result ≢ Err Stop.Failed → SameCounts (F.view files.old) (F.view files.new) }
     ensures only { OnlyReads (F.view files.old) (F.view files.new) }
 {
-    match read_whole(alloc, files, order.log, LOG_LIMIT) {
-        Ok(bytes) => due_for(alloc, civil, order.day, bytes.as_slice()),
-        Err(ReadWhole::Failed) => Err(Stop::Failed),
-        Err(ReadWhole::NoMemory) => Err(Stop::NoMemory),
-        Err(ReadWhole::TooLarge) => Ok(Due::Refused {
-            refusal: Refusal::LogTooLarge {
-                receiver: RECEIVER,
-                name: Name::new(RECEIVER_NAME),
-            },
+    match task {
+        Task::List {
+            station,
+            minute,
+            announced,
+        } => Ok(Due::Listing {
+            station: *station,
+            minute: *minute,
+            announced: *announced,
         }),
-    }
-}
-
-// What is due for a log of these bytes.
-fn due_for(alloc: Global, civil: &Civil, day: u32, bytes: &[u8]) -> Result<Due, Stop>
-    requires day { day < century_days }
-    requires limit { length bytes.now ≤ LOG_LIMIT }
-    ensures due { IfOk result (IsDueForLog day bytes.now) }
-    ensures told { IfOk result CanBeTold }
-    ensures memory { IfErr result (λ stop. stop ≡ Stop.NoMemory) }
-{
-    match read_log(alloc, bytes) {
-        Ok(log) => match decide_day(alloc, civil, day, log) {
-            Ok(answer) => Ok(report_of(day, answer)),
-            Err(_) => Err(Stop::NoMemory),
-        },
-        Err(fault) => match fault.bad_line() {
-            None => Err(Stop::NoMemory),
-            Some((line, fault)) => Ok(Due::Refused {
-                refusal: Refusal::LogLine {
-                    receiver: RECEIVER,
-                    name: Name::new(RECEIVER_NAME),
-                    line,
-                    fault,
-                },
-            }),
+        Task::Try { number, workers } => trial_due(rt, alloc, civil, *number, *workers, gate),
+        Task::Decode {
+            config,
+            asked,
+            as_feed,
+            workers,
+        } => match load(alloc, files, config) {
+            Ok(loaded) => {
+                let bank = bank_of(alloc, loaded)?;
+                let verdict = judge(rt, alloc, civil, bank, asked, *workers, gate)?;
+                Ok(told_of(*as_feed, verdict))
+            }
+            Err(unloaded) => match unloaded {
+                Unloaded::Refused { refusal } => Ok(Due::Refused { refusal }),
+                Unloaded::Failed => Err(Stop::Failed),
+                Unloaded::NoMemory => Err(Stop::NoMemory),
+            },
         },
     }
 }
 
-// The report of the answer for a day. JJY tells nothing of DUT1.
-fn report_of(day: u32, answer: Answer) -> Due
-    requires { day < century_days }
-    ensures { result ≡ Due.Report (day_window day) answer no_duts }
+// How the answer for a bank is told: as its report, or where it is decided and a feed is asked for, as sentences.
+fn told_of(as_feed: bool, verdict: Verdict) -> Due
+    requires { IsReportable verdict.window verdict.answer }
+    ensures told { (bank : Bank) → verdict.duts ≡ duts_of verdict.window bank verdict.answer
+        → result ≡ told_of as_feed verdict.window bank verdict.answer }
+    ensures can_be_told { CanBeTold result }
 {
-    let mut duts = Duts::new();
-    duts.push(StationDut {
-        station: Station::Jjy,
-        dut: Dut::Absent,
-    });
+    let Verdict {
+        window,
+        answer,
+        duts,
+    } = verdict;
+    if as_feed {
+        if let Answer::Decided { sequence, .. } = answer {
+            return Due::Feed { window, sequence };
+        }
+    }
     Due::Report {
-        window: window_of(day),
+        window,
         answer,
         duts,
     }

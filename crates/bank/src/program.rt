@@ -1,43 +1,52 @@
 //! One run of the program.
 
-ghost use Rattle.std.specs.Prelude.{◌≡◌, ◌≢◌, ◌<◌, ◌⊎◌, ℕ, List};
+ghost use Rattle.std.specs.Prelude.{◌≡◌, ◌≢◌, ◌⊎◌, ℕ, List};
 ghost use Rattle.bank_files.specs.Seen.{OnlyWrites, SameCounts, WriteFails};
 ghost use Rattle.bank_files.specs.Told.{output_name};
+ghost use Rattle.bank_words.specs.Seen.{texts_of};
 ghost use Rattle.due.specs.declared.due.Due.{Due};
 ghost use Rattle.due.specs.Rules.{IsDue};
-ghost use Rattle.due.specs.Words.{IsDecode};
-ghost use Rattle.definitions.specs.time.Calendar.{century_days};
 ghost use Rattle.bank.specs.Ending.{AreTold, Ends, IsTold, PrintsFront, PrintsNothing, SomeReadFails, TellsDue, status_after};
-ghost use Rattle.bank.specs.Words.{texts_of};
+ghost use Rattle.bank.specs.Tasks.{Asks, IsInRange};
 
 use crate::deliver::deliver;
 use crate::find::find_due;
 use crate::stop::Stop;
-use crate::words::{Order, read_words};
+use crate::words::{Task, task_of, word_refusal};
 use bank_files::Files;
 use civil::Civil;
 use due::Status;
-use formats::Refusal;
 use std::alloc::Global;
+use std::thread::Threads;
 use texts::write_refusal;
+use workers::Gate;
 
-/// Runs the words over the files, and answers the status. The words don't include the program's name.
+/// Runs the words over the files, and answers the status. The words don't include the program's name. The workers that
+/// search pass the gate. Neither their number nor how they come to what changes what is printed or answered.
 ///
 /// | Status | Comes | Standard output got |
 /// |---|---|---|
-/// | 0 | where one sequence costs less than every other | the report |
-/// | 1 | where the two cheapest sequences cost the same | the report |
-/// | 3 | where the words aren't `decode DATE LOG` | the refusal |
-/// | 5 | where the log is too large or has a bad line | the refusal |
-/// | 6 | only where reading the log or writing standard output has failed | nothing, or a front of the text due |
+/// | 0 | where one sequence costs less than every other, or a minute is listed | the report, the sentences, the summary or the listing |
+/// | 1 | where the two cheapest sequences cost the same | the report or the summary |
+/// | 2 | where no sequence is admitted | the report or the summary |
+/// | 3 | where the words aren't of the grammar, or speak of a certificate | the refusal |
+/// | 4 | where the configuration is refused | the refusal |
+/// | 5 | where a log is refused | the refusal of the first |
+/// | 6 | only where reading a file or writing standard output has failed | nothing, or a front of the text due |
 /// | 7 | where memory wasn't found | nothing |
-pub fn run<F: Files>(alloc: Global, words: &[String], files: &mut F) -> u8
+pub fn run<R: Threads + Sync, F: Files, G: Gate + Sync>(
+    rt: &R,
+    alloc: Global,
+    words: &[String],
+    files: &mut F,
+    gate: &G,
+) -> u8
     // What is printed, and the status, are due for contents that agree with all that is told of the files read.
     ensures due { result ≢ 6 → result ≢ 7
         → TellsDue (F.view files.old) (F.view files.new) (texts_of words.now) result }
     // Where the contents of these files are told, nothing else is printed or answered.
     ensures exactly { result ≢ 6 → result ≢ 7
-        → (contents : List ℕ → List ℕ) → AreTold (F.view files.old) (texts_of words.now) contents
+        → (contents : ℕ → List ℕ) → AreTold (F.view files.old) (texts_of words.now) contents
         → (due : Due) → IsDue (texts_of words.now) contents due
         → IsTold (F.view files.old) (F.view files.new) due result }
 
@@ -52,7 +61,7 @@ pub fn run<F: Files>(alloc: Global, words: &[String], files: &mut F) -> u8
     // Every other file is as before, and no count of faults fell.
     ensures only { OnlyWrites output_name (F.view files.old) (F.view files.new) }
 {
-    status_after(tell(alloc, words, files)).code()
+    status_after(tell(rt, alloc, words, files, gate)).code()
 }
 
 fn status_after(told: Result<Status, Stop>) -> Status
@@ -66,29 +75,40 @@ fn status_after(told: Result<Status, Stop>) -> Status
 }
 
 // Judges the words, and does what they ask for.
-fn tell<F: Files>(alloc: Global, words: &[String], files: &mut F) -> Result<Status, Stop>
+fn tell<R: Threads + Sync, F: Files, G: Gate + Sync>(
+    rt: &R,
+    alloc: Global,
+    words: &[String],
+    files: &mut F,
+    gate: &G,
+) -> Result<Status, Stop>
     ensures ends { Ends (F.view files.old) (F.view files.new) (texts_of words.now) result }
     ensures only { OnlyWrites output_name (F.view files.old) (F.view files.new) }
 {
-    match read_words(words) {
-        None => {
-            write_refusal(files, &Refusal::WordsUsage)?;
+    match task_of(words) {
+        Err(fault) => {
+            write_refusal(files, &word_refusal(fault))?;
             Ok(Status::BadWords)
         }
-        Some(order) => decode(alloc, &order, files),
+        Ok(task) => carry_out(rt, alloc, &task, files, gate),
     }
 }
 
-// Finds what is due for a day and a log, and delivers it.
-fn decode<F: Files>(alloc: Global, order: &Order, files: &mut F) -> Result<Status, Stop>
-    requires day { order.now.day < century_days }
-    requires file { order.now.log.now ≢ output_name }
-    ensures ends { (words : List (List ℕ)) → IsDecode words order.now.day order.now.log.now
+// Finds what is due for what a run is asked to do, and delivers it.
+fn carry_out<R: Threads + Sync, F: Files, G: Gate + Sync>(
+    rt: &R,
+    alloc: Global,
+    task: &Task,
+    files: &mut F,
+    gate: &G,
+) -> Result<Status, Stop>
+    requires { IsInRange task.now }
+    ensures ends { (words : List (List ℕ)) → Asks words task.now
         → Ends (F.view files.old) (F.view files.new) words result }
     ensures only { OnlyWrites output_name (F.view files.old) (F.view files.new) }
 {
     let civil = Civil::make(alloc)?;
-    let due = find_due(alloc, &civil, order, files)?;
+    let due = find_due(rt, alloc, &civil, task, files, gate)?;
     deliver(files, &civil, &due)?;
     Ok(due.status())
 }

@@ -3,9 +3,12 @@
 ghost use Rattle.std.specs.Prelude.{◌≡◌};
 ghost use Rattle.bank.specs.declared.stop.Stop.TheVariants as stops;
 
+use crate::first_two::DecideFault;
 use bank_files::Failed;
 use civil::CivilFault;
-use std::alloc::AllocError;
+use std::alloc::{AllocError, AllocFailed};
+use symbol_cost::GridFault;
+use trial_log::TrialFault;
 
 /// What kept a run from telling what is due.
 #[derive(Clone, Copy, Debug, PartialEq, Eq)]
@@ -32,10 +35,42 @@ impl From<AllocError> for Stop {
     }
 }
 
+impl<T: Drop> From<AllocFailed<T>> for Stop {
+    ghost from_gives = { λ _ stop. stop ≡ stops.NoMemory };
+
+    fn from(_failed: AllocFailed<T>) -> Stop {
+        Stop::NoMemory
+    }
+}
+
 impl From<CivilFault> for Stop {
     ghost from_gives = { λ _ stop. stop ≡ stops.NoMemory };
 
     fn from(_fault: CivilFault) -> Stop {
+        Stop::NoMemory
+    }
+}
+
+impl From<GridFault> for Stop {
+    ghost from_gives = { λ _ stop. stop ≡ stops.NoMemory };
+
+    fn from(_fault: GridFault) -> Stop {
+        Stop::NoMemory
+    }
+}
+
+impl From<DecideFault> for Stop {
+    ghost from_gives = { λ _ stop. stop ≡ stops.NoMemory };
+
+    fn from(_fault: DecideFault) -> Stop {
+        Stop::NoMemory
+    }
+}
+
+impl From<TrialFault> for Stop {
+    ghost from_gives = { λ _ stop. stop ≡ stops.NoMemory };
+
+    fn from(_fault: TrialFault) -> Stop {
         Stop::NoMemory
     }
 }

@@ -4,12 +4,14 @@ use crate::run;
 use bank_files::{MemoryFiles, OneByte};
 use std::alloc::{AllocError, Global};
 use std::test::Fail;
+use workers::NoGate;
 
-fn words(alloc: Global, date: &str, log: &str) -> Result<Vec<String>, AllocError> {
+// The words of a line that parts them by spaces.
+fn words(alloc: Global, line: &str) -> Result<Vec<String>, AllocError> {
     let mut words = Vec::new(alloc);
-    words.push("decode".to_string(alloc)?)?;
-    words.push(date.to_string(alloc)?)?;
-    words.push(log.to_string(alloc)?)?;
+    for word in line.split(' ') {
+        words.push(word.to_string(alloc)?)?;
+    }
     Ok(words)
 }
 
@@ -57,23 +59,43 @@ fn clean_log(alloc: Global) -> Result<String, AllocError> {
     Ok(text)
 }
 
+// One receiver of JJY, named a, whose log is a.log.
+const CONFIG: &str = "station = \"jjy\"\n[[receiver]]\nname = \"a\"\nlog = \"a.log\"\n";
+
+// The hour of the two minutes.
+const HOUR: &str =
+    "decode k.toml --seconds 120 --from 2024-06-10T06:00Z --to 2024-06-10T06:59Z --workers 2";
+
+// The report of the clean log, by hand.
+const REPORT: &str =
+    "decided 0\nphase 0\nsequence 2024-06-10T06:16Z 0 no\nnext 1200\nminute 2024-06-10T06:16Z at 0\nminute 2024-06-10T06:17Z at 60000\n";
+
+// A configuration and its log a.log.
+fn files_of(alloc: Global, config: &str, log: &str) -> Result<MemoryFiles, Fail> {
+    let mut files = MemoryFiles::make(alloc)?;
+    files.put("k.toml", config.as_bytes())?;
+    files.put("a.log", log.as_bytes())?;
+    Ok(files)
+}
+
 #[test]
 fn decides_two_clean_minutes(rt: HostRuntime) -> Result<(), Fail> {
-    let mut files = MemoryFiles::make(rt.alloc())?;
     let log = clean_log(rt.alloc())?;
-    files.put("a.log", log.as_bytes())?;
-    let words = words(rt.alloc(), "2024-06-10", "a.log")?;
-    assert_eq!(rt; run(rt.alloc(), &words, &mut files), 0);
+    let mut files = files_of(rt.alloc(), CONFIG, &log)?;
+    let words = words(rt.alloc(), HOUR)?;
+    assert_eq!(rt; run(&rt, rt.alloc(), &words, &mut files, &NoGate), 0);
     assert!(rt; printed(&files, REPORT));
     Ok(())
 }
 
 #[test]
 fn ties_on_an_empty_log(rt: HostRuntime) -> Result<(), Fail> {
-    let mut files = MemoryFiles::make(rt.alloc())?;
-    files.put("a.log", b"")?;
-    let words = words(rt.alloc(), "2024-06-10", "a.log")?;
-    assert_eq!(rt; run(rt.alloc(), &words, &mut files), 1);
+    let mut files = files_of(rt.alloc(), CONFIG, "")?;
+    let words = words(
+        rt.alloc(),
+        "decode k.toml --seconds 60 --from 2024-06-10T00:00Z --to 2024-06-10T00:01Z",
+    )?;
+    assert_eq!(rt; run(&rt, rt.alloc(), &words, &mut files, &NoGate), 1);
     assert!(rt;
         printed(
             &files,
@@ -84,71 +106,144 @@ fn ties_on_an_empty_log(rt: HostRuntime) -> Result<(), Fail> {
 }
 
 #[test]
-fn refuses_words_and_logs(rt: HostRuntime) -> Result<(), Fail> {
-    for (date, log, status, text) in [
-        ("2024-06-31", "", 3, "words: usage\n"),
+fn refuses_words(rt: HostRuntime) -> Result<(), Fail> {
+    for (line, text) in [
+        ("decode", "words: usage\n"),
+        ("check k.toml y.cert", "words: usage\n"),
+        ("decode k.toml --certificate y.cert", "words: usage\n"),
+        ("decode k.toml --seconds 59", "words: bad --seconds\n"),
+        ("trial 01", "words: bad NUMBER\n"),
         (
-            "2024-06-10",
-            "5 H\n5 L\n",
-            5,
-            "log 1 a: line 2: not rising\n",
-        ),
-        (
-            "2024-06-10",
-            "# x\n\n5 H\n4 Q",
-            5,
-            "log 1 a: line 4: shape\n",
+            "feed k.toml --from 2024-06-10T06:00Z --to 2024-06-10T05:59Z",
+            "words: --to is before --from\n",
         ),
     ] {
         let mut files = MemoryFiles::make(rt.alloc())?;
-        files.put("a.log", log.as_bytes())?;
-        let words = words(rt.alloc(), date, "a.log")?;
-        assert_eq!(rt; run(rt.alloc(), &words, &mut files), status, "{date}");
+        let words = words(rt.alloc(), line)?;
+        assert_eq!(rt;
+            run(&rt, rt.alloc(), &words, &mut files, &NoGate),
+            3,
+            "{line}"
+        );
+        assert!(rt; printed(&files, text), "{line}");
+    }
+    Ok(())
+}
+
+#[test]
+fn refuses_configurations(rt: HostRuntime) -> Result<(), Fail> {
+    for (config, text) in [
+        ("", "configuration: missing station\n"),
+        ("station = ", "configuration: not toml\n"),
+        (
+            "station = \"jjy\"\n[[receiver]]\nname = \"a\"\nlog = \"a.log\"\nstation = \"bpc\"\n",
+            "configuration: out of range receiver 1 station\n",
+        ),
+    ] {
+        let mut files = files_of(rt.alloc(), config, "")?;
+        let words = words(rt.alloc(), HOUR)?;
+        assert_eq!(rt;
+            run(&rt, rt.alloc(), &words, &mut files, &NoGate),
+            4,
+            "{text}"
+        );
+        assert!(rt; printed(&files, text), "{text}");
+    }
+    Ok(())
+}
+
+// Two receivers of two stations, in mixed order.
+const TWO: &str =
+    "station = \"jjy\"\n[[receiver]]\nname = \"a\"\nlog = \"a.log\"\n[[receiver]]\nname = \"b\"\nlog = \"b.log\"\nstation = \"dcf77\"\n";
+
+#[test]
+fn refuses_the_first_bad_log(rt: HostRuntime) -> Result<(), Fail> {
+    for (first, second, text) in [
+        ("5 H\n5 L\n", "4 Q", "log 1 a: line 2: not rising\n"),
+        ("", "# x\n\n5 H\n4 Q", "log 2 b: line 4: shape\n"),
+    ] {
+        let mut files = files_of(rt.alloc(), TWO, first)?;
+        files.put("b.log", second.as_bytes())?;
+        let words = words(rt.alloc(), HOUR)?;
+        assert_eq!(rt;
+            run(&rt, rt.alloc(), &words, &mut files, &NoGate),
+            5,
+            "{text}"
+        );
         assert!(rt; printed(&files, text), "{text}");
     }
     Ok(())
 }
 
 #[test]
-fn refuses_a_large_log(rt: HostRuntime) -> Result<(), Fail> {
+fn lists_a_minute(rt: HostRuntime) -> Result<(), Fail> {
     let mut files = MemoryFiles::make(rt.alloc())?;
-    let log = vec![in rt.alloc(); b'#'; 8_000_001]?;
-    files.put("a.log", &log)?;
-    let words = words(rt.alloc(), "2024-06-10", "a.log")?;
-    assert_eq!(rt; run(rt.alloc(), &words, &mut files), 5);
-    assert!(rt; printed(&files, "log 1 a: too large\n"));
+    let words = words(rt.alloc(), "encode jjy 2024-06-10T06:45Z")?;
+    assert_eq!(rt; run(&rt, rt.alloc(), &words, &mut files, &NoGate), 0);
+    assert!(rt; printed(&files, LISTING));
+    Ok(())
+}
+
+#[test]
+fn feeds_two_minutes(rt: HostRuntime) -> Result<(), Fail> {
+    let log = clean_log(rt.alloc())?;
+    let mut files = files_of(rt.alloc(), CONFIG, &log)?;
+    let words = words(
+        rt.alloc(),
+        "feed k.toml --seconds 120 --from 2024-06-10T06:00Z --to 2024-06-10T06:59Z",
+    )?;
+    assert_eq!(rt; run(&rt, rt.alloc(), &words, &mut files, &NoGate), 0);
+    assert!(rt; printed(&files, SENTENCES));
+    Ok(())
+}
+
+#[test]
+fn admits_nothing_under_a_low_ceiling(rt: HostRuntime) -> Result<(), Fail> {
+    let config = format!(in rt.alloc(); "ceiling = 0\n{CONFIG}")?;
+    let log = clean_log(rt.alloc())?;
+    let mut files = files_of(rt.alloc(), &config, &log)?;
+    let words = words(
+        rt.alloc(),
+        "decode k.toml --seconds 120 --from 2024-06-10T07:00Z --to 2024-06-10T07:09Z",
+    )?;
+    assert_eq!(rt; run(&rt, rt.alloc(), &words, &mut files, &NoGate), 2);
+    assert!(rt; printed(&files, "none\nphase 0\n"));
     Ok(())
 }
 
 #[test]
 fn ends_at_a_failing_file(rt: HostRuntime) -> Result<(), Fail> {
-    for (name, call) in [("a.log", 1), ("b.log", 9)] {
-        let mut files = MemoryFiles::make(rt.alloc())?;
-        files.put("a.log", b"")?;
+    // The configuration is read in two calls, the clean log in two, and the report is written in one.
+    let log = clean_log(rt.alloc())?;
+    for call in 1..6 {
+        let mut files = files_of(rt.alloc(), CONFIG, &log)?;
         files.fail(call)?;
-        let words = words(rt.alloc(), "2024-06-10", name)?;
-        assert_eq!(rt; run(rt.alloc(), &words, &mut files), 6, "{name}");
-        assert!(rt; printed(&files, ""), "{name}");
+        let words = words(rt.alloc(), HOUR)?;
+        assert_eq!(rt;
+            run(&rt, rt.alloc(), &words, &mut files, &NoGate),
+            6,
+            "call {call}"
+        );
+        assert!(rt; printed(&files, ""), "call {call}");
     }
     Ok(())
 }
 
-// The report of the clean log, by hand.
-const REPORT: &str =
-    "decided 0\nphase 0\nsequence 2024-06-10T06:16Z 0 no\nnext 1200\nminute 2024-06-10T06:16Z at 0\nminute 2024-06-10T06:17Z at 60000\n";
+// The listing of a minute in which JJY tells its call sign, worked out by hand.
+const LISTING: &str =
+    "encode jjy 2024-06-10T06:45Z 60\nM10000101M000100101M000100110M001000110M*********M??????000M\n";
 
-// A clean log is read in two calls, and the report is written in one.
+// The sentences of the clean log.
+const SENTENCES: &str =
+    "$GPZDA,061600.00,10,06,2024,00,00*64\r\n$GPZDA,061700.00,10,06,2024,00,00*65\r\n";
+
+// A name that is no file's.
 #[test]
-fn prints_nothing_where_a_call_fails(rt: HostRuntime) -> Result<(), Fail> {
-    let log = clean_log(rt.alloc())?;
-    for call in 1..4 {
-        let mut files = MemoryFiles::make(rt.alloc())?;
-        files.put("a.log", log.as_bytes())?;
-        files.fail(call)?;
-        let words = words(rt.alloc(), "2024-06-10", "a.log")?;
-        assert_eq!(rt; run(rt.alloc(), &words, &mut files), 6, "call {call}");
-        assert!(rt; printed(&files, ""), "call {call}");
-    }
+fn ends_at_a_missing_file(rt: HostRuntime) -> Result<(), Fail> {
+    let mut files = MemoryFiles::make(rt.alloc())?;
+    let words = words(rt.alloc(), HOUR)?;
+    assert_eq!(rt; run(&rt, rt.alloc(), &words, &mut files, &NoGate), 6);
+    assert!(rt; printed(&files, ""));
     Ok(())
 }
 
@@ -156,46 +251,10 @@ fn prints_nothing_where_a_call_fails(rt: HostRuntime) -> Result<(), Fail> {
 #[test]
 fn prints_the_same_byte_by_byte(rt: HostRuntime) -> Result<(), Fail> {
     let log = clean_log(rt.alloc())?;
-    let words = words(rt.alloc(), "2024-06-10", "a.log")?;
-    let mut inner = MemoryFiles::make(rt.alloc())?;
-    inner.put("a.log", log.as_bytes())?;
+    let words = words(rt.alloc(), HOUR)?;
+    let inner = files_of(rt.alloc(), CONFIG, &log)?;
     let mut files = OneByte { inner };
-    assert_eq!(rt; run(rt.alloc(), &words, &mut files), 0);
+    assert_eq!(rt; run(&rt, rt.alloc(), &words, &mut files, &NoGate), 0);
     assert!(rt; printed(&files.inner, REPORT));
-    Ok(())
-}
-
-// A log of eight bytes is read in nine calls, and then its refusal is written.
-#[test]
-fn keeps_a_front_where_a_later_write_fails(rt: HostRuntime) -> Result<(), Fail> {
-    let words = words(rt.alloc(), "2024-06-10", "a.log")?;
-    for (call, text) in [
-        (9, ""),
-        (10, ""),
-        (19, "log 1 a: "),
-        (37, "log 1 a: line 2: not rising"),
-    ] {
-        let mut inner = MemoryFiles::make(rt.alloc())?;
-        inner.put("a.log", b"5 H\n5 L\n")?;
-        inner.fail(call)?;
-        let mut files = OneByte { inner };
-        assert_eq!(rt; run(rt.alloc(), &words, &mut files), 6, "call {call}");
-        assert!(rt; printed(&files.inner, text), "call {call}");
-    }
-    Ok(())
-}
-
-// The most records that a log may have: two clean minutes in 241 records, and then a level that repeats.
-#[test]
-fn decides_on_the_longest_log(rt: HostRuntime) -> Result<(), Fail> {
-    let mut files = MemoryFiles::make(rt.alloc())?;
-    let mut log = clean_log(rt.alloc())?;
-    for ms in 120_001..319_760 {
-        push_record(&mut log, ms, "H")?;
-    }
-    files.put("a.log", log.as_bytes())?;
-    let words = words(rt.alloc(), "2024-06-10", "a.log")?;
-    assert_eq!(rt; run(rt.alloc(), &words, &mut files), 0);
-    assert!(rt; printed(&files, REPORT));
     Ok(())
 }

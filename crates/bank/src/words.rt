@@ -1,52 +1,99 @@
-//! The words of the command line: `decode DATE LOG`.
+//! What the words of the command line ask a run to do.
 
-ghost use Rattle.std.specs.Prelude.{◌≡◌, ◌↔◌, ℕ, List, IfSome, IfNone, IsTrue, codes};
-ghost use Rattle.due.specs.Words.{IsDecode, IsFileWord};
-ghost use Rattle.bank.specs.Words.{texts_of};
+ghost use Rattle.std.specs.Prelude.{◌≡◌, Err, IfOk, MatchResult};
+ghost use Rattle.bank_words.specs.Seen.{texts_of};
+ghost use Rattle.due.specs.Orders.{order_in, word_refusal};
+ghost use Rattle.bank.specs.Tasks.{Asks, IsInRange};
 
-use civil::parse_day;
+use bank_words::{Order, read_words};
+use formats::{Asked, Refusal, WordFault};
+use signal_base::Station;
 
-/// What the words ask for.
+/// What a run is asked to do. All texts are borrowed from the words.
 #[derive(Clone, Copy, Debug)]
-pub struct Order<'a> {
-    /// The day that is searched, counted from 2000-01-01.
-    pub day: u32,
-    /// The name of the log.
-    pub log: &'a str,
+pub enum Task<'a> {
+    /// Decode the logs of a configuration.
+    Decode {
+        /// The name of the configuration's file.
+        config: &'a str,
+        /// Which window is asked about.
+        asked: Asked,
+        /// Whether a decided answer is told as sentences.
+        as_feed: bool,
+        /// How many workers search, 1 to 8.
+        workers: u8,
+    },
+    /// List what a station sends in a minute.
+    List {
+        /// The station.
+        station: Station,
+        /// The minute, counted from 2000-01-01T00:00Z.
+        minute: u32,
+        /// Whether a leap second is announced.
+        announced: bool,
+    },
+    /// Decode logs that are made from a number.
+    Try {
+        /// The number.
+        number: u32,
+        /// How many workers search, 1 to 8.
+        workers: u8,
+    },
 }
 
-/// What the words ask for, or none where they aren't of the grammar.
-pub fn read_words(words: &[String]) -> Option<Order<'_>>
-    ensures accepted { IfSome result (λ order. IsDecode (texts_of words.now) order.day order.log.now) }
-    ensures refused { IfNone result ((day : ℕ) (log : List ℕ) → ¬ (IsDecode (texts_of words.now) day log)) }
+/// What the words ask for. Certificates aren't built yet, so that words that speak of one are refused as usage.
+pub fn task_of(words: &[String]) -> Result<Task<'_>, WordFault>
+    ensures task { MatchResult result (Asks (texts_of words.now)) (λ fault. order_in (texts_of words.now) ≡ Err fault) }
+    ensures in_range { IfOk result IsInRange }
 {
-    if words.len() != 3 {
-        return None;
-    }
-    let command = words[0].as_str();
-    let date = words[1].as_str();
-    let log = words[2].as_str();
-    if !is_decode(command) || !is_file_word(log) {
-        return None;
-    }
-    match parse_day(date) {
-        None => None,
-        Some(day) => Some(Order { day, log }),
+    let order = read_words(words)?;
+    match order {
+        Order::Decode {
+            config,
+            asked,
+            workers,
+            certificate,
+        } => match certificate {
+            Some(_) => Err(WordFault::Usage),
+            None => Ok(Task::Decode {
+                config,
+                asked,
+                as_feed: false,
+                workers,
+            }),
+        },
+        Order::Check { .. } => Err(WordFault::Usage),
+        Order::Feed {
+            config,
+            asked,
+            workers,
+        } => Ok(Task::Decode {
+            config,
+            asked,
+            as_feed: true,
+            workers,
+        }),
+        Order::Encode {
+            station,
+            minute,
+            leap,
+        } => Ok(Task::List {
+            station,
+            minute,
+            announced: leap,
+        }),
+        Order::Trial { number, workers } => Ok(Task::Try { number, workers }),
     }
 }
 
-fn is_decode(word: &str) -> bool
-    ensures { IsTrue result ↔ (word.now ≡ codes "decode") }
+/// The line that refused words get.
+pub fn word_refusal(fault: WordFault) -> Refusal
+    ensures { result ≡ word_refusal fault }
 {
-    word == "decode"
-}
-
-// Whether the word isn't empty and doesn't begin with `-`.
-fn is_file_word(word: &str) -> bool
-    ensures { IsTrue result ↔ IsFileWord word.now }
-{
-    match word.as_bytes().first() {
-        None => false,
-        Some(first) => *first != b'-',
+    match fault {
+        WordFault::Usage => Refusal::WordsUsage,
+        WordFault::BadNumber { option } => Refusal::WordsBad { option },
+        WordFault::BadMinute { option } => Refusal::WordsBad { option },
+        WordFault::EmptyRange => Refusal::WordsEmptyRange,
     }
 }

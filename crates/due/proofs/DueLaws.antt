@@ -1,116 +1,172 @@
 -- Something is due for all words and contents, and only one thing.
-use Rattle.std.proofs.Common.{◌≡◌, ◌≢◌, ℕ, ◌<◌, ◌⊎◌, inl, inr, List, [], ◌∷◌, refl, sym, ◌∙◌, ap, subst}
+use Rattle.std.proofs.Common.{◌≡◌, ℕ, ◌≤◌, ◌⊎◌, inl, inr, true, false, List, Option, Some, Ok, Err, refl, sym, ◌∙◌, ap, subst, arith}
 use Rattle.definitions.specs.declared.answer.Answer.{Answer}
-use Rattle.definitions.specs.time.Calendar.{century_days}
+use Rattle.definitions.specs.time.Calendar.{century_minutes}
 use Rattle.definitions.specs.heard.Logs.{Records}
+use Rattle.definitions.proofs.AnswerLaws.{window_answer_is_one}
+use Rattle.definitions.proofs.ExistLaws.{an_answer}
 use Rattle.formats.specs.declared.refusal.Refusal.{Refusal}
-use Rattle.formats.specs.declared.refusal.Refusal.TheVariants.{WordsUsage, WordsBad, WordsEmptyRange, ConfigTooLarge, ConfigNotToml, ConfigMissing, ConfigWrongKind, ConfigOutOfRange, ConfigUnknownKey, LogTooLarge, LogLine}
-use Rattle.definitions.specs.declared.answer.Answer.TheVariants as answers
-use Rattle.due.specs.declared.status.Status.TheVariants as statuses
+use Rattle.formats.specs.declared.words.Asked.{Asked}
+use Rattle.formats.specs.OrderRanges.{is_run_order}
+use Rattle.formats.specs.Orders.{Order, Checked}
+use Rattle.formats.specs.Orders.Order.{Decode, Check, Feed, Encode, Trial}
+use Rattle.bank_config.specs.Configuration.{PlainConfig}
+use Rattle.trial_log.specs.Trials.{trial_receivers, trial_sequence, trial_station}
 use Rattle.due.specs.declared.due.Due.{Due}
-use Rattle.due.specs.declared.due.Due.TheVariants.{Refused, Report}
-use Rattle.due.specs.Words.{IsDecode}
-use Rattle.due.specs.LogFiles.{LogFile, AreGood, IsFirstBad}
-use Rattle.due.specs.Days.{day_logs, day_window, no_duts, IsDayAnswer}
-use Rattle.due.specs.Dues.{answer_status, refusal_status, status_of}
-use Rattle.due.specs.Rules.{IsDue, Bad_words, Bad_log, Answered, IsRead, Reads_log}
-use Rattle.due.proofs.WordLaws.{words_are_one, decide_words}
-use Rattle.due.proofs.LogFileLaws.{all_good_once, first_bad_once, all_good_none_bad, all_judged, AreJudged}
-use Rattle.due.proofs.DayLaws.{day_answer_is_one, day_has_answer, day_is_answered}
+use Rattle.due.specs.declared.due.Due.TheVariants as dues
+use Rattle.due.specs.Banks.{Bank, IsBankAnswer, bank_of, costs_in, window_of}
+use Rattle.due.specs.Configurations.{IsBadConfiguration, IsConfiguration, logs_of}
+use Rattle.due.specs.LogFiles.{AreGood, IsFirstBad}
+use Rattle.due.specs.Orders.{BankOrder, bank_order, built, order_in, word_refusal}
+use Rattle.due.specs.Rules.{AsksBank, IsDue, Bad_words, Listed, Tried, Bad_configuration, Bad_log, Answered, IsTold, configuration, told_of}
+use Rattle.due.specs.Trials.{trial_asked, trial_bank}
+use Rattle.due.proofs.WordLaws.{asked_of_bank, is_built, is_run}
+use Rattle.due.proofs.ConfigurationLaws as configurations
+use Rattle.due.proofs.LogFileLaws.{AreJudged, all_good_once, all_good_none_bad, all_judged, first_bad_once}
 
-module _ (contents : List ℕ → List ℕ) where
-  -- what is due for a day and a log
-  abbrev IsDueFor : ℕ → List ℕ → Due → Type 0
-  IsDueFor day log due =
-      ((refusal : Refusal) × IsFirstBad contents (day_logs log) refusal × (due ≡ Refused refusal))
-      ⊎ ((records : Records) × AreGood contents (day_logs log) (records ∷ []) × (answer : Answer) × IsDayAnswer day records answer
-      × (due ≡ Report (day_window day) answer no_duts))
+-- the answer for a bank: there is one, and only one
+pub bank_answer_is_one : (asked : Asked) (bank : Bank) (a b : Answer) → asked.to ≤ century_minutes
+    → IsBankAnswer (window_of asked bank.receivers) bank a → IsBankAnswer (window_of asked bank.receivers) bank b → a ≡ b
+bank_answer_is_one asked bank a b century =
+    window_answer_is_one (window_of asked bank.receivers) (costs_in (window_of asked bank.receivers) bank) bank.ceiling a b century
 
-  -- the rules as a choice
-  abbrev IsAnyDue : List (List ℕ) → Due → Type 0
-  IsAnyDue words due =
-      (((day : ℕ) (log : List ℕ) → ¬ (IsDecode words day log)) × (due ≡ Refused WordsUsage))
-      ⊎ ((day : ℕ) × (log : List ℕ) × IsDecode words day log × IsDueFor day log due)
+pub bank_has_answer : (asked : Asked) (bank : Bank) → asked.to ≤ century_minutes → (a : Answer) × IsBankAnswer (window_of asked bank.receivers) bank a
+bank_has_answer asked bank century =
+    an_answer (window_of asked bank.receivers) (costs_in (window_of asked bank.receivers) bank) bank.ceiling century
 
-  rule : (words : List (List ℕ)) (due : Due) → IsDue words contents due → IsAnyDue words due
-  rule words due (Bad_words none e) = inl (none, e)
-  rule words due (Bad_log day log is refusal bad e) = inr (day, log, is, inl (refusal, bad, e))
-  rule words due (Answered day log is records good answer of e) = inr (day, log, is, inr (records, good, answer, of, e))
+-- the minutes of a trial are those of the century
+whole_century : trial_asked.to ≤ century_minutes
+whole_century = omega arith
 
-  same_report : (day : ℕ) (a b : Answer) (x y : Due) → a ≡ b → x ≡ Report (day_window day) a no_duts → y ≡ Report (day_window day) b no_duts → x ≡ y
-  same_report day a b x y e f g = cc
+module _ (contents : ℕ → List ℕ) where
+  -- what is due for a good configuration
+  abbrev IsDueFor : BankOrder → PlainConfig → Due → Type 0
+  IsDueFor o config due =
+      ((refusal : Refusal) × IsFirstBad contents (logs_of config) refusal × (due ≡ dues.Refused refusal))
+      ⊎ ((records : List Records) × AreGood contents (logs_of config) records × IsTold o (bank_of config records) due)
 
-  same_refusal : (r s : Refusal) (x y : Due) → r ≡ s → x ≡ Refused r → y ≡ Refused s → x ≡ y
+  -- what is due where a bank is asked about
+  abbrev IsDueOfBank : BankOrder → Due → Type 0
+  IsDueOfBank o due =
+      ((refusal : Refusal) × IsBadConfiguration (contents configuration) refusal × (due ≡ dues.Refused refusal))
+      ⊎ ((config : PlainConfig) × IsConfiguration (contents configuration) config × IsDueFor o config due)
+
+  -- what is due for an order
+  abbrev IsDueOfOrder : Order → Due → Type 0
+  IsDueOfOrder (Encode station minute announced) due = due ≡ dues.Listing station minute announced
+  IsDueOfOrder (Trial number workers) due =
+      (answer : Answer) × IsBankAnswer (window_of trial_asked (trial_bank number).receivers) (trial_bank number) answer
+      × (due ≡ dues.Trial number (trial_station number) (trial_receivers number) (trial_sequence number) answer)
+  IsDueOfOrder order due = (o : BankOrder) × (bank_order order ≡ Some o) × IsDueOfBank o due
+
+  -- the rules by what words come to
+  abbrev IsDueBy : Checked Order → Due → Type 0
+  IsDueBy (Err fault) due = due ≡ dues.Refused (word_refusal fault)
+  IsDueBy (Ok order) due = IsDueOfOrder order due
+
+  of_bank : (order : Order) (o : BankOrder) (due : Due) → bank_order order ≡ Some o → IsDueOfBank o due → IsDueOfOrder order due
+  of_bank (Encode station minute announced) o due e h = absurd cc
+  of_bank (Trial number workers) o due e h = absurd cc
+  of_bank order o due e h = (o, e, h)
+
+  asked : (words : List (List ℕ)) (o : BankOrder) (due : Due) → AsksBank words o → IsDueOfBank o due → IsDueBy (order_in words) due
+  asked words o due asks h = subst (λ (c : Checked Order). IsDueBy c due) (sym asks.1) (of_bank asks.0 o due asks.2 h)
+
+  rule : (words : List (List ℕ)) (due : Due) → IsDue words contents due → IsDueBy (order_in words) due
+  rule words due (Bad_words fault is e) = subst (λ (c : Checked Order). IsDueBy c due) (sym is) e
+  rule words due (Listed station minute announced is e) = subst (λ (c : Checked Order). IsDueBy c due) (sym is) e
+  rule words due (Tried number workers is answer of e) = subst (λ (c : Checked Order). IsDueBy c due) (sym is) (answer, of, e)
+  rule words due (Bad_configuration o asks refusal bad e) = asked words o due asks (inl (refusal, bad, e))
+  rule words due (Bad_log o asks config is refusal bad e) = asked words o due asks (inr (config, is, inl (refusal, bad, e)))
+  rule words due (Answered o asks config is records good told) = asked words o due asks (inr (config, is, inr (records, good, told)))
+
+  -- one thing is due
+  same_refusal : (r s : Refusal) (x y : Due) → r ≡ s → x ≡ dues.Refused r → y ≡ dues.Refused s → x ≡ y
   same_refusal r s x y e f g = cc
 
-  one_head : (x y : Records) → x ∷ [] ≡ y ∷ [] → x ≡ y
-  one_head x y e = cc
+  same_told : (o : BankOrder) (bank : Bank) (a b : Answer) (x y : Due) → a ≡ b → x ≡ told_of o.as_feed (window_of o.asked bank.receivers) bank a
+      → y ≡ told_of o.as_feed (window_of o.asked bank.receivers) bank b → x ≡ y
+  same_told o bank a b x y e f g = f ∙ ap (told_of o.as_feed (window_of o.asked bank.receivers) bank) e ∙ sym g
 
-  one_due_for : (day : ℕ) (log : List ℕ) (a b : Due) → day < century_days → IsDueFor day log a → IsDueFor day log b → a ≡ b
-  one_due_for day log a b century (inl h) (inl k) =
-      same_refusal h.0 k.0 a b (first_bad_once contents (day_logs log) h.0 k.0 h.1 k.1) h.2 k.2
-  one_due_for day log a b century (inl h) (inr k) = absurd (all_good_none_bad contents (day_logs log) (k.0 ∷ []) h.0 k.1 h.1)
-  one_due_for day log a b century (inr h) (inl k) = absurd (all_good_none_bad contents (day_logs log) (h.0 ∷ []) k.0 h.1 k.1)
-  one_due_for day log a b century (inr h) (inr k) =
-      let same = one_head h.0 k.0 (all_good_once contents (day_logs log) (h.0 ∷ []) (k.0 ∷ []) h.1 k.1) in
-      same_report day h.2 k.2 a b (day_answer_is_one day k.0 h.2 k.2 century (subst (λ r. IsDayAnswer day r h.2) same h.3) k.3) h.4 k.4
+  one_told : (o : BankOrder) (bank : Bank) (x y : Due) → o.asked.to ≤ century_minutes → IsTold o bank x → IsTold o bank y → x ≡ y
+  one_told o bank x y century h k =
+      same_told o bank h.0 k.0 x y (bank_answer_is_one o.asked bank h.0 k.0 century h.1 k.1) h.2 k.2
 
-  one_due : (words : List (List ℕ)) (a b : Due) → IsAnyDue words a → IsAnyDue words b → a ≡ b
-  one_due words a b (inl h) (inl k) = h.1 ∙ sym k.1
-  one_due words a b (inl h) (inr k) = absurd (h.0 k.0 k.1 k.2)
-  one_due words a b (inr h) (inl k) = absurd (k.0 h.0 h.1 h.2)
-  one_due words a b (inr h) (inr k) =
-      let same = words_are_one words h.0 k.0 h.1 k.1 h.2 k.2 in
-      one_due_for k.0 k.1 a b k.2.of_century (subst (λ l. IsDueFor k.0 l a) same.1 (subst (λ d. IsDueFor d h.1 a) same.0 h.3)) k.3
+  one_due_for : (o : BankOrder) (config : PlainConfig) (x y : Due) → o.asked.to ≤ century_minutes → IsDueFor o config x → IsDueFor o config y → x ≡ y
+  one_due_for o config x y century (inl h) (inl k) =
+      same_refusal h.0 k.0 x y (first_bad_once contents (logs_of config) h.0 k.0 h.1 k.1) h.2 k.2
+  one_due_for o config x y century (inl h) (inr k) = absurd (all_good_none_bad contents (logs_of config) k.0 h.0 k.1 h.1)
+  one_due_for o config x y century (inr h) (inl k) = absurd (all_good_none_bad contents (logs_of config) h.0 k.0 h.1 k.1)
+  one_due_for o config x y century (inr h) (inr k) =
+      let same = all_good_once contents (logs_of config) h.0 k.0 h.1 k.1 in
+      one_told o (bank_of config k.0) x y century (subst (λ (all : List Records). IsTold o (bank_of config all) x) same h.2) k.2
 
-  some_due_for : (words : List (List ℕ)) (day : ℕ) (log : List ℕ) → IsDecode words day log → AreJudged contents (day_logs log) → (due : Due) × IsDue words contents due
-  some_due_for words day log is (inl ([], good)) = absurd good
-  some_due_for words day log is (inl (records ∷ [], good)) =
-      let (answer, of) = day_has_answer day records is.of_century in
-      (Report (day_window day) answer no_duts, Answered day log is records good answer of refl)
-  some_due_for words day log is (inl (records ∷ more ∷ rest, good)) = let e = good.1 in cc
-  some_due_for words day log is (inr (refusal, bad)) = (Refused refusal, Bad_log day log is refusal bad refl)
+  one_due_of_bank : (o : BankOrder) (x y : Due) → o.asked.to ≤ century_minutes → IsDueOfBank o x → IsDueOfBank o y → x ≡ y
+  one_due_of_bank o x y century (inl h) (inl k) =
+      same_refusal h.0 k.0 x y (configurations.one_refusal (contents configuration) h.0 k.0 h.1 k.1) h.2 k.2
+  one_due_of_bank o x y century (inl h) (inr k) = absurd (configurations.not_both (contents configuration) k.0 h.0 k.1 h.1)
+  one_due_of_bank o x y century (inr h) (inl k) = absurd (configurations.not_both (contents configuration) h.0 k.0 h.1 k.1)
+  one_due_of_bank o x y century (inr h) (inr k) =
+      let same = configurations.one_configuration (contents configuration) h.0 k.0 h.1 k.1 in
+      one_due_for o k.0 x y century (subst (λ config. IsDueFor o config x) same h.2) k.2
 
-pub due_is_one : (words : List (List ℕ)) (contents : List ℕ → List ℕ) (a b : Due) → IsDue words contents a → IsDue words contents b → a ≡ b
-due_is_one words contents a b x y = one_due contents words a b (rule contents words a x) (rule contents words b y)
+  same_order : {A : Type 0} (a b : A) (found : Option A) → found ≡ Some a → found ≡ Some b → a ≡ b
+  same_order a b found e f = cc
 
-pub something_is_due : (words : List (List ℕ)) (contents : List ℕ → List ℕ) → (due : Due) × IsDue words contents due
-something_is_due words contents =
-    elim (decide_words words) [
-      | inl h ↦ some_due_for contents words h.0 h.1 h.2 (all_judged contents (day_logs h.1))
-      | inr none ↦ (Refused WordsUsage, Bad_words (λ day log is. none (day, log, is)) refl)
-    ]
+  same_trial : (number : ℕ) (a b : Answer) (x y : Due) → a ≡ b
+      → x ≡ dues.Trial number (trial_station number) (trial_receivers number) (trial_sequence number) a
+      → y ≡ dues.Trial number (trial_station number) (trial_receivers number) (trial_sequence number) b → x ≡ y
+  same_trial number a b x y e f g = cc
 
--- a day has an answer, so it isn't due that there is none
-answered : (day : ℕ) (records : Records) (answer : Answer) → day < century_days → IsDayAnswer day records answer → answer_status answer ≢ statuses.Nothing
-answered day records (answers.Decided cost q next) century is e = cc
-answered day records (answers.Undecided cost q r) century is e = cc
-answered day records answers.Nothing century is e =
-    let (a, of, some) = day_is_answered day records century in some (day_answer_is_one day records a answers.Nothing century of is)
+  abbrev InCentury : Order → Type 0
+  InCentury order = (o : BankOrder) → bank_order order ≡ Some o → o.asked.to ≤ century_minutes
 
-refused : (refusal : Refusal) → refusal_status refusal ≢ statuses.Nothing
-refused WordsUsage e = cc
-refused (WordsBad option) e = cc
-refused WordsEmptyRange e = cc
-refused ConfigTooLarge e = cc
-refused ConfigNotToml e = cc
-refused (ConfigMissing key receiver) e = cc
-refused (ConfigWrongKind key receiver) e = cc
-refused (ConfigOutOfRange key receiver) e = cc
-refused ConfigUnknownKey e = cc
-refused (LogTooLarge receiver name) e = cc
-refused (LogLine receiver name line fault) e = cc
+  one_due_of_order : (order : Order) (x y : Due) → InCentury order → IsDueOfOrder order x → IsDueOfOrder order y → x ≡ y
+  one_due_of_order (Encode station minute announced) x y century h k = h ∙ sym k
+  one_due_of_order (Trial number workers) x y century h k =
+      same_trial number h.0 k.0 x y (bank_answer_is_one trial_asked (trial_bank number) h.0 k.0 whole_century h.1 k.1) h.2 k.2
+  one_due_of_order order x y century h k =
+      let same = same_order h.0 k.0 (bank_order order) h.1 k.1 in
+      one_due_of_bank k.0 x y (century k.0 k.1) (subst (λ o. IsDueOfBank o x) same h.2) k.2
 
-pub nothing_is_never_due : (words : List (List ℕ)) (contents : List ℕ → List ℕ) (due : Due) → IsDue words contents due → status_of due ≢ statuses.Nothing
-nothing_is_never_due words contents due (Bad_words none is) e = refused WordsUsage (ap status_of (sym is) ∙ e)
-nothing_is_never_due words contents due (Bad_log day log of refusal bad is) e = refused refusal (ap status_of (sym is) ∙ e)
-nothing_is_never_due words contents due (Answered day log of records good answer found is) e =
-    answered day records answer of.of_century found (ap status_of (sym is) ∙ e)
+  one_due_by : (words : List (List ℕ)) (c : Checked Order) → order_in words ≡ c → (x y : Due) → IsDueBy c x → IsDueBy c y → x ≡ y
+  one_due_by words (Err fault) is x y h k = h ∙ sym k
+  one_due_by words (Ok order) is x y h k =
+      one_due_of_order order x y (λ o e. (asked_of_bank words o (order, is, e)).century) h k
 
--- the log is read, and nothing else
-pub log_is_read : (words : List (List ℕ)) (contents : List ℕ → List ℕ) (day : ℕ) (log : List ℕ) → IsDecode words day log → IsRead words contents log
-log_is_read words contents day log is = Reads_log day log is (inl refl)
+  pub one_due : (words : List (List ℕ)) (x y : Due) → IsDue words contents x → IsDue words contents y → x ≡ y
+  one_due words x y h k = one_due_by words (order_in words) refl x y (rule words x h) (rule words y k)
 
-pub only_log_is_read : (words : List (List ℕ)) (contents : List ℕ → List ℕ) (day : ℕ) (log file : List ℕ) → IsDecode words day log → IsRead words contents file → file ≡ log
-only_log_is_read words contents day log file is (Reads_log other named also (inl e)) = e ∙ sym (words_are_one words day other log named is also).1
-only_log_is_read words contents day log file is (Reads_log other named also (inr more)) = absurd more.2
+  -- something is due
+  bank_owes : (words : List (List ℕ)) (o : BankOrder) → AsksBank words o → (due : Due) × IsDue words contents due
+  bank_owes words o asks = by_text (configurations.text_has_outcome (contents configuration))
+    where
+      by_logs : (config : PlainConfig) → IsConfiguration (contents configuration) config → AreJudged contents (logs_of config) → (due : Due) × IsDue words contents due
+      by_logs config is (inr bad) = (dues.Refused bad.0, Bad_log o asks config is bad.0 bad.1 refl)
+      by_logs config is (inl good) =
+          let bank = bank_of config good.0 in
+          let found = bank_has_answer o.asked bank (asked_of_bank words o asks).century in
+          (told_of o.as_feed (window_of o.asked bank.receivers) bank found.0, Answered o asks config is good.0 good.1 (found.0, found.1, refl))
+
+      by_text : configurations.HasOutcome (contents configuration) → (due : Due) × IsDue words contents due
+      by_text (inr bad) = (dues.Refused bad.0, Bad_configuration o asks bad.0 bad.1 refl)
+      by_text (inl good) = by_logs good.0 good.1 (all_judged contents (logs_of good.0))
+
+  order_owes : (words : List (List ℕ)) (order : Order) → order_in words ≡ Ok order → built order ≡ Ok order → is_run_order order ≡ true → (due : Due) × IsDue words contents due
+  order_owes words (Decode config asked workers certificate) is made run =
+      bank_owes words (record { config = config; asked = asked; as_feed = false }) (Decode config asked workers certificate, is, refl)
+  order_owes words (Feed config asked workers) is made run =
+      bank_owes words (record { config = config; asked = asked; as_feed = true }) (Feed config asked workers, is, refl)
+  order_owes words (Encode station minute announced) is made run = (dues.Listing station minute announced, Listed station minute announced is refl)
+  order_owes words (Trial number workers) is made run =
+      let found = bank_has_answer trial_asked (trial_bank number) whole_century in
+      (dues.Trial number (trial_station number) (trial_receivers number) (trial_sequence number) found.0, Tried number workers is found.0 found.1 refl)
+  order_owes words (Check config certificate asked) is made run = absurd cc
+  order_owes words order is made run = absurd cc
+
+  pub some_due : (words : List (List ℕ)) → (due : Due) × IsDue words contents due
+  some_due words = by_order (order_in words) refl
+    where
+      by_order : (c : Checked Order) → order_in words ≡ c → (due : Due) × IsDue words contents due
+      by_order (Err fault) is = (dues.Refused (word_refusal fault), Bad_words fault is refl)
+      by_order (Ok order) is = order_owes words order is (is_built words order is).1 (is_run words order is)

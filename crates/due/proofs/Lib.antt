@@ -1,4 +1,10 @@
 pub mod WordLaws
 pub mod LogFileLaws
-pub mod DayLaws
+pub mod ConfigurationLaws
 pub mod DueLaws
+pub mod ReadLaws
+pub mod FileLaws
+pub mod WindowLaws
+pub mod StationLaws
+pub mod StatusLaws
+pub mod ExampleLaws

@@ -1,42 +1,59 @@
--- Words ask for one thing, or for nothing.
-use Rattle.std.proofs.Common.{◌≡◌, ℕ, ◌<◌, ◌⊎◌, inl, inr, List, [], ◌∷◌, codes, sym, subst}
-use Rattle.std.proofs.lemmas.Bool.{cases_eq}
-use Rattle.definitions.specs.time.Calendar.{day_at, century_days}
-use Rattle.definitions.specs.time.Spelling.{dash, day_text}
-use Rattle.definitions.proofs.DateLaws.{days_differ}
-use Rattle.definitions.proofs.ExistLaws.{Decided, decide_both, decide_some}
-use Rattle.formats.proofs.LineLaws.{decide_bytes}
-use Rattle.due.specs.Words.{IsDecode, IsFileWord}
+-- What accepted words ask for: an order of a run, in its ranges; and of a bank one thing.
+use Rattle.std.proofs.Common.{◌≡◌, true, List, ℕ, Some, None, Result, Ok, ◌∙◌, ap, subst}
+use Rattle.formats.specs.OrderRanges.{IsAsked, IsInRange, is_run_order}
+use Rattle.formats.specs.Orders.{Order, order_of}
+use Rattle.formats.specs.Orders.Order.{Decode, Check, Feed, Encode, Trial, Follow, Sweep, Judge, Board, Irig, IrigRead}
+use Rattle.formats.specs.Words.{run_commands}
+use Rattle.formats.proofs.OrderRangeLaws.{along, order_in_range, run_order}
+use Rattle.due.specs.Orders.{BankOrder, bank_order, built, order_in}
+use Rattle.due.specs.Rules.{AsksBank}
 
-second_and_third : {X : Type 0} (xs : List X) (k a b c d : X) → xs ≡ k ∷ a ∷ b ∷ [] → xs ≡ k ∷ c ∷ d ∷ [] → (a ≡ c) × (b ≡ d)
-second_and_third xs k a b c d e f = (cc, cc)
+-- an order that is built stays as it is
+built_keeps : (o order : Order) → built o ≡ Ok order → o ≡ order
+built_keeps (Decode config asked workers None) order e = cc
+built_keeps (Decode config asked workers (Some certificate)) order e = absurd cc
+built_keeps (Check config certificate asked) order e = absurd cc
+built_keeps (Feed config asked workers) order e = cc
+built_keeps (Encode station minute leap) order e = cc
+built_keeps (Trial number workers) order e = cc
+built_keeps (Follow config asked workers step count) order e = cc
+built_keeps (Sweep config asked workers certificate) order e = cc
+built_keeps (Judge config certificate asked) order e = cc
+built_keeps (Board config queries asked workers step count readers) order e = cc
+built_keeps (Irig config asked workers) order e = cc
+built_keeps (IrigRead file) order e = cc
 
--- words name one day and one file
-pub words_are_one : (words : List (List ℕ)) (m n : ℕ) (log other : List ℕ) → IsDecode words m log → IsDecode words n other → (m ≡ n) × (log ≡ other)
-words_are_one words m n log other is also =
-    let same = second_and_third words _ _ _ _ _ is.words_are also.words_are in
-    (days_differ m n is.of_century also.of_century same.0, same.1)
+-- accepted words give an order that is built
+pub is_built : (words : List (List ℕ)) (order : Order) → order_in words ≡ Ok order → (order_of run_commands words ≡ Ok order) × (built order ≡ Ok order)
+is_built words order e =
+    along (order_of run_commands words) built order e (λ o is made.
+    let same = built_keeps o order made in
+    (is ∙ ap Ok same, subst (λ p. built p ≡ Ok order) same made))
 
--- that they do can be decided
-decide_file : (word : List ℕ) → Decided (IsFileWord word)
-decide_file [] = inr (λ h. h)
-decide_file (b ∷ bs) = elim (cases_eq b dash) [ inl e ↦ inr (λ h. h e) | inr n ↦ inl n ]
+pub in_range : (words : List (List ℕ)) (order : Order) → order_in words ≡ Ok order → IsInRange order
+in_range words order e = order_in_range run_commands words order (is_built words order e).0
 
-three_words : (a b c : List ℕ) → Decided ((day : ℕ) × (log : List ℕ) × IsDecode (a ∷ b ∷ c ∷ []) day log)
-three_words a b c =
-    put (decide_both (decide_bytes a (codes "decode")) (decide_both (decide_some (λ day. b ≡ day_text (day_at day)) (λ day. decide_bytes b (day_text (day_at day))) century_days) (decide_file c)))
-  where
-    put : Decided ((a ≡ codes "decode") × (((day : ℕ) × (day < century_days) × (b ≡ day_text (day_at day))) × IsFileWord c))
-        → Decided ((day : ℕ) × (log : List ℕ) × IsDecode (a ∷ b ∷ c ∷ []) day log)
-    put (inl h) = let day = h.1.0.2 in let command = h.0 in inl (h.1.0.0, c, record { words_are = cc; of_century = h.1.0.1; file = h.1.1 })
-    put (inr not) = inr (λ h.
-        let e = h.2.words_are in
-        let file : c ≡ h.1 = cc in
-        not (cc, ((h.0, h.2.of_century, cc), subst IsFileWord (sym file) h.2.file)))
+pub is_run : (words : List (List ℕ)) (order : Order) → order_in words ≡ Ok order → is_run_order order ≡ true
+is_run words order e = run_order words order (is_built words order e).0
 
-pub decide_words : (words : List (List ℕ)) → Decided ((day : ℕ) × (log : List ℕ) × IsDecode words day log)
-decide_words [] = inr (λ h. let e = h.2.words_are in cc)
-decide_words (a ∷ []) = inr (λ h. let e = h.2.words_are in cc)
-decide_words (a ∷ b ∷ []) = inr (λ h. let e = h.2.words_are in cc)
-decide_words (a ∷ b ∷ c ∷ []) = three_words a b c
-decide_words (a ∷ b ∷ c ∷ d ∷ rest) = inr (λ h. let e = h.2.words_are in cc)
+-- the minutes that are asked for are of the century
+some_same : {A : Type 0} (a b : A) → Some a ≡ Some b → a ≡ b
+some_same a b e = cc
+
+asked_by : (order : Order) (o : BankOrder) → IsInRange order → bank_order order ≡ Some o → IsAsked o.asked
+asked_by (Decode config asked workers certificate) o r e = subst (λ (b : BankOrder). IsAsked b.asked) (some_same _ _ e) r.1
+asked_by (Feed config asked workers) o r e = subst (λ (b : BankOrder). IsAsked b.asked) (some_same _ _ e) r.1
+asked_by other o r e = absurd cc
+
+pub asked_of_bank : (words : List (List ℕ)) (o : BankOrder) → AsksBank words o → IsAsked o.asked
+asked_of_bank words o asks = asked_by asks.0 o (in_range words asks.0 asks.1) asks.2
+
+-- what is asked of a bank is one thing
+same_order : (a b : Order) (o p : BankOrder) → a ≡ b → bank_order a ≡ Some o → bank_order b ≡ Some p → o ≡ p
+same_order a b o p e f g = cc
+
+ok_same : {A B : Type 0} (a b : A) (c : Result A B) → c ≡ Ok a → c ≡ Ok b → a ≡ b
+ok_same a b c e f = cc
+
+pub bank_order_is_one : (words : List (List ℕ)) (o p : BankOrder) → AsksBank words o → AsksBank words p → o ≡ p
+bank_order_is_one words o p a b = same_order a.0 b.0 o p (ok_same a.0 b.0 (order_in words) a.1 b.1) a.2 b.2

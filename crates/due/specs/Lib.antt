@@ -1,6 +1,8 @@
-pub mod Words
+pub mod Orders
 pub mod LogFiles
-pub mod Days
+pub mod Configurations
+pub mod Banks
+pub mod Trials
 pub mod Status
 pub mod Dues
 pub mod Rules

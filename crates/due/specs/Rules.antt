@@ -1,25 +1,66 @@
--- The rules of what a run owes for its words, where contents are the bytes of each file; and which files it reads.
-use Rattle.std.specs.Prelude.{ℕ, ◌≡◌, List, [], ◌∷◌}
+-- The rules of what a run owes for its words and for the bytes that it reads; and which files it reads.
+-- What is read is given by number: 0 for the configuration, and for the log of a receiver the number of that, from 1.
+use Rattle.std.specs.Prelude.{ℕ, ◌≡◌, Bool, true, List, Some, Ok, Err}
+use Rattle.signal_base.specs.declared.station.Station.{Station}
+use Rattle.signal_base.specs.declared.window.Window.{Window}
 use Rattle.definitions.specs.declared.answer.Answer.{Answer}
+use Rattle.definitions.specs.declared.answer.Answer.TheVariants as answers
 use Rattle.definitions.specs.heard.Logs.{Records}
+use Rattle.formats.specs.declared.words.WordFault.{WordFault}
 use Rattle.formats.specs.declared.refusal.Refusal.{Refusal}
-use Rattle.formats.specs.declared.refusal.Refusal.TheVariants.{WordsUsage}
+use Rattle.formats.specs.Orders.{Order}
+use Rattle.formats.specs.Orders.Order.{Encode, Trial}
+use Rattle.bank_config.specs.Configuration.{PlainConfig}
+use Rattle.trial_log.specs.Trials.{trial_receivers, trial_sequence, trial_station}
 use Rattle.due.specs.declared.due.Due.{Due}
-use Rattle.due.specs.declared.due.Due.TheVariants.{Refused, Report}
-use Rattle.due.specs.Words.{IsDecode}
+use Rattle.due.specs.declared.due.Due.TheVariants as dues
+use Rattle.due.specs.Banks.{Bank, IsBankAnswer, bank_of, duts_of, window_of}
+use Rattle.due.specs.Configurations.{IsBadConfiguration, IsConfiguration, logs_of}
 use Rattle.due.specs.LogFiles.{AreGood, IsFirstBad, IsLogRead}
-use Rattle.due.specs.Days.{day_logs, day_window, no_duts, IsDayAnswer}
+use Rattle.due.specs.Orders.{BankOrder, bank_order, order_in, word_refusal}
+use Rattle.due.specs.Trials.{trial_asked, trial_bank}
 
--- This is due, by the first rule that fits: words that ask for nothing, a bad log, and the report of the answer.
-pub data IsDue (words : List (List ℕ)) (contents : List ℕ → List ℕ) (due : Due) : Type 0 where
-  Bad_words : ((day : ℕ) (log : List ℕ) → ¬ (IsDecode words day log)) → due ≡ Refused WordsUsage → IsDue words contents due
-  Bad_log : (day : ℕ) → (log : List ℕ) → IsDecode words day log
-      → (refusal : Refusal) → IsFirstBad contents (day_logs log) refusal → due ≡ Refused refusal → IsDue words contents due
-  Answered : (day : ℕ) → (log : List ℕ) → IsDecode words day log
-      → (records : Records) → AreGood contents (day_logs log) (records ∷ [])
-      → (answer : Answer) → IsDayAnswer day records answer
-      → due ≡ Report (day_window day) answer no_duts → IsDue words contents due
+-- the number as which the configuration is read
+abbrev pub configuration : ℕ
+configuration = 0
 
--- the run reads this file
-pub data IsRead (words : List (List ℕ)) (contents : List ℕ → List ℕ) (file : List ℕ) : Type 0 where
-  Reads_log : (day : ℕ) → (log : List ℕ) → IsDecode words day log → IsLogRead contents (day_logs log) file → IsRead words contents file
+-- how an answer is told: as its report, or where it is decided and a feed is asked for, as sentences
+abbrev pub told_of : Bool → Window → Bank → Answer → Due
+told_of true window bank (answers.Decided cost q next) = dues.Feed window q
+told_of as_feed window bank answer = dues.Report window answer (duts_of window bank answer)
+
+-- this is told of a bank for what is asked
+abbrev pub IsTold : BankOrder → Bank → Due → Type 0
+IsTold o bank due =
+    let window = window_of o.asked bank.receivers in
+    (answer : Answer) × IsBankAnswer window bank answer × (due ≡ told_of o.as_feed window bank answer)
+
+-- the words ask this of a bank
+abbrev pub AsksBank : List (List ℕ) → BankOrder → Type 0
+AsksBank words o = (order : Order) × (order_in words ≡ Ok order) × (bank_order order ≡ Some o)
+
+-- This is due, by the first rule that fits: refused words; a listing; a trial; and of a bank a refused configuration, the
+-- first refused log, and what is told of the answer.
+pub data IsDue (words : List (List ℕ)) (contents : ℕ → List ℕ) (due : Due) : Type 0 where
+  Bad_words : (fault : WordFault) → order_in words ≡ Err fault → due ≡ dues.Refused (word_refusal fault) → IsDue words contents due
+  Listed : (station : Station) → (minute : ℕ) → (announced : Bool) → order_in words ≡ Ok (Encode station minute announced)
+      → due ≡ dues.Listing station minute announced → IsDue words contents due
+  Tried : (number workers : ℕ) → order_in words ≡ Ok (Trial number workers)
+      → (answer : Answer) → IsBankAnswer (window_of trial_asked (trial_bank number).receivers) (trial_bank number) answer
+      → due ≡ dues.Trial number (trial_station number) (trial_receivers number) (trial_sequence number) answer → IsDue words contents due
+  Bad_configuration : (o : BankOrder) → AsksBank words o
+      → (refusal : Refusal) → IsBadConfiguration (contents configuration) refusal → due ≡ dues.Refused refusal → IsDue words contents due
+  Bad_log : (o : BankOrder) → AsksBank words o
+      → (config : PlainConfig) → IsConfiguration (contents configuration) config
+      → (refusal : Refusal) → IsFirstBad contents (logs_of config) refusal → due ≡ dues.Refused refusal → IsDue words contents due
+  Answered : (o : BankOrder) → AsksBank words o
+      → (config : PlainConfig) → IsConfiguration (contents configuration) config
+      → (records : List Records) → AreGood contents (logs_of config) records
+      → IsTold o (bank_of config records) due → IsDue words contents due
+
+-- the run reads this file as this number: the configuration, and the logs of a good one as long as all before them are good
+pub data IsRead (words : List (List ℕ)) (contents : ℕ → List ℕ) (number : ℕ) (file : List ℕ) : Type 0 where
+  Reads_configuration : (o : BankOrder) → AsksBank words o → number ≡ configuration → file ≡ o.config → IsRead words contents number file
+  Reads_log : (o : BankOrder) → AsksBank words o
+      → (config : PlainConfig) → IsConfiguration (contents configuration) config
+      → IsLogRead contents (logs_of config) number file → IsRead words contents number file

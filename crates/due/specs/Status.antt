@@ -1,10 +1,10 @@
 -- The number of each status.
 use Rattle.std.specs.Prelude.{ℕ}
 use Rattle.due.specs.declared.status.Status.{Status}
-use Rattle.due.specs.declared.status.Status.TheVariants.{Decided, Undecided, Nothing, BadWords, BadConfiguration, BadLog, Failed, NoMemory}
+use Rattle.due.specs.declared.status.Status.TheVariants.{Done, Undecided, Nothing, BadWords, BadConfiguration, BadLog, Failed, NoMemory}
 
 abbrev pub code_of : Status → ℕ
-code_of Decided = 0
+code_of Done = 0
 code_of Undecided = 1
 code_of Nothing = 2
 code_of BadWords = 3

@@ -1,68 +1,101 @@
 //! What follows from the rules of what is due: for all words and contents there is one text and one status.
 
-ghost use Rattle.std.specs.Prelude.{ℕ, ◌≡◌, ◌≢◌, ◌<◌, ◌⊎◌, List};
-ghost use Rattle.definitions.specs.declared.answer.Answer.{Answer};
-ghost use Rattle.definitions.specs.declared.answer.Answer.TheVariants.{Nothing};
-ghost use Rattle.definitions.specs.time.Calendar.{century_days};
+ghost use Rattle.std.specs.Prelude.{ℕ, ◌≡◌, ◌≢◌, ◌⊎◌, ◌↔◌, Bool, List, Some, Ok, Err};
+ghost use Rattle.signal_base.specs.declared.station.Station.{Station};
 ghost use Rattle.definitions.specs.heard.Logs.{Records};
+ghost use Rattle.formats.specs.OrderRanges.{IsAsked};
+ghost use Rattle.formats.specs.Orders.{order_of};
+ghost use Rattle.formats.specs.Orders.Order.{Check, Decode, Encode, Trial};
+ghost use Rattle.formats.specs.Words.{run_commands};
 ghost use Rattle.formats.specs.declared.refusal.Refusal.{Refusal};
+ghost use Rattle.formats.specs.declared.refusal.Refusal.TheVariants.{WordsUsage};
+ghost use Rattle.formats.specs.declared.words.Asked.{Asked};
+ghost use Rattle.formats.specs.declared.words.WordFault.{WordFault};
+ghost use Rattle.bank_config.specs.Configuration.{PlainConfig};
 ghost use Rattle.due.specs.declared.due.Due.{Due};
-ghost use Rattle.due.specs.declared.status.Status.TheVariants.{Nothing as NothingAdmitted};
-ghost use Rattle.due.specs.Days.{IsDayAnswer};
+ghost use Rattle.due.specs.declared.due.Due.TheVariants.{Refused};
+ghost use Rattle.due.specs.declared.status.Status.TheVariants.{Failed, NoMemory};
+ghost use Rattle.due.specs.Configurations.{IsBadConfiguration, IsConfiguration};
 ghost use Rattle.due.specs.Dues.{status_of};
 ghost use Rattle.due.specs.LogFiles.{AreGood, IsFirstBad, LogFile};
-ghost use Rattle.due.specs.Rules.{IsDue, IsRead};
-ghost use Rattle.due.specs.Words.{IsDecode};
+ghost use Rattle.due.specs.Orders.{BankOrder, order_in};
+ghost use Rattle.due.specs.Rules.{AsksBank, IsDue, IsRead, configuration};
 
 /// For all words and contents of files there is something due.
 pub fn something_is_due()
-    ensures { (words : List (List ℕ)) (contents : List ℕ → List ℕ) → (due : Due) × IsDue words contents due }
+    ensures { (words : List (List ℕ)) (contents : ℕ → List ℕ) → (due : Due) × IsDue words contents due }
 {}
 
 /// And there is only one thing due, so one text and one status.
 pub fn due_is_one()
-    ensures { (words : List (List ℕ)) (contents : List ℕ → List ℕ) (a b : Due)
+    ensures { (words : List (List ℕ)) (contents : ℕ → List ℕ) (a b : Due)
         → IsDue words contents a → IsDue words contents b → a ≡ b }
 {}
 
-/// A day has an answer for each log, and it isn't that nothing is admitted.
-pub fn day_is_answered()
-    ensures { (day : ℕ) (log : Records) → day < century_days → (a : Answer) × IsDayAnswer day log a × (a ≢ Nothing) }
+/// Where two contents agree on all that is read for the one, the same is due for both, and the same files are read.
+pub fn reads_decide()
+    ensures due { (words : List (List ℕ)) (some other : ℕ → List ℕ)
+        → ((number : ℕ) (file : List ℕ) → IsRead words some number file → some number ≡ other number)
+        → (due : Due) → IsDue words some due ↔ IsDue words other due }
+    ensures reads { (words : List (List ℕ)) (some other : ℕ → List ℕ)
+        → ((number : ℕ) (file : List ℕ) → IsRead words some number file → some number ≡ other number)
+        → (number : ℕ) (file : List ℕ) → IsRead words some number file ↔ IsRead words other number file }
 {}
 
-/// So no run ends with the status of an answer that admits nothing.
-pub fn nothing_is_never_due()
-    ensures { (words : List (List ℕ)) (contents : List ℕ → List ℕ) (due : Due) → IsDue words contents due → status_of due ≢ NothingAdmitted }
+/// Words that ask something of a bank read its configuration first, and as that nothing else; where it is bad, they read no
+/// log. Words that are refused, ask for a listing or ask for a trial read no file.
+pub fn configuration_is_read_first()
+    ensures read { (words : List (List ℕ)) (contents : ℕ → List ℕ) (o : BankOrder) → AsksBank words o → IsRead words contents configuration o.config }
+    ensures only { (words : List (List ℕ)) (contents : ℕ → List ℕ) (o : BankOrder) (file : List ℕ) → AsksBank words o
+        → IsRead words contents configuration file → file ≡ o.config }
+    ensures bad { (words : List (List ℕ)) (contents : ℕ → List ℕ) (o : BankOrder) (refusal : Refusal) (number : ℕ) (file : List ℕ) → AsksBank words o
+        → IsBadConfiguration (contents configuration) refusal → IsRead words contents number file → (number ≡ configuration) × (file ≡ o.config) }
+    ensures refused { (words : List (List ℕ)) (contents : ℕ → List ℕ) (fault : WordFault) (number : ℕ) (file : List ℕ)
+        → order_in words ≡ Err fault → ¬ (IsRead words contents number file) }
+    ensures listing { (words : List (List ℕ)) (contents : ℕ → List ℕ) (station : Station) (minute : ℕ) (announced : Bool) (number : ℕ) (file : List ℕ)
+        → order_in words ≡ Ok (Encode station minute announced) → ¬ (IsRead words contents number file) }
+    ensures trial { (words : List (List ℕ)) (contents : ℕ → List ℕ) (trial workers number : ℕ) (file : List ℕ)
+        → order_in words ≡ Ok (Trial trial workers) → ¬ (IsRead words contents number file) }
 {}
 
-/// A day has only one answer for a log.
-pub fn answer_is_one()
-    ensures { (day : ℕ) (log : Records) (a b : Answer) → day < century_days
-        → IsDayAnswer day log a → IsDayAnswer day log b → a ≡ b }
+/// Accepted words that ask something of a bank ask one thing, in its ranges.
+pub fn words_ask_one_thing()
+    ensures one { (words : List (List ℕ)) (a b : BankOrder) → AsksBank words a → AsksBank words b → a ≡ b }
+    ensures in_range { (words : List (List ℕ)) (o : BankOrder) → AsksBank words o → IsAsked o.asked }
 {}
 
-/// Words ask for one day and one log.
-pub fn words_are_one()
-    ensures { (words : List (List ℕ)) (m n : ℕ) (log other : List ℕ)
-        → IsDecode words m log → IsDecode words n other → (m ≡ n) × (log ≡ other) }
+/// That a file fails or memory runs out is never due.
+pub fn no_failure_is_due()
+    ensures failed { (due : Due) → status_of due ≢ Failed }
+    ensures memory { (due : Due) → status_of due ≢ NoMemory }
 {}
 
-/// A run reads the log that its words name, and no other file.
-pub fn one_file_is_read()
-    ensures log { (words : List (List ℕ)) (contents : List ℕ → List ℕ) (day : ℕ) (log : List ℕ) → IsDecode words day log → IsRead words contents log }
-    ensures only { (words : List (List ℕ)) (contents : List ℕ → List ℕ) (day : ℕ) (log file : List ℕ)
-        → IsDecode words day log → IsRead words contents file → file ≡ log }
+/// Words that speak of a certificate are refused: those of a check, and those of a decode that is asked for one.
+pub fn certificates_are_refused()
+    ensures check { (words : List (List ℕ)) (contents : ℕ → List ℕ) (config certificate : List ℕ) (asked : Asked)
+        → order_of run_commands words ≡ Ok (Check config certificate asked) → IsDue words contents (Refused WordsUsage) }
+    ensures decode { (words : List (List ℕ)) (contents : ℕ → List ℕ) (config certificate : List ℕ) (asked : Asked) (workers : ℕ)
+        → order_of run_commands words ≡ Ok (Decode config asked workers (Some certificate)) → IsDue words contents (Refused WordsUsage) }
+{}
+
+/// Each text is a configuration, and one only, or it is refused in one way.
+pub fn configuration_has_one_outcome()
+    ensures some { (bytes : List ℕ)
+        → ((config : PlainConfig) × IsConfiguration bytes config) ⊎ ((refusal : Refusal) × IsBadConfiguration bytes refusal) }
+    ensures one_configuration { (bytes : List ℕ) (a b : PlainConfig) → IsConfiguration bytes a → IsConfiguration bytes b → a ≡ b }
+    ensures one_refusal { (bytes : List ℕ) (a b : Refusal) → IsBadConfiguration bytes a → IsBadConfiguration bytes b → a ≡ b }
+    ensures not_both { (bytes : List ℕ) (config : PlainConfig) (refusal : Refusal) → IsConfiguration bytes config → ¬ (IsBadConfiguration bytes refusal) }
 {}
 
 /// Logs that are read in their order are all good, of one list of records each, or there is a first bad one, which is
 /// refused in one way.
 pub fn logs_have_one_outcome()
-    ensures some { (contents : List ℕ → List ℕ) (logs : List LogFile)
+    ensures some { (contents : ℕ → List ℕ) (logs : List LogFile)
         → ((all : List Records) × AreGood contents logs all) ⊎ ((refusal : Refusal) × IsFirstBad contents logs refusal) }
-    ensures one_list { (contents : List ℕ → List ℕ) (logs : List LogFile) (a b : List Records)
+    ensures one_list { (contents : ℕ → List ℕ) (logs : List LogFile) (a b : List Records)
         → AreGood contents logs a → AreGood contents logs b → a ≡ b }
-    ensures one_refusal { (contents : List ℕ → List ℕ) (logs : List LogFile) (a b : Refusal)
+    ensures one_refusal { (contents : ℕ → List ℕ) (logs : List LogFile) (a b : Refusal)
         → IsFirstBad contents logs a → IsFirstBad contents logs b → a ≡ b }
-    ensures not_both { (contents : List ℕ → List ℕ) (logs : List LogFile) (all : List Records) (refusal : Refusal)
+    ensures not_both { (contents : ℕ → List ℕ) (logs : List LogFile) (all : List Records) (refusal : Refusal)
         → AreGood contents logs all → ¬ (IsFirstBad contents logs refusal) }
 {}

@@ -3,19 +3,27 @@
 //! speak of, laws and worked examples.
 #![tactic(auto)]
 
+mod bank_laws;
 mod due;
 mod duts;
 mod examples;
 mod laws;
 mod status;
 
+pub use bank_laws::{
+    a_station_is_heard_where_a_receiver_listens, bank_has_one_answer,
+    the_order_of_receivers_does_not_matter, window_is_in_range,
+};
 pub use due::Due;
 pub use duts::{Duts, MOST_STATIONS};
 pub use examples::{
-    equal_times, numbers_of_statuses, window_of_a_day, words_for_nothing, words_of_a_day,
+    bad_configurations, bad_logs, bank_of_a_trial, first_times_of_logs, listings_that_are_due,
+    logs_of_two_receivers, numbers_of_statuses, stations_of_a_bank, statuses_of_what_is_due,
+    trial_that_is_due, what_is_asked, what_is_told, windows_of_a_bank, words_that_are_refused,
 };
 pub use laws::{
-    answer_is_one, day_is_answered, due_is_one, logs_have_one_outcome, nothing_is_never_due,
-    one_file_is_read, something_is_due, words_are_one,
+    certificates_are_refused, configuration_has_one_outcome, configuration_is_read_first,
+    due_is_one, logs_have_one_outcome, no_failure_is_due, reads_decide, something_is_due,
+    words_ask_one_thing,
 };
 pub use status::Status;

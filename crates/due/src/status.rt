@@ -6,8 +6,8 @@ ghost use Rattle.due.specs.Status.{code_of};
 /// How a run ended. After `Failed` and `NoMemory` the text that is due wasn't told, or not all of it.
 #[derive(Clone, Copy, Debug, PartialEq, Eq)]
 pub enum Status {
-    /// One sequence costs less than every other.
-    Decided,
+    /// One sequence costs less than every other, or a minute is listed.
+    Done,
     /// The two cheapest sequences cost the same.
     Undecided,
     /// No sequence is admitted.

@@ -1,3 +1,2 @@
 pub mod CommandLine
-pub mod Opened
-pub mod RealFiles
+pub mod Host

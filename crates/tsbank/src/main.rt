@@ -3,20 +3,31 @@
 #![tactic(auto)]
 
 mod command_line;
-mod failure;
+mod ending;
 #[cfg(test)]
 mod fake;
-mod files;
+#[cfg(test)]
+mod file_tests;
 mod machine;
 mod messages;
-mod opened;
+mod progress;
 #[cfg(test)]
 mod tests;
 
-use files::RealFiles;
-use messages::{explain, explain_no_words};
+use bank_files::Files;
+use command_line::HostLine;
+use ending::{exit_code, status_for};
+use machine::HostMachine;
+use machine_files::RealFiles;
+use messages::explain;
+use progress::Progress;
+use std::alloc::Global;
+use std::io::IsTerminal;
 use std::process::ExitCode;
+use std::rt::Clock;
+use std::thread::Threads;
 use std::{fs, rt};
+use workers::Gate;
 
 /// The status of a run whose words aren't in order.
 pub(crate) const WORDS_REFUSED: u8 = 3;
@@ -29,7 +40,8 @@ pub(crate) const NO_MEMORY: u8 = 7;
 
 fn main(rt: HostRuntime) -> ExitCode {
     let _held = (hold(&rt), hold(&rt), hold(&rt));
-    ExitCode::from(status(&rt))
+    let progress = Progress::new(&rt, rt.stderr().is_terminal());
+    exit_code(status(&rt, &rt, &progress))
 }
 
 // Opens a file that takes nothing, so that its number is taken. Where a standard stream was closed, a file that
@@ -38,21 +50,42 @@ fn hold<R: rt::Files>(rt: &R) -> Option<R::File> {
     fs::open(rt, "/dev/null").ok()
 }
 
-// The status that the run ends with. Where the words can't be had, nothing is printed.
-pub(crate) fn status<R: rt::Files + rt::Env + Print + Eprint + AllocGlobal>(rt: &R) -> u8 {
-    match command_line::words(rt) {
-        Ok(words) => run(rt, &words),
-        Err(why) => {
-            explain_no_words(rt, why);
-            why.status()
-        }
-    }
+// The status that the program ends with. The workers of a search run on `rt`; the words, the files and both streams are
+// the host's. In `main` the two are one.
+pub(crate) fn status<
+    R: Threads + Sync,
+    H: rt::Files + rt::Env + Print + Eprint + AllocGlobal,
+    S: Clock + Eprint + Sync,
+>(rt: &R, host: &H, progress: &Progress<'_, S>) -> u8 {
+    status_for(
+        host.alloc(),
+        &HostLine(host),
+        host,
+        |words| run(rt, host, &words, progress),
+    )
 }
 
 // The status that a run for these words ends with.
-fn run<R: rt::Files + Print + Eprint + AllocGlobal>(rt: &R, words: &[String]) -> u8 {
-    let mut files = RealFiles::new(rt);
-    let status = bank::run(rt.alloc(), words, &mut files);
-    explain(rt, status, files.failure());
+fn run<R: Threads + Sync, H: rt::Files + Print + Eprint + AllocGlobal, S: Clock + Eprint + Sync>(
+    rt: &R,
+    host: &H,
+    words: &[String],
+    progress: &Progress<'_, S>,
+) -> u8 {
+    let mut files = RealFiles::new(host.alloc(), HostMachine::new(host));
+    let status = answer(rt, host.alloc(), words, &mut files, progress);
+    progress.end();
+    explain(host, status, files.failure());
     status
+}
+
+// The program's one call of `bank`.
+fn answer<R: Threads + Sync, F: Files, G: Gate + Sync>(
+    rt: &R,
+    alloc: Global,
+    words: &[String],
+    files: &mut F,
+    gate: &G,
+) -> u8 {
+    bank::run(rt, alloc, words, files, gate)
 }

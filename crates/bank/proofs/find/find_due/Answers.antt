@@ -1,26 +1,61 @@
--- What is due is found by the bytes that were read, or by their number.
-use Rattle.std.proofs.Common.{ℕ, List, Err, inl, refl, ap}
-use Rattle.formats.specs.declared.limits.TheConstants.{LOG_LIMIT}
-use Rattle.formats.specs.declared.refusal.Refusal.TheVariants.{LogTooLarge}
-use Rattle.due.specs.LogFiles.{Too_large}
-use Rattle.due.specs.Rules.{Bad_log}
-use Rattle.bank.proofs.EndingLaws.{found_for, large_bytes, read_is}
+-- What is due for what is asked.
+use Rattle.std.proofs.Common.{ℕ, List, ◌∙◌, subst}
+use Rattle.std.proofs.lemmas.Result.{IfOk-weaker}
+use Rattle.bank_config.specs.Configuration.{plain_config, plain_receiver}
+use Rattle.due.specs.declared.due.Due.{Due}
+use Rattle.due.specs.Banks.{bank_of}
+use Rattle.bank.specs.declared.loading.Unloaded.{Unloaded}
+use Rattle.bank.specs.declared.words.Task.{Task}
+use Rattle.bank.specs.Finding.{IsFound, IsTried}
+use Rattle.bank.specs.Hearing.{bank_seen}
+use Rattle.bank.specs.Loading.{IsNotLoaded}
+use Rattle.bank.specs.Tasks.{Asks}
+use Rattle.bank.proofs.FindingLaws.{answer_found, failure_found, listing_found, refusal_found, trial_found}
+use Rattle.bank.proofs.LogListLaws.{length_map}
+use Rattle.bank.proofs.RunLaws.{good_length, verdict_told}
 use Rattle.bank.proofs.find.find_due.Goals as goal
 
-pub returns-in-Ok-clause-due : goal.returns-in-Ok-clause-due
-returns-in-Ok-clause-due g c =
-    let old = g.F.Files.view c.args.files.now in
-    let log = c.args.order.now.log.now in
-    found_for old c.args.order.now.day log c.in-Ok.bytes.items c.as_slice.result.now c.due_for.result c.as_slice.ensures.value
-    (read_is (old.told log) c.in-Ok.bytes.items LOG_LIMIT c.in-Ok.ensures.whole) c.due_for.ensures.due
+pub bank_of-requires-clause-logs : goal.bank_of-requires-clause-logs
+bank_of-requires-clause-logs g c =
+    let loaded = c.in-Ok.ensures.loaded in
+    let rs = c.in-Ok.loaded.config.receivers.items in
+    good_length loaded.0 1 (plain_config c.in-Ok.loaded.config).receivers c.in-Ok.loaded.logs.items loaded.1.good ∙ length_map plain_receiver rs
 
-pub returns-in-Err-TooLarge-clause-due : goal.returns-in-Err-TooLarge-clause-due
-returns-in-Err-TooLarge-clause-due g c =
+pub returns-in-List-clause-due : goal.returns-in-List-clause-due
+returns-in-List-clause-due g c = λ words asks.
+    let l = c.in-List in
+    listing_found (g.F.Files.view c.args.files.now) words l.station l.minute l.announced (subst (λ (t : Task). Asks words t) l.is asks)
+
+pub returns-in-Try-clause-due : goal.returns-in-Try-clause-due
+returns-in-Try-clause-due g c =
+    let t = c.in-Try in
     let old = g.F.Files.view c.args.files.now in
-    let large = large_bytes LOG_LIMIT (old.told c.args.order.now.log.now) (c.in-Err-TooLarge.ensures.too_large (ap Err c.in-Err-TooLarge.field-0-is)) in (
-      large.0,
-      large.1,
-      λ words log is.
-          Bad_log c.args.order.now.day log is (LogTooLarge 1 c.new.result)
-          (inl (Too_large large.2 (ap (λ (n : List ℕ). LogTooLarge 1 n) c.new.ensures))) refl,
-    )
+    IfOk-weaker c.trial_due.result (IsTried t.number) (λ (due : Due). (words : List (List ℕ)) → Asks words c.args.task.now → IsFound old words due)
+    (λ due is words asks. trial_found old words t.number t.workers due (subst (λ (task : Task). Asks words task) t.is asks) is) c.trial_due.ensures.due
+
+pub returns-in_ok-verdict-in-Ok-clause-due : goal.returns-in_ok-verdict-in-Ok-clause-due
+returns-in_ok-verdict-in-Ok-clause-due g c = λ words asks.
+    let d = c.in-Decode in
+    let seen = bank_seen c.in_ok-bank-in-Ok.bank in
+    let verdict = c.in_ok-verdict-in-Ok.verdict in
+    let is = c.in_ok-verdict-in-Ok.ensures.verdict in
+    answer_found words (record { config = d.config.now; asked = d.asked; as_feed = d.as_feed }) (subst (λ (t : Task). Asks words t) d.is asks)
+    (g.F.Files.view c.args.files.now) (plain_config c.in-Ok.loaded.config) c.in-Ok.loaded.logs.items c.told_of.result c.in-Ok.ensures.loaded
+    (verdict_told (record { config = d.config.now; asked = d.asked; as_feed = d.as_feed }) (bank_of (plain_config c.in-Ok.loaded.config) c.in-Ok.loaded.logs.items) seen verdict c.told_of.result
+    c.in_ok-bank-in-Ok.ensures.bank is (c.told_of.ensures.told seen is.duts_are))
+
+pub returns-in-Refused-clause-due : goal.returns-in-Refused-clause-due
+returns-in-Refused-clause-due g c = λ words asks.
+    let d = c.in-Decode in
+    let old = g.F.Files.view c.args.files.now in
+    let new = g.F.Files.view c.load.new.files in
+    refusal_found words (record { config = d.config.now; asked = d.asked; as_feed = d.as_feed }) (subst (λ (t : Task). Asks words t) d.is asks) old c.in-Refused.refusal
+    (subst (λ (why : Unloaded). IsNotLoaded old new d.config.now why) c.in-Refused.is c.in-Err.ensures.not_loaded).0
+
+pub returns-in-Failed-clause-failed : goal.returns-in-Failed-clause-failed
+returns-in-Failed-clause-failed g c = λ e words asks.
+    let d = c.in-Decode in
+    let old = g.F.Files.view c.args.files.now in
+    let new = g.F.Files.view c.load.new.files in
+    failure_found words (record { config = d.config.now; asked = d.asked; as_feed = d.as_feed }) (subst (λ (t : Task). Asks words t) d.is asks) old new
+    (subst (λ (why : Unloaded). IsNotLoaded old new d.config.now why) c.in-Failed.is c.in-Err.ensures.not_loaded)

@@ -1,6 +1,6 @@
--- The law, from its lemma.
-use Rattle.due.proofs.DueLaws.{due_is_one}
+-- The law, from its lemmas.
+use Rattle.due.proofs.DueLaws.{one_due}
 use Rattle.due.proofs.laws.due_is_one.Goals as goal
 
 pub returns : goal.returns
-returns c = due_is_one
+returns c = λ words contents. one_due contents words

@@ -1,0 +1,112 @@
+-- What is loaded for a run: a configuration and the logs of its receivers, or why not.
+use Rattle.std.specs.Prelude.{ℕ, ◌≡◌, ◌+◌, ◌⊎◌, List, [], ◌∷◌}
+use Rattle.definitions.specs.heard.Logs.{Records}
+use Rattle.formats.specs.declared.refusal.Refusal.{Refusal}
+use Rattle.bank_files.specs.Told.{Finds}
+use Rattle.bank_files.specs.Seen.{ReadFails, SameCounts, Seen}
+use Rattle.bank_config.specs.Configuration.{PlainConfig, PlainReceiver}
+use Rattle.due.specs.Configurations.{IsBadConfiguration, IsConfiguration, logs_of}
+use Rattle.due.specs.LogFiles.{AreGood, IsBad, IsFirstBad, IsGood, IsLogRead, LogFile}
+use Rattle.due.specs.Rules.{configuration}
+use Rattle.bank.specs.Ending.{MayHold}
+use Rattle.bank.specs.declared.loading.Unloaded.{Unloaded}
+use Rattle.bank.specs.declared.loading.Unloaded.TheVariants.{Failed, NoMemory, Refused}
+
+-- P holds of some bytes that agree with what is told of the file
+abbrev pub IsReadAs : Seen → List ℕ → (List ℕ → Type 0) → Type 0
+IsReadAs old file P = (bytes : List ℕ) × Finds (old.told file) (λ held. bytes ≡ held) × P bytes
+
+-- bytes are refused so, or memory ran out
+abbrev pub IsHalted : (Refusal → Type 0) → Unloaded → Type 0
+IsHalted bad (Refused refusal) = bad refusal
+IsHalted bad Failed = ⊥
+IsHalted bad NoMemory = Unit {0}
+
+-- the file is refused so, couldn't be read, or memory ran out
+abbrev pub IsNotRead : Seen → Seen → List ℕ → (List ℕ → Refusal → Type 0) → Unloaded → Type 0
+IsNotRead old new file bad (Refused refusal) = IsReadAs old file (λ bytes. bad bytes refusal) × SameCounts old new
+IsNotRead old new file bad Failed = ReadFails file old new
+IsNotRead old new file bad NoMemory = SameCounts old new
+
+-- the log of a receiver that has this number
+abbrev pub log_file : ℕ → PlainReceiver → LogFile
+log_file number r = record { receiver = number; name = r.name; file = r.file }
+
+-- the logs of these receivers are good, of these records
+abbrev pub AreRead : Seen → List PlainReceiver → List Records → Type 0
+AreRead old [] logs = logs ≡ []
+AreRead old (r ∷ rs) [] = ⊥
+AreRead old (r ∷ rs) (log ∷ logs) = IsReadAs old r.file (λ bytes. IsGood bytes log) × AreRead old rs logs
+
+-- of the logs of receivers, the first of which has this number, the first bad one is refused so
+abbrev pub IsRefusedAmong : Seen → ℕ → List PlainReceiver → Refusal → Type 0
+IsRefusedAmong old number [] refusal = ⊥
+IsRefusedAmong old number (r ∷ rs) refusal =
+    IsReadAs old r.file (λ bytes. IsBad (log_file number r) bytes refusal)
+    ⊎ ((log : Records) × IsReadAs old r.file (λ bytes. IsGood bytes log) × IsRefusedAmong old (number + 1) rs refusal)
+
+-- one of the logs couldn't be read, and all before it are good
+abbrev pub FailsAmong : Seen → Seen → List PlainReceiver → Type 0
+FailsAmong old new [] = ⊥
+FailsAmong old new (r ∷ rs) =
+    ReadFails r.file old new ⊎ ((log : Records) × IsReadAs old r.file (λ bytes. IsGood bytes log) × FailsAmong old new rs)
+
+-- a log is refused so, couldn't be read, or memory ran out
+abbrev pub AreNotRead : Seen → Seen → ℕ → List PlainReceiver → Unloaded → Type 0
+AreNotRead old new number rs (Refused refusal) = IsRefusedAmong old number rs refusal × SameCounts old new
+AreNotRead old new number rs Failed = FailsAmong old new rs
+AreNotRead old new number rs NoMemory = SameCounts old new
+
+-- The logs that are read for some contents agree with what is told of their files.
+abbrev pub LogsAgree : Seen → (ℕ → List ℕ) → List LogFile → Type 0
+LogsAgree old contents logs =
+    (number : ℕ) (file : List ℕ) → IsLogRead contents logs number file → Finds (old.told file) (λ bytes. contents number ≡ bytes)
+
+abbrev pub LogsMayBeRead : Seen → (ℕ → List ℕ) → List LogFile → Type 0
+LogsMayBeRead old contents logs =
+    (number : ℕ) (file : List ℕ) → IsLogRead contents logs number file → MayHold (old.told file) (contents number)
+
+-- this is the configuration, and these are its logs, for some contents that agree with what is told of the files
+pub record Loads (old : Seen) (file : List ℕ) (config : PlainConfig) (logs : List Records) (contents : ℕ → List ℕ) : Type 0 where
+  pub found : Finds (old.told file) (λ bytes. contents configuration ≡ bytes)
+  pub says : IsConfiguration (contents configuration) config
+  pub good : AreGood contents (logs_of config) logs
+  pub agree : LogsAgree old contents (logs_of config)
+
+abbrev pub IsLoaded : Seen → List ℕ → PlainConfig → List Records → Type 0
+IsLoaded old file config logs = (contents : ℕ → List ℕ) × Loads old file config logs contents
+
+-- for some such contents the configuration or the first bad log is refused so
+pub record RefusesConfiguration (old : Seen) (file : List ℕ) (refusal : Refusal) (contents : ℕ → List ℕ) : Type 0 where
+  pub found : Finds (old.told file) (λ bytes. contents configuration ≡ bytes)
+  pub bad : IsBadConfiguration (contents configuration) refusal
+
+pub record RefusesLog (old : Seen) (file : List ℕ) (refusal : Refusal) (config : PlainConfig) (contents : ℕ → List ℕ) : Type 0 where
+  pub found : Finds (old.told file) (λ bytes. contents configuration ≡ bytes)
+  pub says : IsConfiguration (contents configuration) config
+  pub bad : IsFirstBad contents (logs_of config) refusal
+  pub agree : LogsAgree old contents (logs_of config)
+
+abbrev pub IsRefusedLoading : Seen → List ℕ → Refusal → Type 0
+IsRefusedLoading old file refusal =
+    ((contents : ℕ → List ℕ) × RefusesConfiguration old file refusal contents)
+    ⊎ ((config : PlainConfig) × (contents : ℕ → List ℕ) × RefusesLog old file refusal config contents)
+
+-- a log of a good configuration couldn't be read, for some contents that may be so
+pub record FailsAtLog (old new : Seen) (file : List ℕ) (config : PlainConfig) (contents : ℕ → List ℕ) (number : ℕ) (log : List ℕ) : Type 0 where
+  pub may_hold : MayHold (old.told file) (contents configuration)
+  pub says : IsConfiguration (contents configuration) config
+  pub read : IsLogRead contents (logs_of config) number log
+  pub may_be_read : LogsMayBeRead old contents (logs_of config)
+  pub fails : ReadFails log old new
+
+abbrev pub FailsLoading : Seen → Seen → List ℕ → Type 0
+FailsLoading old new file =
+    ReadFails file old new
+    ⊎ ((config : PlainConfig) × (contents : ℕ → List ℕ) × (number : ℕ) × (log : List ℕ) × FailsAtLog old new file config contents number log)
+
+-- nothing is loaded: the configuration or a log is refused, a file couldn't be read, or memory ran out
+abbrev pub IsNotLoaded : Seen → Seen → List ℕ → Unloaded → Type 0
+IsNotLoaded old new file (Refused refusal) = IsRefusedLoading old file refusal × SameCounts old new
+IsNotLoaded old new file Failed = FailsLoading old new file
+IsNotLoaded old new file NoMemory = SameCounts old new

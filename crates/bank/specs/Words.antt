@@ -1,8 +1,0 @@
--- The words of the command line.
-use Rattle.std.specs.Prelude.{ℕ, List, map, string_bytes}
-use Rattle.std.specs.declared.string.String.{String}
-use Rattle.std.specs.declared.alloc.Global.{Global}
-
--- the bytes of each word
-abbrev pub texts_of : List (String Global) → List (List ℕ)
-texts_of words = map string_bytes words

@@ -1,0 +1,246 @@
+//! Reading a configuration and the logs that it names. Nothing here writes to a file.
+
+ghost use Rattle.std.specs.Prelude.{◌≡◌, ◌≢◌, ◌≤◌, All, IfErr, IfOk, OnOk, length, map, string_bytes};
+ghost use Rattle.bank_files.specs.Seen.{OnlyReads, SameCounts};
+ghost use Rattle.bank_files.specs.Told.{output_name};
+ghost use Rattle.bank_config.specs.Configuration.{plain_config, plain_receiver};
+ghost use Rattle.bank_config.specs.InRange.{IsInRange, IsReceiverInRange};
+ghost use Rattle.due.specs.Configurations.{IsBadConfiguration, IsConfiguration, fault_refusal, name_of, receiver_of};
+ghost use Rattle.due.specs.LogFiles.{IsBad, IsGood};
+ghost use Rattle.bank.specs.declared.loading.Unloaded.TheVariants as kinds;
+ghost use Rattle.bank.specs.Loading.{AreNotRead, AreRead, IsHalted, IsLoaded, IsNotLoaded, IsNotRead, IsReadAs, log_file};
+
+use bank_config::{CONFIG_LIMIT, Config, ConfigFault, Key, Receiver, read_config};
+use bank_files::{Files, ReadWhole, read_whole};
+use formats::{KeyName, LOG_LIMIT, Name, Refusal};
+use pulse_log::{Log, read_log};
+use signal_base::MOST_RECEIVERS;
+use std::alloc::{AllocError, AllocFailed, Global};
+
+/// A configuration and the logs of its receivers, in their order.
+#[derive(Debug, Drop)]
+pub struct Loaded {
+    /// The configuration.
+    pub config: Config,
+    /// The logs.
+    pub logs: Vec<Log>,
+}
+
+/// Why a configuration and its logs aren't loaded.
+#[derive(Debug, Drop)]
+pub enum Unloaded {
+    /// The configuration or a log is refused.
+    Refused {
+        /// What is refused.
+        refusal: Refusal,
+    },
+    /// A file couldn't be read.
+    Failed,
+    /// Memory wasn't found.
+    NoMemory,
+}
+
+impl From<AllocError> for Unloaded {
+    ghost from_gives = { λ _ why. why ≡ kinds.NoMemory };
+
+    fn from(_error: AllocError) -> Unloaded {
+        Unloaded::NoMemory
+    }
+}
+
+impl<T: Drop> From<AllocFailed<T>> for Unloaded {
+    ghost from_gives = { λ _ why. why ≡ kinds.NoMemory };
+
+    fn from(_failed: AllocFailed<T>) -> Unloaded {
+        Unloaded::NoMemory
+    }
+}
+
+/// Reads and checks a configuration, and then its logs one after the other in the order of its receivers. The first that
+/// is bad decides, and no file behind it is read. No line is written here, so that what is refused is told like all else
+/// that is due.
+pub fn load<F: Files>(alloc: Global, files: &mut F, config: &str) -> Result<Loaded, Unloaded>
+    requires { config.now ≢ output_name }
+    ensures loaded { IfOk result (λ loaded. IsLoaded (F.view files.old) config.now (plain_config loaded.config) loaded.logs.items) }
+    ensures in_range { IfOk result (λ loaded. IsInRange loaded.config) }
+    ensures not_loaded { IfErr result (IsNotLoaded (F.view files.old) (F.view files.new) config.now) }
+    ensures same_counts { OnOk result (SameCounts (F.view files.old) (F.view files.new)) }
+    ensures only { OnlyReads (F.view files.old) (F.view files.new) }
+{
+    let config = read_configuration(alloc, files, config)?;
+    let logs = read_logs(alloc, files, config.receivers.as_slice())?;
+    Ok(Loaded { config, logs })
+}
+
+// Reads a configuration.
+fn read_configuration<F: Files>(
+    alloc: Global,
+    files: &mut F,
+    name: &str,
+) -> Result<Config, Unloaded>
+    requires { name.now ≢ output_name }
+    ensures read { IfOk result (λ config. IsReadAs (F.view files.old) name.now (λ bytes. IsConfiguration bytes (plain_config config))) }
+    ensures in_range { IfOk result IsInRange }
+    ensures not_read { IfErr result (IsNotRead (F.view files.old) (F.view files.new) name.now IsBadConfiguration) }
+    ensures same_counts { OnOk result (SameCounts (F.view files.old) (F.view files.new)) }
+    ensures only { OnlyReads (F.view files.old) (F.view files.new) }
+{
+    match read_whole(alloc, files, name, CONFIG_LIMIT as u64) {
+        Ok(bytes) => configuration_in(alloc, bytes.as_slice()),
+        Err(ReadWhole::Failed) => Err(Unloaded::Failed),
+        Err(ReadWhole::NoMemory) => Err(Unloaded::NoMemory),
+        Err(ReadWhole::TooLarge) => Err(Unloaded::Refused {
+            refusal: Refusal::ConfigTooLarge,
+        }),
+    }
+}
+
+// The configuration of these bytes.
+fn configuration_in(alloc: Global, bytes: &[u8]) -> Result<Config, Unloaded>
+    requires { length bytes.now ≤ CONFIG_LIMIT }
+    ensures read { IfOk result (λ config. IsConfiguration bytes.now (plain_config config)) }
+    ensures in_range { IfOk result IsInRange }
+    ensures refused { IfErr result (IsHalted (IsBadConfiguration bytes.now)) }
+{
+    match read_config(alloc, bytes) {
+        Ok(config) => Ok(config),
+        Err(fault) => {
+            if fault == ConfigFault::NoMemory {
+                return Err(Unloaded::NoMemory);
+            }
+            Err(Unloaded::Refused {
+                refusal: fault_refusal(fault),
+            })
+        }
+    }
+}
+
+// The line that a fault gets.
+fn fault_refusal(fault: ConfigFault) -> Refusal
+    ensures { result ≡ fault_refusal fault }
+{
+    match fault {
+        ConfigFault::NotToml => Refusal::ConfigNotToml,
+        ConfigFault::Missing { key } => Refusal::ConfigMissing {
+            key: name_of(key),
+            receiver: receiver_of(key),
+        },
+        ConfigFault::WrongKind { key } => Refusal::ConfigWrongKind {
+            key: name_of(key),
+            receiver: receiver_of(key),
+        },
+        ConfigFault::OutOfRange { key } => Refusal::ConfigOutOfRange {
+            key: name_of(key),
+            receiver: receiver_of(key),
+        },
+        ConfigFault::UnknownKey | ConfigFault::NoMemory => Refusal::ConfigUnknownKey,
+    }
+}
+
+fn name_of(key: Key) -> KeyName
+    ensures { result ≡ name_of key }
+{
+    match key {
+        Key::Station | Key::ReceiverStation { .. } => KeyName::Station,
+        Key::Ceiling => KeyName::Ceiling,
+        Key::Receiver => KeyName::Receiver,
+        Key::Name { .. } => KeyName::Name,
+        Key::File { .. } => KeyName::Log,
+        Key::Delay { .. } => KeyName::Delay,
+        Key::Weight { .. } => KeyName::Weight,
+        Key::CostTable => KeyName::Table,
+        Key::Low => KeyName::Low,
+        Key::High => KeyName::High,
+    }
+}
+
+fn receiver_of(key: Key) -> Option<u8>
+    ensures { result ≡ receiver_of key }
+{
+    match key {
+        Key::Name { receiver }
+        | Key::File { receiver }
+        | Key::Delay { receiver }
+        | Key::Weight { receiver }
+        | Key::ReceiverStation { receiver } => Some(receiver),
+        Key::Station | Key::Ceiling | Key::Receiver | Key::CostTable | Key::Low | Key::High => None,
+    }
+}
+
+// Reads the logs of receivers, in their order.
+fn read_logs<F: Files>(
+    alloc: Global,
+    files: &mut F,
+    receivers: &[Receiver],
+) -> Result<Vec<Log>, Unloaded>
+    requires few { length receivers.now ≤ MOST_RECEIVERS }
+    requires receivers { All IsReceiverInRange receivers.now }
+    ensures read { IfOk result (λ logs. AreRead (F.view files.old) (map plain_receiver receivers.now) logs.items) }
+    ensures not_read { IfErr result (AreNotRead (F.view files.old) (F.view files.new) 1 (map plain_receiver receivers.now)) }
+    ensures same_counts { OnOk result (SameCounts (F.view files.old) (F.view files.new)) }
+    ensures only { OnlyReads (F.view files.old) (F.view files.new) }
+{
+    let mut logs = Vec::new(alloc);
+    for i in 0..receivers.len() {
+        let log = read_one(alloc, files, i as u8 + 1, &receivers[i])?;
+        logs.push(log)?;
+    }
+    Ok(logs)
+}
+
+// Reads the log of a receiver, which has this number.
+fn read_one<F: Files>(
+    alloc: Global,
+    files: &mut F,
+    number: u8,
+    receiver: &Receiver,
+) -> Result<Log, Unloaded>
+    requires { IsReceiverInRange receiver.now }
+    ensures read { IfOk result (λ log. IsReadAs (F.view files.old) (string_bytes receiver.now.file) (λ bytes. IsGood bytes log)) }
+    ensures not_read { IfErr result (IsNotRead (F.view files.old) (F.view files.new) (string_bytes receiver.now.file) (IsBad (log_file number (plain_receiver receiver.now)))) }
+    ensures same_counts { OnOk result (SameCounts (F.view files.old) (F.view files.new)) }
+    ensures only { OnlyReads (F.view files.old) (F.view files.new) }
+{
+    match read_whole(alloc, files, receiver.file.as_str(), LOG_LIMIT) {
+        Ok(bytes) => log_in(alloc, bytes.as_slice(), number, receiver),
+        Err(ReadWhole::Failed) => Err(Unloaded::Failed),
+        Err(ReadWhole::NoMemory) => Err(Unloaded::NoMemory),
+        Err(ReadWhole::TooLarge) => Err(Unloaded::Refused {
+            refusal: Refusal::LogTooLarge {
+                receiver: number,
+                name: name_in(receiver),
+            },
+        }),
+    }
+}
+
+// The log of these bytes, which a receiver of this number heard.
+fn log_in(alloc: Global, bytes: &[u8], number: u8, receiver: &Receiver) -> Result<Log, Unloaded>
+    requires limit { length bytes.now ≤ LOG_LIMIT }
+    requires receiver { IsReceiverInRange receiver.now }
+    ensures read { IfOk result (IsGood bytes.now) }
+    ensures refused { IfErr result (IsHalted (IsBad (log_file number (plain_receiver receiver.now)) bytes.now)) }
+{
+    match read_log(alloc, bytes) {
+        Ok(log) => Ok(log),
+        Err(fault) => match fault.bad_line() {
+            None => Err(Unloaded::NoMemory),
+            Some((line, fault)) => Err(Unloaded::Refused {
+                refusal: Refusal::LogLine {
+                    receiver: number,
+                    name: name_in(receiver),
+                    line,
+                    fault,
+                },
+            }),
+        },
+    }
+}
+
+// The name of a receiver, kept in the value itself.
+fn name_in(receiver: &Receiver) -> Name
+    requires { IsReceiverInRange receiver.now }
+    ensures { result ≡ string_bytes receiver.now.name }
+{
+    Name::new(receiver.name.as_str())
+}

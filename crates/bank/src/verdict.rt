@@ -1,0 +1,128 @@
+//! The answer for a bank.
+
+ghost use Rattle.std.specs.Prelude.{◌≡◌, ◌≤◌, IfErr, IfOk};
+ghost use Rattle.signal_base.specs.declared.limits.TheConstants.{GREATEST_COST};
+ghost use Rattle.definitions.specs.heard.Costs.{Costs};
+ghost use Rattle.definitions.specs.answers.Answers.{IsWindowAnswer};
+ghost use Rattle.definitions.specs.sequences.Windows.{IsWindow};
+ghost use Rattle.formats.specs.OrderRanges.{IsAsked};
+ghost use Rattle.field_tables.specs.Grids.{AreGrids, HaveCosts};
+ghost use Rattle.texts.specs.Reportable.{IsReportable};
+ghost use Rattle.due.specs.Banks.{Bank as PlainBank, costs_in, duts_of};
+ghost use Rattle.bank.specs.declared.stop.Stop.TheVariants.{NoMemory};
+ghost use Rattle.bank.specs.Finding.{IsVerdict};
+ghost use Rattle.bank.specs.Hearing.{IsBank, bank_seen};
+ghost use Rattle.bank.specs.Tasks.{AreWorkers};
+
+use crate::first_two::decide;
+use crate::grids::grids_of;
+use crate::hearing::{Bank, window_of};
+use crate::stop::Stop;
+use civil::Civil;
+use definitions::the_least_two_are_the_answer;
+use due::Duts;
+use field_tables::{agreeing_costs_cost_alike, dut1, grids_agree_with_their_costs};
+use formats::Asked;
+use sequence::{Answer, answer_of};
+use signal_base::{StationDut, Window};
+use std::alloc::Global;
+use std::thread::Threads;
+use symbol_cost::CostGrid;
+use workers::Gate;
+
+/// The answer for a bank, and what was asked.
+#[derive(Debug, Drop)]
+pub struct Verdict {
+    /// The window.
+    pub window: Window,
+    /// The answer.
+    pub answer: Answer,
+    /// What each station of the window tells of DUT1, where the answer is decided.
+    pub duts: Duts,
+}
+
+/// Decodes what a bank heard in the window that is asked about. How many workers search, and in which order they come to
+/// what, doesn't matter.
+pub fn judge<R: Threads + Sync, G: Gate + Sync>(
+    rt: &R,
+    alloc: Global,
+    civil: &Civil,
+    bank: Bank,
+    asked: &Asked,
+    workers: u8,
+    gate: &G,
+) -> Result<Verdict, Stop>
+    requires bank { IsBank bank }
+    requires asked { IsAsked asked.now }
+    requires workers { AreWorkers workers }
+    ensures verdict { IfOk result (IsVerdict asked.now (bank_seen bank)) }
+    ensures reportable { IfOk result (λ verdict. IsReportable verdict.window verdict.answer) }
+    ensures memory { IfErr result (λ stop. stop ≡ NoMemory) }
+{
+    let window = window_of(&bank, asked);
+    let ceiling = bank.ceiling;
+    let grids = grids_of(alloc, bank, &window)?;
+    let answer = answer_for(
+        rt,
+        alloc,
+        civil,
+        grids.as_slice(),
+        &window,
+        ceiling,
+        workers,
+        gate,
+    )?;
+    let duts = duts_of(civil, grids.as_slice(), &window, &answer);
+    Ok(Verdict {
+        window,
+        answer,
+        duts,
+    })
+}
+
+// The answer for a window, by the grids of its stations.
+fn answer_for<R: Threads + Sync, G: Gate + Sync>(
+    rt: &R,
+    alloc: Global,
+    civil: &Civil,
+    grids: &[CostGrid],
+    window: &Window,
+    ceiling: u32,
+    workers: u8,
+    gate: &G,
+) -> Result<Answer, Stop>
+    requires window { IsWindow window.now }
+    requires grids { AreGrids window.now grids.now }
+    requires ceiling { ceiling ≤ GREATEST_COST }
+    requires workers { AreWorkers workers }
+    ensures answer { IfOk result (λ answer. (costs : Costs) → HaveCosts window.now grids.now costs → IsWindowAnswer window.now costs ceiling answer) }
+    ensures reportable { IfOk result (IsReportable window.now) }
+    ensures memory { IfErr result (λ stop. stop ≡ NoMemory) }
+{
+    the_least_two_are_the_answer();
+    agreeing_costs_cost_alike();
+    grids_agree_with_their_costs();
+    let found = decide(rt, alloc, civil, grids, window, ceiling, workers, gate)?;
+    Ok(answer_of(found.first, found.second))
+}
+
+// What the stations of the window tell of DUT1, where the answer is decided.
+fn duts_of(civil: &Civil, grids: &[CostGrid], window: &Window, answer: &Answer) -> Duts
+    requires window { IsWindow window.now }
+    requires grids { AreGrids window.now grids.now }
+    requires answer { IsReportable window.now answer.now }
+    ensures { (bank : PlainBank) → HaveCosts window.now grids.now (costs_in window.now bank) → result ≡ duts_of window.now bank answer.now }
+{
+    agreeing_costs_cost_alike();
+    let mut duts = Duts::new();
+    let Answer::Decided { sequence, .. } = answer else {
+        return duts;
+    };
+    for i in 0..grids.len() {
+        let grid = &grids[i];
+        let station = grid.station();
+        let dut = dut1(grid, civil, station, window, sequence);
+        duts.push(StationDut { station, dut });
+    }
+    duts
+}
