@@ -1,6 +1,8 @@
 //! The program as one call over files: what is printed is what is due.
 #![tactic(auto)]
 
+#[cfg(test)]
+mod bank_tests;
 mod deliver;
 mod find;
 mod first_two;

@@ -1,5 +1,7 @@
 //! Runs over files in memory, with ample memory. The texts are worked out by hand from the code descriptions.
 
+ghost use Rattle.std.specs.Prelude.{◌≤◌};
+
 use crate::run;
 use bank_files::{MemoryFiles, OneByte};
 use std::alloc::{AllocError, Global};
@@ -7,7 +9,7 @@ use std::test::Fail;
 use workers::NoGate;
 
 // The words of a line that parts them by spaces.
-fn words(alloc: Global, line: &str) -> Result<Vec<String>, AllocError> {
+pub(crate) fn words(alloc: Global, line: &str) -> Result<Vec<String>, AllocError> {
     let mut words = Vec::new(alloc);
     for word in line.split(' ') {
         words.push(word.to_string(alloc)?)?;
@@ -15,29 +17,31 @@ fn words(alloc: Global, line: &str) -> Result<Vec<String>, AllocError> {
     Ok(words)
 }
 
-fn printed(files: &MemoryFiles, text: &str) -> bool {
+pub(crate) fn printed(files: &MemoryFiles, text: &str) -> bool {
     files
         .contents("-")
         .is_some_and(|found| found == text.as_bytes())
 }
 
 // The two minutes from 2024-06-10T06:16Z on, as JJY sends them.
-const MINUTES: [&str; 2] = [
+pub(crate) const MINUTES: [&str; 2] = [
     "M00100110M000100101M000100110M001000110M000100100M001000000M",
     "M00100111M000100101M000100110M001000100M000100100M001000000M",
 ];
 
 // Adds a record, where the level changes.
-fn push_record(text: &mut String, ms: u64, level: &str) -> Result<(), AllocError> {
+pub(crate) fn push_record(text: &mut String, ms: u64, level: &str) -> Result<(), AllocError> {
     write!(text, "{ms} {level}\n")
 }
 
-// The log of a receiver that hears these minutes from millisecond 0 on.
-fn clean_log(alloc: Global) -> Result<String, AllocError> {
+// The log of a receiver that hears minutes of JJY from this millisecond on.
+pub(crate) fn clean_log(alloc: Global, minutes: &[&str], late: u64) -> Result<String, AllocError>
+    requires { late ≤ 1000 }
+{
     let mut text = String::new(alloc);
-    push_record(&mut text, 0, "H")?;
+    push_record(&mut text, late, "H")?;
     let mut second = 0u64;
-    for minute in MINUTES {
+    for minute in minutes {
         for symbol in minute.bytes() {
             let low = match symbol {
                 b'0' => 800,
@@ -49,29 +53,29 @@ fn clean_log(alloc: Global) -> Result<String, AllocError> {
                 return Ok(text);
             }
             if second > 0 {
-                push_record(&mut text, 1000 * second, "H")?;
+                push_record(&mut text, late + 1000 * second, "H")?;
             }
-            push_record(&mut text, 1000 * second + low, "L")?;
+            push_record(&mut text, late + 1000 * second + low, "L")?;
             second += 1;
         }
     }
-    push_record(&mut text, 120_000, "H")?;
+    push_record(&mut text, late + 1000 * second.min(1000), "H")?;
     Ok(text)
 }
 
 // One receiver of JJY, named a, whose log is a.log.
-const CONFIG: &str = "station = \"jjy\"\n[[receiver]]\nname = \"a\"\nlog = \"a.log\"\n";
+pub(crate) const CONFIG: &str = "station = \"jjy\"\n[[receiver]]\nname = \"a\"\nlog = \"a.log\"\n";
 
 // The hour of the two minutes.
 const HOUR: &str =
     "decode k.toml --seconds 120 --from 2024-06-10T06:00Z --to 2024-06-10T06:59Z --workers 2";
 
 // The report of the clean log, by hand.
-const REPORT: &str =
+pub(crate) const REPORT: &str =
     "decided 0\nphase 0\nsequence 2024-06-10T06:16Z 0 no\nnext 1200\nminute 2024-06-10T06:16Z at 0\nminute 2024-06-10T06:17Z at 60000\n";
 
 // A configuration and its log a.log.
-fn files_of(alloc: Global, config: &str, log: &str) -> Result<MemoryFiles, Fail> {
+pub(crate) fn files_of(alloc: Global, config: &str, log: &str) -> Result<MemoryFiles, Fail> {
     let mut files = MemoryFiles::make(alloc)?;
     files.put("k.toml", config.as_bytes())?;
     files.put("a.log", log.as_bytes())?;
@@ -80,7 +84,7 @@ fn files_of(alloc: Global, config: &str, log: &str) -> Result<MemoryFiles, Fail>
 
 #[test]
 fn decides_two_clean_minutes(rt: HostRuntime) -> Result<(), Fail> {
-    let log = clean_log(rt.alloc())?;
+    let log = clean_log(rt.alloc(), &MINUTES, 0)?;
     let mut files = files_of(rt.alloc(), CONFIG, &log)?;
     let words = words(rt.alloc(), HOUR)?;
     assert_eq!(rt; run(&rt, rt.alloc(), &words, &mut files, &NoGate), 0);
@@ -186,7 +190,7 @@ fn lists_a_minute(rt: HostRuntime) -> Result<(), Fail> {
 
 #[test]
 fn feeds_two_minutes(rt: HostRuntime) -> Result<(), Fail> {
-    let log = clean_log(rt.alloc())?;
+    let log = clean_log(rt.alloc(), &MINUTES, 0)?;
     let mut files = files_of(rt.alloc(), CONFIG, &log)?;
     let words = words(
         rt.alloc(),
@@ -200,7 +204,7 @@ fn feeds_two_minutes(rt: HostRuntime) -> Result<(), Fail> {
 #[test]
 fn admits_nothing_under_a_low_ceiling(rt: HostRuntime) -> Result<(), Fail> {
     let config = format!(in rt.alloc(); "ceiling = 0\n{CONFIG}")?;
-    let log = clean_log(rt.alloc())?;
+    let log = clean_log(rt.alloc(), &MINUTES, 0)?;
     let mut files = files_of(rt.alloc(), &config, &log)?;
     let words = words(
         rt.alloc(),
@@ -214,7 +218,7 @@ fn admits_nothing_under_a_low_ceiling(rt: HostRuntime) -> Result<(), Fail> {
 #[test]
 fn ends_at_a_failing_file(rt: HostRuntime) -> Result<(), Fail> {
     // The configuration is read in two calls, the clean log in two, and the report is written in one.
-    let log = clean_log(rt.alloc())?;
+    let log = clean_log(rt.alloc(), &MINUTES, 0)?;
     for call in 1..6 {
         let mut files = files_of(rt.alloc(), CONFIG, &log)?;
         files.fail(call)?;
@@ -234,7 +238,7 @@ const LISTING: &str =
     "encode jjy 2024-06-10T06:45Z 60\nM10000101M000100101M000100110M001000110M*********M??????000M\n";
 
 // The sentences of the clean log.
-const SENTENCES: &str =
+pub(crate) const SENTENCES: &str =
     "$GPZDA,061600.00,10,06,2024,00,00*64\r\n$GPZDA,061700.00,10,06,2024,00,00*65\r\n";
 
 // A name that is no file's.
@@ -250,7 +254,7 @@ fn ends_at_a_missing_file(rt: HostRuntime) -> Result<(), Fail> {
 // Files that read and write a byte a call.
 #[test]
 fn prints_the_same_byte_by_byte(rt: HostRuntime) -> Result<(), Fail> {
-    let log = clean_log(rt.alloc())?;
+    let log = clean_log(rt.alloc(), &MINUTES, 0)?;
     let words = words(rt.alloc(), HOUR)?;
     let inner = files_of(rt.alloc(), CONFIG, &log)?;
     let mut files = OneByte { inner };

@@ -18,6 +18,7 @@ use race_words::{Race, Seat};
 use signal_base::{CostTable, GREATEST_COST, Station, Stations, Tuning, Window};
 use std::alloc::Global;
 use std::convert::Infallible;
+use std::process::Abort;
 use std::sync::atomic::{AtomicBool, Ordering};
 use std::test::Fail;
 use std::thread;
@@ -107,6 +108,24 @@ fn found<R: Threads + Sync>(
     Ok(finish(race, seat, tables, list, GREATEST_COST))
 }
 
+// However many workers search, these are the first two keys.
+fn each_crew_finds<R: Threads + Abort + Sync>(
+    rt: &R,
+    alloc: Global,
+    tables: &Tables,
+    list: &[Block],
+    first: Option<u64>,
+    second: Option<u64>,
+) -> Result<(), Fail>
+    requires { AreItemsOf tables.now.window list.now }
+{
+    for workers in 1..=8 {
+        let found = found(rt, alloc, tables, list, workers)?;
+        assert_eq!(rt; (found.first, found.second), (first, second), "{workers}");
+    }
+    Ok(())
+}
+
 #[test]
 fn one_sequence_is_left_at_the_end_of_the_century(rt: HostRuntime) -> Result<(), Fail> {
     // From 22:59Z on the year that DCF77 encodes is 2100, and a walk of 60 seconds ends there unless it begins with second 0.
@@ -115,15 +134,7 @@ fn one_sequence_is_left_at_the_end_of_the_century(rt: HostRuntime) -> Result<(),
     let grids = [silent_grid(rt.alloc(), Station::Dcf77)?];
     let tables = Tables::make(rt.alloc(), &grids, &civil, &window)?;
     let list = items(rt.alloc(), &civil, &window)?;
-    for workers in 1..=8 {
-        let found = found(&rt, rt.alloc(), &tables, &list, workers)?;
-        assert_eq!(rt;
-            (found.first, found.second),
-            (Some(52_595_938), None),
-            "{workers}"
-        );
-    }
-    Ok(())
+    each_crew_finds(&rt, rt.alloc(), &tables, &list, Some(52_595_938), None)
 }
 
 #[test]
@@ -133,15 +144,7 @@ fn a_silent_hour_ties(rt: HostRuntime) -> Result<(), Fail> {
     let grids = [silent_grid(rt.alloc(), Station::Jjy)?];
     let tables = Tables::make(rt.alloc(), &grids, &civil, &window)?;
     let list = items(rt.alloc(), &civil, &window)?;
-    for workers in 1..=8 {
-        let found = found(&rt, rt.alloc(), &tables, &list, workers)?;
-        assert_eq!(rt;
-            (found.first, found.second),
-            (Some(0), Some(1)),
-            "{workers}"
-        );
-    }
-    Ok(())
+    each_crew_finds(&rt, rt.alloc(), &tables, &list, Some(0), Some(1))
 }
 
 // Holds each of two workers at its first pass until both have made one.
