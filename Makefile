@@ -66,8 +66,8 @@ fmt: ## lays out the files of every crate
 
 bench: ## measures the program: speed, memory, and how often its answers are wrong
 	@$(FRESH) || $(MAKE) build
-	bench/run
 	bench/decode
+	bench/reading
 	bench/wrong-answers
 
 clean: ## removes what was built and what checks kept (some gigabytes)
