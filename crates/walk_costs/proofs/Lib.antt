@@ -3,5 +3,8 @@ pub mod ToldLaws
 pub mod PlaceLaws
 pub mod RunLaws
 pub mod SplitLaws
+pub mod SlotLaws
 pub mod WalkLaws
 pub mod ShownLaws
+pub mod AnnouncedLaws
+pub mod StretchLaws

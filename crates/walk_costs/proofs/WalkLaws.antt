@@ -22,7 +22,8 @@ use Rattle.walk_costs.specs.Dates.{IsAdded, date_cost, free_part, free_set, give
 use Rattle.walk_costs.specs.Walks.{ArePriced, IsPlainIn, PricedParts, cost_of, last_minute}
 use Rattle.walk_costs.proofs.SumLaws.{at_second, cost_in, made_part, part_by_second, sum_le, sum_of_two, sums_of_two}
 use Rattle.walk_costs.proofs.ToldLaws.{bit_below}
-use Rattle.walk_costs.proofs.PlaceLaws.{nominal, one_day}
+use Rattle.walk_costs.proofs.PlaceLaws.{one_day}
+use Rattle.walk_costs.proofs.SlotLaws.{place_in, set_in}
 use Rattle.walk_costs.proofs.SplitLaws.{call_minute, calls, parts_of_second, tells_by}
 
 -- what the part costs in the seconds that are given up, in slot k
@@ -112,20 +113,14 @@ module _ (w : PricedParts) (costs : List (List ℕ)) (more : List ℕ) (priced :
   all_sets = sum_below n (λ k. cost_in w.grid k (set_at w.grid.station q k))
 
   place_is : (k : ℕ) → k < n → place_at q k ≡ (t0 + (p + k) / 60, (p + k) % 60)
-  place_is k within = nominal q n plain.second plain.short k within
+  place_is k within = place_in w priced.station priced.table announced p t0 plain.second plain.short k within
 
   -- the set of a slot, by the two parts
   pub set_is : (k t s : ℕ) → k < n → t ≡ t0 + (p + k) / 60 → s ≡ (p + k) % 60
       → set_at w.grid.station q k ≡ overlay (get_or (times_at w.parts (time_of t)) s 0) (get_or part s 0)
-  set_is k t s within minute second =
-      let le : t ≤ last_minute w p t0 = omega arith in
-      ap (allowed w.grid.station announced) (place_is k within)
-      ∙ ap (λ m. allowed w.grid.station announced (m, (p + k) % 60)) (sym minute)
-      ∙ ap (λ x. allowed w.grid.station announced (t, x)) (sym second)
-      ∙ ap (λ (st : Station). allowed st announced (t, s)) (sym priced.station)
-      ∙ priced.table.tells announced i t s
-      (record { is_run = plain.begins.is_run; begun = omega (arith, plain.begins.begun); not_over = omega (arith, le, plain.ends) })
-      (plain.short t (omega arith) le) (omega arith)
+  set_is k t s within minute of_minute =
+      set_in w priced.station priced.table announced p t0 plain.second plain.short i k t s within minute of_minute
+      (record { is_run = plain.begins.is_run; begun = omega (arith, plain.begins.begun); not_over = omega (arith, plain.ends) })
 
   -- what it costs
   in_slot : (k : ℕ) → k < n

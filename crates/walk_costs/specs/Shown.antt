@@ -1,5 +1,5 @@
 -- Which slots show that a leap second is announced.
-use Rattle.std.specs.Prelude.{ℕ, ◌≡◌, ◌≢◌, ◌+◌, ◌/◌, ◌%◌, ◌<◌, Bool, false, ◌==◌, ◌&&◌, not, slice_index}
+use Rattle.std.specs.Prelude.{ℕ, ◌≡◌, ◌≢◌, ◌+◌, ◌/◌, ◌%◌, ◌<◌, ◌≤◌, Bool, true, false, ◌==◌, ◌&&◌, not, slice_index}
 use Rattle.signal_base.specs.declared.station.Station.{Station}
 use Rattle.definitions.specs.time.Calendar.{minutes_per_day}
 use Rattle.minute_parts.specs.declared.runs.Run.{Run}
@@ -13,6 +13,10 @@ abbrev pub shows_in : PartTable → Run → ℕ → ℕ → ℕ → Bool
 shows_in parts run u p k =
     (slice_index (times_at parts ((u + (p + k) / SECONDS_PER_MINUTE) % minutes_per_day)) ((p + k) % SECONDS_PER_MINUTE) == 0)
     && not (slice_index run.plain ((p + k) % SECONDS_PER_MINUTE) == slice_index run.announced ((p + k) % SECONDS_PER_MINUTE))
+
+-- one of the slots from `from` up to, and without, `to` does
+abbrev pub SomeSlotShows : PartTable → Run → ℕ → ℕ → ℕ → ℕ → Type 0
+SomeSlotShows parts run u p from to = (k : ℕ) × (from ≤ k) × (k < to) × (shows_in parts run u p k ≡ true)
 
 -- the date tells another set in a second that no call sign takes
 abbrev pub DiffersElsewhere : Station → Run → Type 0

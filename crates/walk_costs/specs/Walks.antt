@@ -1,5 +1,5 @@
 -- Walks with 60 seconds in each minute that lie in one run of a station's minutes, and what they cost.
-use Rattle.std.specs.Prelude.{ℕ, ◌≡◌, ◌≢◌, ◌+◌, ◌-◌, ◌*◌, ◌/◌, ◌<◌, ◌≤◌, Bool, List, length, slice_index}
+use Rattle.std.specs.Prelude.{ℕ, ◌≡◌, ◌≢◌, ◌+◌, ◌-◌, ◌*◌, ◌/◌, ◌<◌, ◌≤◌, Bool, true, List, length, slice_index}
 use Rattle.signal_base.specs.declared.limits.TheConstants.{MOST_RECEIVERS, MOST_SECONDS}
 use Rattle.definitions.specs.declared.sequence.Sequence.{Sequence}
 use Rattle.definitions.specs.time.Calendar.{minute_length}
@@ -9,6 +9,7 @@ use Rattle.symbol_cost.specs.Grid.{Grid, cost_at}
 use Rattle.symbol_cost.specs.declared.limits.TheConstants.{RECEIVER_COST}
 use Rattle.minute_parts.specs.Parts.{IsInRun, IsPartTable, PartTable, part_where}
 use Rattle.minute_parts.specs.Runs.{end_of_run, run_at}
+use Rattle.span_unions.specs.Unions.{AreRegular}
 use Rattle.slot_columns.specs.Parts.{AreWalkCosts}
 use Rattle.slot_columns.specs.declared.limits.TheConstants.{SECONDS_PER_MINUTE}
 use Rattle.walk_costs.specs.declared.date.DateCost.{DateCost}
@@ -34,6 +35,10 @@ pub record IsPlainIn (w : PricedParts) (announced : Bool) (p t0 i : ℕ) : Type 
   pub begins : IsInRun w.parts t0 i
   pub ends : last_minute w p t0 < end_of_run w.parts.runs w.parts.end i
   pub short : (t : ℕ) → t0 ≤ t → t ≤ last_minute w p t0 → minute_length announced t ≡ 60
+
+-- each minute of the walk of an announced sequence has 60 seconds and can be encoded; they may lie in several runs
+abbrev pub IsRegularWalk : PricedParts → ℕ → ℕ → Type 0
+IsRegularWalk w p t0 = AreRegular true t0 (t0 + 1 + later_minutes (length w.grid.rows) p) w.parts.end
 
 -- what the sequence costs the station
 abbrev pub cost_of : PricedParts → Bool → ℕ → ℕ → ℕ

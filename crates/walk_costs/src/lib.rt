@@ -2,10 +2,12 @@
 //! all of them: a sum of three numbers that were made before.
 #![tactic(auto)]
 
+mod announced;
 mod date;
 mod dut;
 mod shown;
 mod small;
+mod stretch;
 mod tenths;
 #[cfg(test)]
 mod tests;
@@ -13,4 +15,5 @@ mod walks;
 
 pub use date::{ByMinute, CALL_MINUTES, DateCost};
 pub use shown::Shown;
+pub use stretch::{MinuteCosts, STRETCH};
 pub use walks::{StationWalks, WalksFault};

@@ -4,7 +4,7 @@ ghost use Rattle.std.specs.Prelude.{◌≡◌, ◌<◌, ◌≤◌, ◌≢◌, �
 ghost use Rattle.signal_base.specs.declared.limits.TheConstants.{MOST_SECONDS};
 ghost use Rattle.definitions.specs.time.Calendar.{minutes_per_day};
 ghost use Rattle.walk_costs.specs.Dates.{is_given_up};
-ghost use Rattle.walk_costs.specs.Shown.{DiffersElsewhere, shows_in};
+ghost use Rattle.walk_costs.specs.Shown.{DiffersElsewhere, SomeSlotShows, shows_in};
 
 use crate::date::is_given_up;
 use definitions::MINUTES_PER_DAY;
@@ -39,14 +39,23 @@ pub fn differs_elsewhere(station: Station, run: &Run) -> bool
     false
 }
 
-/// Whether one of the first `n` slots shows it, of a walk from second `p` of minute `u` of the local day.
-pub fn some_slot_shows(parts: &Parts, run: &Run, u: u16, p: u8, n: u16) -> bool
+/// Whether the date tells the same with the announcement and without it, so that no minute of the run shows it. So it is in
+/// most runs: in all but those of June and December.
+pub fn is_told_alike(run: &Run) -> bool
+    ensures { IsTrue result ↔ (run.now.plain ≡ run.now.announced) }
+{
+    run.plain == run.announced
+}
+
+/// Whether one of the slots from `from` up to, and without, `to` shows it, of a walk from second `p` of minute `u` of the
+/// local day.
+pub fn some_slot_shows(parts: &Parts, run: &Run, u: u16, p: u8, from: u16, to: u16) -> bool
     requires minute { u < minutes_per_day }
     requires second { p < SECONDS_PER_MINUTE }
-    requires slots { n ≤ MOST_SECONDS }
-    ensures { IsTrue result ↔ ((k : ℕ) × (k < n) × (shows_in parts.now run.now u p k ≡ true)) }
+    requires slots { to ≤ MOST_SECONDS }
+    ensures { IsTrue result ↔ SomeSlotShows parts.now run.now u p from to }
 {
-    for k in 0..n {
+    for k in from..to {
         if slot_shows(parts, run, u, p, k) {
             return true;
         }

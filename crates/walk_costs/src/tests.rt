@@ -1,15 +1,17 @@
 //! Walks of which four seconds are known, whose costs were worked out by hand.
 
-ghost use Rattle.std.specs.Prelude.{◌≡◌, ◌≤◌, IfOk, false};
+ghost use Rattle.std.specs.Prelude.{◌≡◌, ◌+◌, ◌≤◌, IfOk, false};
 ghost use Rattle.signal_base.specs.Limits.{IsPriced};
 ghost use Rattle.signal_base.specs.declared.limits.TheConstants.{MOST_COST};
 ghost use Rattle.walk_costs.specs.Walks.{IsPlainIn};
 
-use crate::StationWalks;
+use crate::walks::meets_leap_end;
+use crate::{MinuteCosts, StationWalks};
 use civil::Civil;
 use minute_parts::Parts;
 use pulse_log::read_log;
 use signal_base::{CostTable, Station, Tuning};
+use slot_columns::SECONDS_PER_MINUTE;
 use span_unions::Unions;
 use std::alloc::Global;
 use std::test::Fail;
@@ -152,4 +154,93 @@ fn shows(walks: &StationWalks, civil: &Civil, p: u8, t0: u32) -> Option<bool> {
         Some(run) => Some(walks.shows(p, run, t0)),
         None => None,
     }
+}
+
+// JJY warns of a leap second from the second UTC day of June on: 2024-06-02T00:00Z.
+const WARNED: u32 = 12_843_360;
+
+// Of 62 slots from second 51 on, the last is second 52 of the next minute.
+#[test]
+fn walks_through_two_runs_show_the_announcement(rt: HostRuntime) -> Result<(), Fail> {
+    let civil = Civil::make(rt.alloc())?;
+    let walks = walks(rt.alloc(), &civil, Station::Jjy, &table(20, 10))?;
+    for (second, minute, shown) in [
+        (51, WARNED - 1, Some(false)),
+        (52, WARNED - 1, Some(true)),
+        (0, WARNED - 1, Some(false)),
+        (0, WARNED, Some(true)),
+        (40, CALL, Some(false)),
+        (40, CALL - 1, Some(true)),
+        (60, CALL, None),
+    ] {
+        assert_eq!(rt;
+            shows_over_runs(&walks, &civil, second, minute),
+            shown,
+            "second {second} of {minute}"
+        );
+    }
+    Ok(())
+}
+
+fn shows_over_runs(walks: &StationWalks, civil: &Civil, p: u8, t0: u32) -> Option<bool> {
+    if p as usize >= SECONDS_PER_MINUTE || t0 >= walks.parts().end() {
+        return None;
+    }
+    let last = t0 + walks.later_minutes(p);
+    if last >= walks.parts().end() || meets_leap_end(civil, t0, last) {
+        return None;
+    }
+    Some(walks.shows_by_minutes(p, t0))
+}
+
+// The date tells of no leap second on 2024-06-01, and of one from the next day on.
+#[test]
+fn hours_before_the_warning_never_show_it(rt: HostRuntime) -> Result<(), Fail> {
+    let civil = Civil::make(rt.alloc())?;
+    let walks = walks(rt.alloc(), &civil, Station::Jjy, &table(20, 10))?;
+    let end = walks.parts().end();
+    assert!(rt; WARNED < end);
+    assert!(rt; walks.never_shows(WARNED - 60, WARNED - 1));
+    assert!(rt; !walks.never_shows(WARNED - 60, WARNED));
+    assert!(rt; !walks.never_shows(WARNED, WARNED));
+    Ok(())
+}
+
+// The minutes before, of and after JJY's call sign, and of MSF the last two of a day: of the last one's walk, DUT1 is told in
+// two days.
+#[test]
+fn minutes_of_a_stretch_cost_what_each_does(rt: HostRuntime) -> Result<(), Fail> {
+    let civil = Civil::make(rt.alloc())?;
+    let jjy = walks(rt.alloc(), &civil, Station::Jjy, &table(20, 10))?;
+    let costs = stretch(&jjy, &civil, 40, CALL - 1);
+    assert_eq!(rt; costs, Some([2 * 120, 2 * 120, 4 * 120]));
+
+    let msf = walks(rt.alloc(), &civil, Station::Msf, &table(10, 20))?;
+    let costs = stretch(&msf, &civil, 8, 12_637_437);
+    assert_eq!(rt;
+        costs,
+        Some([2 * 180 + 2 * 190, 2 * 180 + 2 * 190, 4 * 180])
+    );
+    Ok(())
+}
+
+// The costs of three minutes on end, where their walks lie in one run.
+fn stretch(walks: &StationWalks, civil: &Civil, p: u8, lo: u32) -> Option<[u32; 3]> {
+    let first = walks.run_of_walk(civil, false, p, lo);
+    let last = walks.run_of_walk(civil, false, p, lo + 2);
+    match (first, last) {
+        (Some(run), Some(same)) if run == same => {
+            let costs = costs_in_run(walks, p, lo, run);
+            Some([costs[0], costs[1], costs[2]])
+        }
+        _ => None,
+    }
+}
+
+fn costs_in_run(walks: &StationWalks, p: u8, lo: u32, run: usize) -> MinuteCosts
+    requires first { IsPlainIn walks.now false p lo run }
+    requires last { IsPlainIn walks.now false p (lo + 2) run }
+{
+    let date = walks.date_cost(false, p, run);
+    walks.costs_in_run(&date, lo, lo + 3)
 }

@@ -10,7 +10,7 @@ ghost use Rattle.walk_costs.specs.Walks.{AreSmall, IsDateCost, IsPlainIn, IsShow
 
 use crate::date::{CALL_MINUTES, DateCost, by_minute, date_cost};
 use crate::dut::added;
-use crate::shown::{Shown, TWO_MINUTES, differs_elsewhere, some_slot_shows};
+use crate::shown::{Shown, TWO_MINUTES, differs_elsewhere, is_told_alike, some_slot_shows};
 use crate::small::look_at_all;
 use civil::Civil;
 use definitions::{CENTURY_MINUTES, MINUTES_PER_DAY, MINUTES_PER_HOUR};
@@ -44,10 +44,10 @@ impl From<ColumnsFault> for WalksFault {
 /// costs.
 #[derive(Drop)]
 pub struct StationWalks {
-    unions: Unions,
-    columns: SlotColumns,
-    walks: WalkTable,
-    added: [u32; SECONDS_PER_MINUTE],
+    pub(crate) unions: Unions,
+    pub(crate) columns: SlotColumns,
+    pub(crate) walks: WalkTable,
+    pub(crate) added: [u32; SECONDS_PER_MINUTE],
 }
 
 impl Model for StationWalks {
@@ -180,7 +180,7 @@ impl StationWalks {
             return Shown::Never;
         }
         let at = self.unions.parts().run(run);
-        if at.plain == at.announced {
+        if is_told_alike(at) {
             return Shown::Never;
         }
         let seconds = self.columns.seconds();
@@ -213,7 +213,7 @@ impl StationWalks {
         let parts = self.unions.parts();
         let at = parts.run(run);
         let u = local_time(at.shift, t0);
-        some_slot_shows(parts, at, u, p, self.columns.seconds())
+        some_slot_shows(parts, at, u, p, 0, self.columns.seconds())
     }
 
     /// What a sequence costs the station that begins in the minute `t0`, where its walk has 60 seconds in each minute and
@@ -240,8 +240,8 @@ impl StationWalks {
         ((p as usize + seconds).saturating_sub(1) / SECONDS_PER_MINUTE) as u32
     }
 
-    // What the seconds of DUT1 add: nothing where the walk goes on to another UTC day.
-    fn added_from(&self, p: u8, t0: u32) -> u32
+    /// What the seconds of DUT1 add: nothing where the walk goes on to another UTC day.
+    pub fn added_from(&self, p: u8, t0: u32) -> u32
         requires second { p < SECONDS_PER_MINUTE }
         requires minute { t0 < century_minutes }
         ensures one_day { (last_minute self.now p t0 / minutes_per_day == t0 / minutes_per_day) ≡ true → IsAdded self.now.grid p result }
@@ -289,8 +289,8 @@ fn all_added(columns: &SlotColumns) -> [u32; SECONDS_PER_MINUTE]
     all
 }
 
-// Whether one of these minutes, at most 21, is the last one of a 30 June or a 31 December.
-fn meets_leap_end(civil: &Civil, first: u32, last: u32) -> bool
+/// Whether one of these minutes, at most 21, is the last one of a 30 June or a 31 December.
+pub fn meets_leap_end(civil: &Civil, first: u32, last: u32) -> bool
     requires order { first ≤ last }
     requires few { last ≤ first + 20 }
     requires century { last < century_minutes }
@@ -311,8 +311,8 @@ fn part_where(announced: bool, run: &Run) -> &Part
     }
 }
 
-// The minute of the local day that is encoded in the minute `t`.
-fn local_time(shift: u16, t: u32) -> u16
+/// The minute of the local day that is encoded in the minute `t`.
+pub fn local_time(shift: u16, t: u32) -> u16
     requires { t < century_minutes }
     ensures time { result ≡ (t + shift) % minutes_per_day }
     ensures bound { result < minutes_per_day }
@@ -320,8 +320,8 @@ fn local_time(shift: u16, t: u32) -> u16
     ((t + shift as u32) % MINUTES_PER_DAY) as u16
 }
 
-// After how many minutes the minute 15 or 45 of the hour comes.
-fn minutes_to_call(u: u16) -> u8
+/// After how many minutes the minute 15 or 45 of the hour comes.
+pub fn minutes_to_call(u: u16) -> u8
     ensures minutes { result ≡ minutes_to_call u }
     ensures bound { result < CALL_MINUTES }
 {

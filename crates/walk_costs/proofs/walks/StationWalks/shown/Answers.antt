@@ -1,5 +1,4 @@
 use Rattle.std.proofs.Common.{◌≡◌, ◌≤◌, ◌∙◌, ℕ, true, length, subst, sym, ap, arith}
-use Rattle.std.specs.Cmp.Lexicographic.{other_text, same_text}
 use Rattle.signal_base.specs.declared.station.Station.{Station}
 use Rattle.minute_parts.specs.declared.runs.Run.{Run}
 use Rattle.minute_parts.specs.Parts.{PartTable}
@@ -10,14 +9,14 @@ use Rattle.walk_costs.specs.Walks.{ArePriced, IsPlainIn, IsShown, PricedParts}
 use Rattle.walk_costs.proofs.ShownLaws.{all_shown, elsewhere, none_shown}
 use Rattle.walk_costs.proofs.walks.StationWalks.shown.Goals as goal
 
-pub returns-then-eq : goal.returns-then-eq
-returns-then-eq c =
+pub returns-then-is_told_alike : goal.returns-then-is_told_alike
+returns-then-is_told_alike c =
     let own = c.self.inside in
     let w = c.args.self.now in
     let priced = subst (λ (v : PricedParts). ArePriced v.parts v.grid c.self.inside.walks c.self.inside.added) c.self.view_is c.self.invariant in
     let run_is = c.run-at.ensures ∙ ap (λ (v : PartTable). run_at v.runs c.args.run) (c.parts.ensures ∙ ap (λ (v : PricedParts). v.parts) c.self.view_is) in
     let same = subst (λ (r : Run). r.plain ≡ r.announced) run_is
-    (same_text c.run-at.result.now.plain c.run-at.result.now.announced (sym c.if-eq.true ∙ c.eq.ensures)) in
+    (c.is_told_alike.ensures.0 c.if-is_told_alike.true) in
     subst (λ b. IsShown w b c.args.p c.args.run Never) (sym c.if-not-announced.false)
     (λ (t0 : ℕ) (plain : IsPlainIn w true c.args.p t0 c.args.run). none_shown w own.walks own.added priced c.args.p t0 c.args.run plain same)
 
@@ -28,7 +27,7 @@ returns-then-seconds-ge-TWO_MINUTES c =
     let priced = subst (λ (v : PricedParts). ArePriced v.parts v.grid c.self.inside.walks c.self.inside.added) c.self.view_is c.self.invariant in
     let run_is = c.run-at.ensures ∙ ap (λ (v : PartTable). run_at v.runs c.args.run) (c.parts.ensures ∙ ap (λ (v : PricedParts). v.parts) c.self.view_is) in
     let other = subst (λ (r : Run). r.plain ≡ r.announced → ⊥) run_is
-    (other_text c.run-at.result.now.plain c.run-at.result.now.announced (sym c.if-eq.false ∙ c.eq.ensures)) in
+    (λ same. let alike = c.is_told_alike.ensures.1 same in let other = c.if-is_told_alike.false in absurd cc) in
     let count = c.seconds-seconds.ensures.count ∙ ap (λ (v : PricedParts). length v.grid.rows) c.self.view_is in
     let long : 120 ≤ length c.args.self.now.grid.rows = omega (arith, count, c.if-seconds-ge-TWO_MINUTES.true) in
     subst (λ b. IsShown w b c.args.p c.args.run Always) (sym c.if-not-announced.false)
