@@ -29,7 +29,7 @@ impl From<AllocError> for UnionsFault {
 #[derive(Drop)]
 pub struct Unions {
     parts: Parts,
-    times: Vec<Part>,
+    pub(crate) times: Vec<Part>,
 }
 
 impl Model for Unions {
