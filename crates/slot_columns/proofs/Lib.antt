@@ -1,7 +1,10 @@
 pub mod ColumnLaws
+pub mod GroupLaws
+pub mod LayerLaws
 pub mod MinuteLaws
 pub mod PlaceLaws
 pub mod RowLaws
 pub mod SetLaws
 pub mod SumLaws
+pub mod TermLaws
 pub mod WalkLaws

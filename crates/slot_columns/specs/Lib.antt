@@ -1,4 +1,5 @@
 pub mod Days
+pub mod Layered
 pub mod Parts
 pub mod Rows
 pub mod Tables

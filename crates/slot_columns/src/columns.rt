@@ -35,8 +35,8 @@ impl From<AllocError> for ColumnsFault {
 pub struct SlotColumns {
     pub(crate) slots: SlotCosts,
     // What the sets cost in walk minute 0, and in all later minutes together.
-    first: Vec<Row>,
-    later: Vec<Row>,
+    pub(crate) first: Vec<Row>,
+    pub(crate) later: Vec<Row>,
 }
 
 impl Model for SlotColumns {

@@ -7,15 +7,18 @@
 
 mod columns;
 mod day;
+mod layered;
 mod limits;
 mod part;
 mod slots;
 mod tables;
+mod terms;
 #[cfg(test)]
 mod tests;
 mod walks;
 
 pub use columns::{ColumnsFault, SlotColumns};
+pub use layered::LayerTable;
 pub use limits::SECONDS_PER_MINUTE;
 pub use part::Part;
 pub use walks::WalkTable;

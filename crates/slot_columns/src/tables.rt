@@ -68,6 +68,16 @@ fn add(sums: &mut Row, row: &Row)
     }
 }
 
+/// The costs of two rows together.
+pub fn sum_of_rows(a: &Row, b: &Row) -> Row
+    requires { (set : ℕ) → set < SETS → slice_index a.now set + slice_index b.now set < 2 ^ 32 }
+    ensures { (set : ℕ) → set < SETS → slice_index result set ≡ slice_index a.now set + slice_index b.now set }
+{
+    let mut sums = *a;
+    add(&mut sums, b);
+    sums
+}
+
 /// Sums the columns of first second `p`: what a part costs in walk minute 0, and another in all later minutes.
 pub fn sum_of_columns(
     first: &[Row],

@@ -2,7 +2,7 @@
 
 ghost use Rattle.signal_base.specs.Limits.{IsPriced};
 
-use crate::{Part, SlotColumns, WalkTable};
+use crate::{LayerTable, Part, SlotColumns, WalkTable};
 use pulse_log::{Log, LogFault, read_log};
 use signal_base::{CostTable, Station, Tuning};
 use std::process::Abort;
@@ -102,5 +102,25 @@ fn walks_through_midnight(rt: HostRuntime) -> Result<(), Fail> {
     assert_eq!(rt; walks.cost(59, 1439), 150 + 120 + 130 + 110);
     assert_eq!(rt; walks.cost(59, 1438), 150);
     assert_eq!(rt; walks.cost(0, 0), 110);
+    Ok(())
+}
+
+// Second 0 differs in all minutes alike, second 59 in walk minute 0 alone, and second 1 in the later ones alone.
+#[test]
+fn pairs_that_differ_in_three_seconds(rt: HostRuntime) -> Result<(), Fail> {
+    let grid = grid(&rt)?;
+    let columns = SlotColumns::make(rt.alloc(), &grid)?;
+    let mut firsts: [Part; 2] = [[1; 60]; 2];
+    let mut rests: [Part; 2] = [[16; 60]; 2];
+    rests[0][0] = 1;
+    firsts[1][0] = 8;
+    rests[1][0] = 8;
+    firsts[1][59] = 16;
+    rests[1][1] = 2;
+    let table = LayerTable::make(rt.alloc(), &columns, &firsts, &rests)?;
+    assert_eq!(rt; table.cost(0, 59), 110 + 150 + 150 + 110);
+    assert_eq!(rt; table.cost(1, 59), 150 + 120 + 150 + 130);
+    assert_eq!(rt; table.cost(0, 0), 110 + 110 + 110 + 150);
+    assert_eq!(rt; table.cost(1, 0), 130 + 110 + 130 + 120);
     Ok(())
 }

@@ -1,13 +1,15 @@
 //! Walks of which four seconds are known, whose costs were worked out by hand.
 
-ghost use Rattle.std.specs.Prelude.{◌≡◌, ◌+◌, ◌≤◌, IfOk, false};
+ghost use Rattle.std.specs.Prelude.{◌≡◌, ◌+◌, ◌<◌, ◌≤◌, IfOk, false};
 ghost use Rattle.signal_base.specs.Limits.{IsPriced};
 ghost use Rattle.signal_base.specs.declared.limits.TheConstants.{MOST_COST};
+ghost use Rattle.definitions.specs.time.Calendar.{century_minutes};
 ghost use Rattle.walk_costs.specs.Walks.{IsPlainIn};
 
 use crate::walks::meets_leap_end;
 use crate::{MinuteCosts, StationWalks};
 use civil::Civil;
+use definitions::CENTURY_MINUTES;
 use minute_parts::Parts;
 use pulse_log::read_log;
 use signal_base::{CostTable, Station, Tuning};
@@ -183,11 +185,11 @@ fn walks_through_two_runs_show_the_announcement(rt: HostRuntime) -> Result<(), F
 }
 
 fn shows_over_runs(walks: &StationWalks, civil: &Civil, p: u8, t0: u32) -> Option<bool> {
-    if p as usize >= SECONDS_PER_MINUTE || t0 >= walks.parts().end() {
+    if p as usize >= SECONDS_PER_MINUTE || t0 >= CENTURY_MINUTES {
         return None;
     }
     let last = t0 + walks.later_minutes(p);
-    if last >= walks.parts().end() || meets_leap_end(civil, t0, last) {
+    if last >= CENTURY_MINUTES || last >= walks.parts().end() || meets_leap_end(civil, t0, last) {
         return None;
     }
     Some(walks.shows_by_minutes(p, t0))
@@ -226,6 +228,9 @@ fn minutes_of_a_stretch_cost_what_each_does(rt: HostRuntime) -> Result<(), Fail>
 
 // The costs of three minutes on end, where their walks lie in one run.
 fn stretch(walks: &StationWalks, civil: &Civil, p: u8, lo: u32) -> Option<[u32; 3]> {
+    if lo >= CENTURY_MINUTES {
+        return None;
+    }
     let first = walks.run_of_walk(civil, false, p, lo);
     let last = walks.run_of_walk(civil, false, p, lo + 2);
     match (first, last) {
@@ -238,6 +243,7 @@ fn stretch(walks: &StationWalks, civil: &Civil, p: u8, lo: u32) -> Option<[u32; 
 }
 
 fn costs_in_run(walks: &StationWalks, p: u8, lo: u32, run: usize) -> MinuteCosts
+    requires minute { lo < century_minutes }
     requires first { IsPlainIn walks.now false p lo run }
     requires last { IsPlainIn walks.now false p (lo + 2) run }
 {

@@ -1,4 +1,4 @@
-use Rattle.std.proofs.Common.{◌≤◌, ℕ, arith}
+use Rattle.std.proofs.Common.{arith}
 use Rattle.slot_columns.proofs.RowLaws.{repeated}
 use Rattle.slot_columns.proofs.tests.table.Goals as goal
 
