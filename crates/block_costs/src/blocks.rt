@@ -8,8 +8,9 @@ ghost use Rattle.walk_costs.specs.Walks.{later_minutes};
 ghost use Rattle.block_costs.specs.Blocks.{AreUnionsOfWalks, unions_cost};
 
 use crate::asked::cost_as_asked;
-use crate::kept::{Kept, YEAR_DAYS, is_kept, kept_cost, kept_days, kept_years};
+use crate::kept::{Kept, YEAR_DAYS, is_kept, kept_days, kept_years};
 use definitions::MINUTES_PER_DAY;
+use slot_columns::ColumnsFault;
 use std::alloc::{AllocError, Global};
 use std::marker::Model;
 use walk_costs::StationWalks;
@@ -27,13 +28,19 @@ impl From<AllocError> for BlocksFault {
     }
 }
 
+impl From<ColumnsFault> for BlocksFault {
+    fn from(_fault: ColumnsFault) -> BlocksFault {
+        BlocksFault::NoMemory
+    }
+}
+
 /// What the blocks of a search cost one station. Contracts see the parts of its telegrams and the grid of costs, as with
 /// the walks.
 #[derive(Drop)]
 pub struct StationBlocks {
     walks: StationWalks,
-    days: Vec<Kept>,
-    years: Vec<Kept>,
+    days: Kept,
+    years: Kept,
 }
 
 impl Model for StationBlocks {
@@ -45,7 +52,7 @@ impl Model for StationBlocks {
 
     ghost view = { λ b. b.walks };
 
-    ghost invariant = { λ b. AreKept b.walks b.days.items × AreKept b.walks b.years.items };
+    ghost invariant = { λ b. AreKept b.walks b.days.ranges.items b.days.costs × AreKept b.walks b.years.ranges.items b.years.costs };
 }
 
 impl StationBlocks {
@@ -79,11 +86,11 @@ impl StationBlocks {
         }
         let day = (lo / MINUTES_PER_DAY) as usize;
         if is_kept(&self.days, day, lo, hi) {
-            return kept_cost(&self.walks, p, &self.days[day]);
+            return self.days.costs.cost(day, p);
         }
         let year = day / YEAR_DAYS as usize;
         if is_kept(&self.years, year, lo, hi) {
-            return kept_cost(&self.walks, p, &self.years[year]);
+            return self.years.costs.cost(year, p);
         }
         cost_as_asked(&self.walks, announced, p, lo, hi)
     }

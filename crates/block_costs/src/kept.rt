@@ -1,23 +1,34 @@
 //! Unions that are kept, since a search asks for them most: of whole days and years in UTC, where no leap second is
 //! announced.
 
-ghost use Rattle.std.specs.Prelude.{ℕ, ◌≡◌, ◌<◌, ◌≤◌, IfOk, OnOk, false, length, true};
-ghost use Rattle.slot_columns.specs.Parts.{most_cost};
-ghost use Rattle.slot_columns.specs.declared.limits.TheConstants.{SECONDS_PER_MINUTE};
-ghost use Rattle.block_costs.specs.Blocks.{AreUnionsOfWalks, unions_cost};
-ghost use Rattle.block_costs.specs.Keeping.{AreKept, IsKept, kept_at};
+ghost use Rattle.std.specs.Prelude.{◌≡◌, ◌<◌, ◌≤◌, [], IfOk, OnOk, length, true};
+ghost use Rattle.block_costs.specs.Keeping.{AreGathered, AreKept, range_at};
 
 use definitions::{CENTURY_DAYS, MINUTES_PER_DAY};
-use span_unions::Layers;
+use slot_columns::{ColumnsFault, LayerTable, Part};
 use std::alloc::{AllocError, Global};
 use walk_costs::StationWalks;
 
-/// The layers of the minutes from `lo` up to, and without, `hi`, for each second in which a walk may begin.
+/// The minutes from `lo` up to, and without, `hi`.
 #[derive(Clone, Copy)]
-pub struct Kept {
+pub struct Range {
     pub lo: u32,
     pub hi: u32,
-    pub layers: Layers,
+}
+
+/// Ranges of minutes in which walks may begin, and what their unions cost, in the same order.
+#[derive(Drop)]
+pub struct Kept {
+    pub ranges: Vec<Range>,
+    pub costs: LayerTable,
+}
+
+/// Such ranges and their layers: the union of the walks' first minutes, and that of each later one.
+#[derive(Drop)]
+pub struct Gathered {
+    pub ranges: Vec<Range>,
+    pub firsts: Vec<Part>,
+    pub rests: Vec<Part>,
 }
 
 // The walks that begin in it reach furthest.
@@ -30,27 +41,27 @@ pub const CENTURY_YEARS: u32 = 100;
 pub const YEAR_DAYS: u32 = 365;
 
 /// The days of the century.
-pub fn kept_days(alloc: Global, walks: &StationWalks) -> Result<Vec<Kept>, AllocError>
-    ensures { IfOk result (λ kept. AreKept walks.now kept.items) }
+pub fn kept_days(alloc: Global, walks: &StationWalks) -> Result<Kept, ColumnsFault>
+    ensures { IfOk result (λ kept. AreKept walks.now kept.ranges.items kept.costs) }
 {
-    let mut kept = Vec::with_capacity(alloc, CENTURY_DAYS as usize)?;
+    let mut gathered = room_for(alloc, CENTURY_DAYS as usize)?;
     for day in 0..CENTURY_DAYS {
         let lo = day * MINUTES_PER_DAY;
-        keep(&mut kept, walks, lo, lo + MINUTES_PER_DAY)?;
+        gather(&mut gathered, walks, lo, lo + MINUTES_PER_DAY)?;
     }
-    Ok(kept)
+    costs_of(alloc, walks, gathered)
 }
 
 /// Its years.
-pub fn kept_years(alloc: Global, walks: &StationWalks) -> Result<Vec<Kept>, AllocError>
-    ensures { IfOk result (λ kept. AreKept walks.now kept.items) }
+pub fn kept_years(alloc: Global, walks: &StationWalks) -> Result<Kept, ColumnsFault>
+    ensures { IfOk result (λ kept. AreKept walks.now kept.ranges.items kept.costs) }
 {
-    let mut kept = Vec::with_capacity(alloc, CENTURY_YEARS as usize)?;
+    let mut gathered = room_for(alloc, CENTURY_YEARS as usize)?;
     for year in 0..CENTURY_YEARS {
         let lo = year_begin(year);
-        keep(&mut kept, walks, lo, year_begin(year + 1))?;
+        gather(&mut gathered, walks, lo, year_begin(year + 1))?;
     }
-    Ok(kept)
+    costs_of(alloc, walks, gathered)
 }
 
 // The first minute of a year, counted from 2000 on, of which each fourth has a day more.
@@ -60,10 +71,24 @@ fn year_begin(year: u32) -> u32
     (year * YEAR_DAYS + (year + 3) / 4) * MINUTES_PER_DAY
 }
 
-// Keeps the layers of a range if it has some, and is encoded as far as walks reach from it.
-fn keep(kept: &mut Vec<Kept>, walks: &StationWalks, lo: u32, hi: u32) -> Result<(), AllocError>
-    requires { AreKept walks.now kept.old.items }
-    ensures { OnOk result (AreKept walks.now kept.new.items) }
+// Room for the layers of so many ranges.
+fn room_for(alloc: Global, count: usize) -> Result<Gathered, AllocError>
+    ensures { IfOk result (λ g. (g.ranges.items ≡ []) × (g.firsts.items ≡ []) × (g.rests.items ≡ [])) }
+{
+    let ranges = Vec::with_capacity(alloc, count)?;
+    let firsts = Vec::with_capacity(alloc, count)?;
+    let rests = Vec::with_capacity(alloc, count)?;
+    Ok(Gathered {
+        ranges,
+        firsts,
+        rests,
+    })
+}
+
+// Takes the layers of a range if it has some, and is encoded as far as walks reach from it.
+fn gather(gathered: &mut Gathered, walks: &StationWalks, lo: u32, hi: u32) -> Result<(), AllocError>
+    requires { AreGathered walks.now gathered.old.ranges.items gathered.old.firsts.items gathered.old.rests.items }
+    ensures { OnOk result (AreGathered walks.now gathered.new.ranges.items gathered.new.firsts.items gathered.new.rests.items) }
 {
     let reach = walks.later_minutes(LAST_SECOND);
     let unions = walks.unions();
@@ -74,31 +99,35 @@ fn keep(kept: &mut Vec<Kept>, walks: &StationWalks, lo: u32, hi: u32) -> Result<
     let Some(layers) = unions.layers(false, lo, hi, reach) else {
         return Ok(());
     };
-    kept.push(Kept { lo, hi, layers })?;
+    gathered.ranges.push(Range { lo, hi })?;
+    gathered.firsts.push(layers.first)?;
+    gathered.rests.push(layers.rest)?;
     Ok(())
 }
 
-/// Whether entry `i` has the layers of this range.
-pub fn is_kept(kept: &Vec<Kept>, i: usize, lo: u32, hi: u32) -> bool
-    ensures found { result ≡ true → i < length kept.now.items }
-    ensures begins { result ≡ true → (kept_at kept.now.items i).lo ≡ lo }
-    ensures ends { result ≡ true → (kept_at kept.now.items i).hi ≡ hi }
+// What the layers cost.
+fn costs_of(alloc: Global, walks: &StationWalks, gathered: Gathered) -> Result<Kept, ColumnsFault>
+    requires { AreGathered walks.now gathered.ranges.items gathered.firsts.items gathered.rests.items }
+    ensures { IfOk result (λ kept. AreKept walks.now kept.ranges.items kept.costs) }
 {
-    if i >= kept.len() {
-        return false;
-    }
-    let entry = &kept[i];
-    entry.lo == lo && entry.hi == hi
+    let Gathered {
+        ranges,
+        firsts,
+        rests,
+    } = gathered;
+    let costs = LayerTable::make(alloc, walks.columns(), &firsts, &rests)?;
+    Ok(Kept { ranges, costs })
 }
 
-/// What the unions over the range cost in the walks from second `p`.
-pub fn kept_cost(walks: &StationWalks, p: u8, kept: &Kept) -> u32
-    requires second { p < SECONDS_PER_MINUTE }
-    requires kept { IsKept walks.now kept.now }
-    ensures cost { (sets : ℕ → ℕ) → AreUnionsOfWalks walks.now.grid.station false p kept.now.lo kept.now.hi (length walks.now.grid.rows) sets → result ≡ unions_cost walks.now.grid sets }
-    ensures bound { result ≤ most_cost walks.now.grid }
+/// Whether entry `i` is this range.
+pub fn is_kept(kept: &Kept, i: usize, lo: u32, hi: u32) -> bool
+    ensures found { result ≡ true → i < length kept.now.ranges.items }
+    ensures begins { result ≡ true → (range_at kept.now.ranges.items i).lo ≡ lo }
+    ensures ends { result ≡ true → (range_at kept.now.ranges.items i).hi ≡ hi }
 {
-    walks
-        .columns()
-        .layered_cost(p, &kept.layers.first, &kept.layers.rest)
+    if i >= kept.ranges.len() {
+        return false;
+    }
+    let range = &kept.ranges[i];
+    range.lo == lo && range.hi == hi
 }

@@ -1,5 +1,5 @@
-use Rattle.block_costs.specs.Keeping.{AreKept}
+use Rattle.block_costs.specs.Keeping.{AreGathered}
 use Rattle.block_costs.proofs.kept.kept_days.Given as goal
 
 abbrev pub invariant-loop-day : goal.invariant-loop-day
-invariant-loop-day l = record { kept : AreKept l.walks l.kept.items }
+invariant-loop-day l = record { gathered : AreGathered l.walks l.gathered.ranges.items l.gathered.firsts.items l.gathered.rests.items }
