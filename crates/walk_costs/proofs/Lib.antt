@@ -5,6 +5,7 @@ pub mod RunLaws
 pub mod SplitLaws
 pub mod SlotLaws
 pub mod WalkLaws
+pub mod DateLaws
 pub mod ShownLaws
 pub mod AnnouncedLaws
 pub mod StretchLaws

@@ -26,6 +26,13 @@ given_up_set station part s = if is_given_up station s then slice_index part s e
 unfoldable pub given_up : Station → List ℕ → List ℕ
 given_up station part = map (given_up_set station part) (range_with_len 0 60)
 
+-- and what it tells of the others, and 0 of these
+abbrev pub kept_set : Station → List ℕ → ℕ → ℕ
+kept_set station part s = if is_given_up station s then 0 else slice_index part s
+
+unfoldable pub kept : Station → List ℕ → List ℕ
+kept station part = map (kept_set station part) (range_with_len 0 60)
+
 -- the first minute from v, a minute of an hour, on that is 15 or 45: it comes so many minutes later
 abbrev pub minutes_to_call : ℕ → ℕ
 minutes_to_call v = (75 - v % 60) % 30

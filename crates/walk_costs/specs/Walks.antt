@@ -10,12 +10,13 @@ use Rattle.symbol_cost.specs.declared.limits.TheConstants.{RECEIVER_COST}
 use Rattle.minute_parts.specs.Parts.{IsInRun, IsPartTable, PartTable, part_where}
 use Rattle.minute_parts.specs.Runs.{end_of_run, run_at}
 use Rattle.span_unions.specs.Unions.{AreRegular}
+use Rattle.slot_columns.specs.Layered.{LayerSums, layer_cost}
 use Rattle.slot_columns.specs.Parts.{AreWalkCosts}
 use Rattle.slot_columns.specs.declared.limits.TheConstants.{SECONDS_PER_MINUTE}
 use Rattle.walk_costs.specs.declared.date.DateCost.{DateCost}
 use Rattle.walk_costs.specs.declared.shown.Shown.{Shown}
 use Rattle.walk_costs.specs.declared.shown.Shown.TheVariants.{Never, Always, Sometimes}
-use Rattle.walk_costs.specs.Dates.{AreAdded, date_cost}
+use Rattle.walk_costs.specs.Dates.{AreAdded, date_cost, kept, part_cost}
 
 -- the parts of a station's telegrams, and what its symbols cost in the slots of a window
 pub record PricedParts : Type 0 where
@@ -58,6 +59,17 @@ pub record ArePriced (parts : PartTable) (grid : Grid) (costs : List (List ℕ))
   pub small : AreSmall grid
   pub walks : AreWalkCosts costs grid parts.times
   pub added : AreAdded grid more
+
+-- what the dates of all runs cost that announce no leap second, without the seconds that are given up for the call sign
+pub record AreDateCosts (parts : PartTable) (grid : Grid) (dates : LayerSums) : Type 0 where
+  pub count : dates.pairs ≡ length parts.runs
+  pub each : (i p : ℕ) → i < length parts.runs → p < SECONDS_PER_MINUTE
+      → layer_cost dates i p ≡ part_cost grid p (kept grid.station (run_at parts.runs i).plain)
+
+-- all that is kept of a station
+pub record AreKept (parts : PartTable) (grid : Grid) (costs : List (List ℕ)) (more : List ℕ) (by_date : LayerSums) : Type 0 where
+  pub priced : ArePriced parts grid costs more
+  pub dates : AreDateCosts parts grid by_date
 
 -- in some slot the station may carry another set than without the announcement
 abbrev pub ShowsAnnouncement : PricedParts → Sequence → Type 0

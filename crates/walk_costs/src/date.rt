@@ -1,7 +1,8 @@
 //! What the date of a run costs in a walk.
 
-ghost use Rattle.std.specs.Prelude.{◌≡◌, ◌<◌, ℕ, false, slice_index};
-ghost use Rattle.walk_costs.specs.Dates.{date_cost, given_up, given_up_set, is_given_up};
+ghost use Rattle.std.specs.Prelude.{◌≡◌, ◌+◌, ◌-◌, ◌^◌, ◌<◌, ◌≤◌, ℕ, false, length, slice_index};
+ghost use Rattle.walk_costs.specs.Dates.{date_cost, given_up, given_up_set, is_given_up, kept, kept_set, part_cost};
+ghost use Rattle.walk_costs.specs.Walks.{later_minutes};
 
 use crate::shown::Shown;
 use signal_base::Station;
@@ -46,18 +47,53 @@ pub fn date_cost(columns: &SlotColumns, p: u8, m: u8, part: &Part) -> u32
 
 /// The same for each `m` below 30; a walk has no minute after its 21st.
 pub fn by_minute(columns: &SlotColumns, p: u8, part: &Part) -> ByMinute
-    requires { p < SECONDS_PER_MINUTE }
+    requires second { p < SECONDS_PER_MINUTE }
+    requires fits { part_cost columns.now p part.now < 2 ^ 32 }
+    ensures { (m : ℕ) → m < CALL_MINUTES → slice_index result m ≡ date_cost columns.now p m part.now }
+{
+    let rest = columns.part_cost(p, &kept(columns.station(), part));
+    by_minute_with(columns, p, part, rest)
+}
+
+/// The same where it is known what the seconds cost that aren't given up.
+pub fn by_minute_with(columns: &SlotColumns, p: u8, part: &Part, rest: u32) -> ByMinute
+    requires second { p < SECONDS_PER_MINUTE }
+    requires fits { part_cost columns.now p part.now < 2 ^ 32 }
+    requires rest { rest ≡ part_cost columns.now p (kept columns.now.station part.now) }
     ensures { (m : ℕ) → m < CALL_MINUTES → slice_index result m ≡ date_cost columns.now p m part.now }
 {
     let station = columns.station();
-    let whole = columns.part_cost(p, part);
-    let mut costs = alike(whole);
     if !gives_up(station) {
-        return costs;
+        return alike(rest);
     }
     let given_up = given_up(station, part);
+    let mut lost = alike(0);
+    let mut whole = rest;
+    for m in 0..walk_minutes(columns, p) {
+        lost[m] = columns.minute_cost(p, m as u8, &given_up);
+        whole += lost[m];
+    }
+    all_but(whole, &lost)
+}
+
+// How many minutes a walk goes through.
+fn walk_minutes(columns: &SlotColumns, p: u8) -> usize
+    requires { p < SECONDS_PER_MINUTE }
+    ensures count { result ≡ later_minutes (length columns.now.rows) p + 1 }
+    ensures bound { result ≤ 21 }
+{
+    let seconds = columns.seconds() as usize;
+    (p as usize + seconds).saturating_sub(1) / SECONDS_PER_MINUTE + 1
+}
+
+// For each minute what is left of a cost.
+fn all_but(whole: u32, lost: &ByMinute) -> ByMinute
+    requires { (m : ℕ) → m < CALL_MINUTES → slice_index lost.now m ≤ whole }
+    ensures { (m : ℕ) → m < CALL_MINUTES → slice_index result m ≡ whole - slice_index lost.now m }
+{
+    let mut costs = *lost;
     for m in 0..CALL_MINUTES {
-        costs[m] = whole - columns.minute_cost(p, m as u8, &given_up);
+        costs[m] = whole - lost[m];
     }
     costs
 }
@@ -84,6 +120,24 @@ fn given_up(station: Station, part: &Part) -> Part
     ensures { result ≡ given_up station part.now }
 {
     array::from_fn(|second| given_up_set(station, part, second))
+}
+
+/// What the date tells of the other seconds.
+pub fn kept(station: Station, part: &Part) -> Part
+    ensures { result ≡ kept station part.now }
+{
+    array::from_fn(|second| kept_set(station, part, second))
+}
+
+fn kept_set(station: Station, part: &Part, second: usize) -> u8
+    requires { second < SECONDS_PER_MINUTE }
+    ensures { result ≡ kept_set station part.now second }
+{
+    if is_given_up(station, second) {
+        0
+    } else {
+        part[second]
+    }
 }
 
 fn given_up_set(station: Station, part: &Part, second: usize) -> u8

@@ -5,6 +5,7 @@
 mod announced;
 mod date;
 mod dut;
+mod kept;
 mod shown;
 mod small;
 mod stretch;

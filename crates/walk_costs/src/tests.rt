@@ -208,8 +208,8 @@ fn hours_before_the_warning_never_show_it(rt: HostRuntime) -> Result<(), Fail> {
     Ok(())
 }
 
-// The minutes before, of and after JJY's call sign, and of MSF the last two of a day: of the last one's walk, DUT1 is told in
-// two days.
+// The minutes before, of and after JJY's call sign, and of MSF the last one of a day and the first two of the next: in the
+// walk of the last one DUT1 is told in two days.
 #[test]
 fn minutes_of_a_stretch_cost_what_each_does(rt: HostRuntime) -> Result<(), Fail> {
     let civil = Civil::make(rt.alloc())?;
@@ -218,10 +218,10 @@ fn minutes_of_a_stretch_cost_what_each_does(rt: HostRuntime) -> Result<(), Fail>
     assert_eq!(rt; costs, Some([2 * 120, 2 * 120, 4 * 120]));
 
     let msf = walks(rt.alloc(), &civil, Station::Msf, &table(10, 20))?;
-    let costs = stretch(&msf, &civil, 8, 12_637_437);
+    let costs = stretch(&msf, &civil, 8, 12_637_439);
     assert_eq!(rt;
         costs,
-        Some([2 * 180 + 2 * 190, 2 * 180 + 2 * 190, 4 * 180])
+        Some([4 * 180, 2 * 180 + 2 * 190, 2 * 180 + 2 * 190])
     );
     Ok(())
 }

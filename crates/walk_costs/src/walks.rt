@@ -8,14 +8,15 @@ ghost use Rattle.slot_columns.specs.Parts.{AreWalkCosts, most_cost};
 ghost use Rattle.walk_costs.specs.Dates.{AreAdded, IsAdded, minutes_to_call};
 ghost use Rattle.walk_costs.specs.Walks.{AreSmall, IsDateCost, IsPlainIn, IsShown, ShowsAnnouncement, cost_of, last_minute, later_minutes};
 
-use crate::date::{CALL_MINUTES, DateCost, by_minute, date_cost};
+use crate::date::{CALL_MINUTES, DateCost, date_cost};
 use crate::dut::added;
+use crate::kept::dates_of;
 use crate::shown::{Shown, TWO_MINUTES, differs_elsewhere, is_told_alike, some_slot_shows};
 use crate::small::look_at_all;
 use civil::Civil;
 use definitions::{CENTURY_MINUTES, MINUTES_PER_DAY, MINUTES_PER_HOUR};
 use minute_parts::{Part, Parts, Run};
-use slot_columns::{ColumnsFault, SECONDS_PER_MINUTE, SlotColumns, WalkTable};
+use slot_columns::{ColumnsFault, LayerTable, SECONDS_PER_MINUTE, SlotColumns, WalkTable};
 use span_unions::Unions;
 use std::alloc::{AllocError, Global};
 use std::marker::Model;
@@ -48,16 +49,17 @@ pub struct StationWalks {
     pub(crate) columns: SlotColumns,
     pub(crate) walks: WalkTable,
     pub(crate) added: [u32; SECONDS_PER_MINUTE],
+    pub(crate) dates: LayerTable,
 }
 
 impl Model for StationWalks {
-    ghost use Rattle.walk_costs.specs.Walks.{ArePriced, PricedParts};
+    ghost use Rattle.walk_costs.specs.Walks.{AreKept, PricedParts};
 
     ghost Value = { PricedParts };
 
     ghost view = { λ w. record { parts = w.unions; grid = w.columns } };
 
-    ghost invariant = { λ w. ArePriced w.unions w.columns w.walks w.added };
+    ghost invariant = { λ w. AreKept w.unions w.columns w.walks w.added w.dates };
 }
 
 impl StationWalks {
@@ -74,12 +76,14 @@ impl StationWalks {
         let columns = SlotColumns::make(alloc, grid)?;
         let walks = walks_of(alloc, parts, &columns)?;
         let added = all_added(&columns);
+        let dates = dates_of(alloc, parts, &columns)?;
         look_at_all(&columns);
         Ok(StationWalks {
             unions,
             columns,
             walks,
             added,
+            dates,
         })
     }
 
@@ -166,7 +170,7 @@ impl StationWalks {
             second: p,
             run,
             shift: at.shift,
-            by_minute: by_minute(&self.columns, p, part_where(announced, at)),
+            by_minute: self.by_minute(announced, p, run),
             shown: self.shown(announced, p, run),
         }
     }

@@ -8,14 +8,14 @@ use Rattle.walk_costs.proofs.walks.StationWalks.cost_by.Goals as goal
 pub local_time-u-requires : goal.local_time-u-requires
 local_time-u-requires c =
     let w = c.args.self.now in
-    let table = subst (λ (v : PricedParts). IsPartTable v.parts) c.self.view_is c.self.invariant.table in
+    let table = subst (λ (v : PricedParts). IsPartTable v.parts) c.self.view_is c.self.invariant.priced.table in
     let begins = c.requires.walk.begins in
     omega (arith, begins.not_over, ends w.parts table c.args.date.now.run begins.is_run, in_century w.parts table)
 
 pub added_from-requires-clause-minute : goal.added_from-requires-clause-minute
 added_from-requires-clause-minute c =
     let w = c.args.self.now in
-    let table = subst (λ (v : PricedParts). IsPartTable v.parts) c.self.view_is c.self.invariant.table in
+    let table = subst (λ (v : PricedParts). IsPartTable v.parts) c.self.view_is c.self.invariant.priced.table in
     let begins = c.requires.walk.begins in
     omega (arith, begins.not_over, ends w.parts table c.args.date.now.run begins.is_run, in_century w.parts table)
 
@@ -23,7 +23,7 @@ pub overflow_add-result : goal.overflow_add-result
 overflow_add-result c =
     let own = c.self.inside in
     let date = c.args.date.now in
-    let priced = subst (λ (v : PricedParts). ArePriced v.parts v.grid c.self.inside.walks c.self.inside.added) c.self.view_is c.self.invariant in
+    let priced = subst (λ (v : PricedParts). ArePriced v.parts v.grid c.self.inside.walks c.self.inside.added) c.self.view_is c.self.invariant.priced in
     let u = c.local_time-u.result in
     let m = c.minutes_to_call.result in
     let fit = sets_fit c.args.self.now own.walks own.added priced date.announced date.second c.args.t0 date.run c.requires.walk u m c.cost.result _
@@ -36,7 +36,7 @@ pub overflow_add-result-2 : goal.overflow_add-result-2
 overflow_add-result-2 c =
     let own = c.self.inside in
     let date = c.args.date.now in
-    let priced = subst (λ (v : PricedParts). ArePriced v.parts v.grid c.self.inside.walks c.self.inside.added) c.self.view_is c.self.invariant in
+    let priced = subst (λ (v : PricedParts). ArePriced v.parts v.grid c.self.inside.walks c.self.inside.added) c.self.view_is c.self.invariant.priced in
     let u = c.local_time-u.result in
     let m = c.minutes_to_call.result in
     let sum = total_at c.args.self.now own.walks own.added priced date.announced date.second c.args.t0 date.run c.requires.walk u m c.cost.result _ c.added_from.result
@@ -51,7 +51,7 @@ pub returns-clause-cost : goal.returns-clause-cost
 returns-clause-cost c =
     let own = c.self.inside in
     let date = c.args.date.now in
-    let priced = subst (λ (v : PricedParts). ArePriced v.parts v.grid c.self.inside.walks c.self.inside.added) c.self.view_is c.self.invariant in
+    let priced = subst (λ (v : PricedParts). ArePriced v.parts v.grid c.self.inside.walks c.self.inside.added) c.self.view_is c.self.invariant.priced in
     let u = c.local_time-u.result in
     let m = c.minutes_to_call.result in
     let sum = total_at c.args.self.now own.walks own.added priced date.announced date.second c.args.t0 date.run c.requires.walk u m c.cost.result _ c.added_from.result
@@ -64,7 +64,7 @@ pub returns-clause-bound : goal.returns-clause-bound
 returns-clause-bound c =
     let own = c.self.inside in
     let date = c.args.date.now in
-    let priced = subst (λ (v : PricedParts). ArePriced v.parts v.grid c.self.inside.walks c.self.inside.added) c.self.view_is c.self.invariant in
+    let priced = subst (λ (v : PricedParts). ArePriced v.parts v.grid c.self.inside.walks c.self.inside.added) c.self.view_is c.self.invariant.priced in
     let u = c.local_time-u.result in
     let m = c.minutes_to_call.result in
     let sum = total_at c.args.self.now own.walks own.added priced date.announced date.second c.args.t0 date.run c.requires.walk u m c.cost.result _ c.added_from.result

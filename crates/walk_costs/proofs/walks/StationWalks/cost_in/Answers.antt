@@ -11,21 +11,21 @@ use Rattle.walk_costs.proofs.walks.StationWalks.cost_in.Goals as goal
 pub local_time-u-requires : goal.local_time-u-requires
 local_time-u-requires c =
     let w = c.args.self.now in
-    let table = subst (λ (v : PricedParts). IsPartTable v.parts) c.self.view_is c.self.invariant.table in
+    let table = subst (λ (v : PricedParts). IsPartTable v.parts) c.self.view_is c.self.invariant.priced.table in
     let begins = c.requires.begins in
     omega (arith, begins.not_over, ends w.parts table c.args.number begins.is_run, in_century w.parts table)
 
 pub added_from-requires-clause-minute : goal.added_from-requires-clause-minute
 added_from-requires-clause-minute c =
     let w = c.args.self.now in
-    let table = subst (λ (v : PricedParts). IsPartTable v.parts) c.self.view_is c.self.invariant.table in
+    let table = subst (λ (v : PricedParts). IsPartTable v.parts) c.self.view_is c.self.invariant.priced.table in
     let begins = c.requires.begins in
     omega (arith, begins.not_over, ends w.parts table c.args.number begins.is_run, in_century w.parts table)
 
 pub overflow_add-result : goal.overflow_add-result
 overflow_add-result c =
     let own = c.self.inside in
-    let priced = subst (λ (v : PricedParts). ArePriced v.parts v.grid c.self.inside.walks c.self.inside.added) c.self.view_is c.self.invariant in
+    let priced = subst (λ (v : PricedParts). ArePriced v.parts v.grid c.self.inside.walks c.self.inside.added) c.self.view_is c.self.invariant.priced in
     let u = c.local_time-u.result in
     let m = c.minutes_to_call.result in
     let run_is = c.run-run.ensures ∙ ap (λ (v : PartTable). run_at v.runs c.args.number) (c.parts.ensures ∙ ap (λ (v : PricedParts). v.parts) c.self.view_is) in
@@ -40,7 +40,7 @@ overflow_add-result c =
 pub overflow_add-result-2 : goal.overflow_add-result-2
 overflow_add-result-2 c =
     let own = c.self.inside in
-    let priced = subst (λ (v : PricedParts). ArePriced v.parts v.grid c.self.inside.walks c.self.inside.added) c.self.view_is c.self.invariant in
+    let priced = subst (λ (v : PricedParts). ArePriced v.parts v.grid c.self.inside.walks c.self.inside.added) c.self.view_is c.self.invariant.priced in
     let u = c.local_time-u.result in
     let m = c.minutes_to_call.result in
     let run_is = c.run-run.ensures ∙ ap (λ (v : PartTable). run_at v.runs c.args.number) (c.parts.ensures ∙ ap (λ (v : PricedParts). v.parts) c.self.view_is) in
@@ -59,7 +59,7 @@ overflow_add-result-2 c =
 pub returns-clause-cost : goal.returns-clause-cost
 returns-clause-cost c =
     let own = c.self.inside in
-    let priced = subst (λ (v : PricedParts). ArePriced v.parts v.grid c.self.inside.walks c.self.inside.added) c.self.view_is c.self.invariant in
+    let priced = subst (λ (v : PricedParts). ArePriced v.parts v.grid c.self.inside.walks c.self.inside.added) c.self.view_is c.self.invariant.priced in
     let u = c.local_time-u.result in
     let m = c.minutes_to_call.result in
     let run_is = c.run-run.ensures ∙ ap (λ (v : PartTable). run_at v.runs c.args.number) (c.parts.ensures ∙ ap (λ (v : PricedParts). v.parts) c.self.view_is) in
@@ -76,7 +76,7 @@ returns-clause-cost c =
 pub returns-clause-bound : goal.returns-clause-bound
 returns-clause-bound c =
     let own = c.self.inside in
-    let priced = subst (λ (v : PricedParts). ArePriced v.parts v.grid c.self.inside.walks c.self.inside.added) c.self.view_is c.self.invariant in
+    let priced = subst (λ (v : PricedParts). ArePriced v.parts v.grid c.self.inside.walks c.self.inside.added) c.self.view_is c.self.invariant.priced in
     let u = c.local_time-u.result in
     let m = c.minutes_to_call.result in
     let run_is = c.run-run.ensures ∙ ap (λ (v : PartTable). run_at v.runs c.args.number) (c.parts.ensures ∙ ap (λ (v : PricedParts). v.parts) c.self.view_is) in

@@ -10,7 +10,7 @@ use Rattle.walk_costs.proofs.walks.StationWalks.costs_in_day.Goals as goal
 pub local_time-u-requires : goal.local_time-u-requires
 local_time-u-requires c =
     let w = c.args.self.now in
-    let table = subst (λ (v : PricedParts). IsPartTable v.parts) c.self.view_is c.self.invariant.table in
+    let table = subst (λ (v : PricedParts). IsPartTable v.parts) c.self.view_is c.self.invariant.priced.table in
     let begins = (c.requires.walks c.args.lo (omega arith) (omega (arith, c.requires.order))).begins in
     omega (arith, begins.not_over, ends w.parts table c.args.date.now.run begins.is_run, in_century w.parts table)
 
@@ -20,7 +20,7 @@ overflow_add-costs c =
     let own = c.self.inside in
     let date = c.args.date.now in
     let t = c.args.lo + c.loop-i.i in
-    let priced = subst (λ (v : PricedParts). ArePriced v.parts v.grid c.self.inside.walks c.self.inside.added) c.self.view_is c.self.invariant in
+    let priced = subst (λ (v : PricedParts). ArePriced v.parts v.grid c.self.inside.walks c.self.inside.added) c.self.view_is c.self.invariant.priced in
     let sum = sum_at w own.walks own.added priced date c.requires.date c.args.lo c.args.hi c.requires.walks c.requires.day t c.loop-i.u c.loop-i.to_call
     (omega arith) (omega (arith, c.loop-i-test.true)) c.loop-i.invariant.time c.loop-i.invariant.call in
     let fits = most_fits w own.walks own.added priced date.announced date.second t date.run
@@ -33,7 +33,7 @@ overflow_add-costs-in-loop-i c =
     let own = c.self.inside in
     let date = c.args.date.now in
     let t = c.args.lo + c.loop-i.i in
-    let priced = subst (λ (v : PricedParts). ArePriced v.parts v.grid c.self.inside.walks c.self.inside.added) c.self.view_is c.self.invariant in
+    let priced = subst (λ (v : PricedParts). ArePriced v.parts v.grid c.self.inside.walks c.self.inside.added) c.self.view_is c.self.invariant.priced in
     let sum = sum_at w own.walks own.added priced date c.requires.date c.args.lo c.args.hi c.requires.walks c.requires.day t c.loop-i.u c.loop-i.to_call
     (omega arith) (omega (arith, c.loop-i-test.true)) c.loop-i.invariant.time c.loop-i.invariant.call in
     let fits = most_fits w own.walks own.added priced date.announced date.second t date.run
@@ -46,7 +46,7 @@ loop-i-preserved c =
     let own = c.self.inside in
     let date = c.args.date.now in
     let t = c.args.lo + c.loop-i.i in
-    let priced = subst (λ (v : PricedParts). ArePriced v.parts v.grid c.self.inside.walks c.self.inside.added) c.self.view_is c.self.invariant in
+    let priced = subst (λ (v : PricedParts). ArePriced v.parts v.grid c.self.inside.walks c.self.inside.added) c.self.view_is c.self.invariant.priced in
     let sum = sum_at w own.walks own.added priced date c.requires.date c.args.lo c.args.hi c.requires.walks c.requires.day t c.loop-i.u c.loop-i.to_call
     (omega arith) (omega (arith, c.loop-i-test.true)) c.loop-i.invariant.time c.loop-i.invariant.call in
     record {

@@ -10,8 +10,8 @@ pub returns-then-last-run_end : goal.returns-then-last-run_end
 returns-then-last-run_end c =
     let w = c.args.self.now in
     let i = c.loop-i.i in
-    let table = subst (λ (v : PricedParts). IsPartTable v.parts) c.self.view_is c.self.invariant.table in
-    let station = subst (λ (v : PricedParts). v.parts.station ≡ v.grid.station) c.self.view_is c.self.invariant.station in
+    let table = subst (λ (v : PricedParts). IsPartTable v.parts) c.self.view_is c.self.invariant.priced.table in
+    let station = subst (λ (v : PricedParts). v.parts.station ≡ v.grid.station) c.self.view_is c.self.invariant.priced.station in
     let parts_is = c.parts-parts.ensures ∙ ap (λ (v : PricedParts). v.parts) c.self.view_is in
     let end = c.run_end.ensures ∙ ap (λ (v : PartTable). end_of_run v.runs v.end c.loop-i.i) parts_is in
     let run_is = c.run.ensures ∙ ap (λ (v : PartTable). run_at v.runs c.loop-i.i) parts_is in
@@ -25,7 +25,7 @@ pub loop-i-preserved : goal.loop-i-preserved
 loop-i-preserved c =
     let w = c.args.self.now in
     let i = c.loop-i.i in
-    let table = subst (λ (v : PricedParts). IsPartTable v.parts) c.self.view_is c.self.invariant.table in
+    let table = subst (λ (v : PricedParts). IsPartTable v.parts) c.self.view_is c.self.invariant.priced.table in
     let parts_is = c.parts-parts.ensures ∙ ap (λ (v : PricedParts). v.parts) c.self.view_is in
     let end = c.run_end.ensures ∙ ap (λ (v : PartTable). end_of_run v.runs v.end c.loop-i.i) parts_is in
     let run_is = c.run.ensures ∙ ap (λ (v : PartTable). run_at v.runs c.loop-i.i) parts_is in

@@ -13,7 +13,7 @@ pub returns-then-is_told_alike : goal.returns-then-is_told_alike
 returns-then-is_told_alike c =
     let own = c.self.inside in
     let w = c.args.self.now in
-    let priced = subst (λ (v : PricedParts). ArePriced v.parts v.grid c.self.inside.walks c.self.inside.added) c.self.view_is c.self.invariant in
+    let priced = subst (λ (v : PricedParts). ArePriced v.parts v.grid c.self.inside.walks c.self.inside.added) c.self.view_is c.self.invariant.priced in
     let run_is = c.run-at.ensures ∙ ap (λ (v : PartTable). run_at v.runs c.args.run) (c.parts.ensures ∙ ap (λ (v : PricedParts). v.parts) c.self.view_is) in
     let same = subst (λ (r : Run). r.plain ≡ r.announced) run_is
     (c.is_told_alike.ensures.0 c.if-is_told_alike.true) in
@@ -24,7 +24,7 @@ pub returns-then-seconds-ge-TWO_MINUTES : goal.returns-then-seconds-ge-TWO_MINUT
 returns-then-seconds-ge-TWO_MINUTES c =
     let own = c.self.inside in
     let w = c.args.self.now in
-    let priced = subst (λ (v : PricedParts). ArePriced v.parts v.grid c.self.inside.walks c.self.inside.added) c.self.view_is c.self.invariant in
+    let priced = subst (λ (v : PricedParts). ArePriced v.parts v.grid c.self.inside.walks c.self.inside.added) c.self.view_is c.self.invariant.priced in
     let run_is = c.run-at.ensures ∙ ap (λ (v : PartTable). run_at v.runs c.args.run) (c.parts.ensures ∙ ap (λ (v : PricedParts). v.parts) c.self.view_is) in
     let other = subst (λ (r : Run). r.plain ≡ r.announced → ⊥) run_is
     (λ same. let alike = c.is_told_alike.ensures.1 same in let other = c.if-is_told_alike.false in absurd cc) in
@@ -37,7 +37,7 @@ pub returns-then-differs_elsewhere : goal.returns-then-differs_elsewhere
 returns-then-differs_elsewhere c =
     let own = c.self.inside in
     let w = c.args.self.now in
-    let priced = subst (λ (v : PricedParts). ArePriced v.parts v.grid c.self.inside.walks c.self.inside.added) c.self.view_is c.self.invariant in
+    let priced = subst (λ (v : PricedParts). ArePriced v.parts v.grid c.self.inside.walks c.self.inside.added) c.self.view_is c.self.invariant.priced in
     let run_is = c.run-at.ensures ∙ ap (λ (v : PartTable). run_at v.runs c.args.run) (c.parts.ensures ∙ ap (λ (v : PricedParts). v.parts) c.self.view_is) in
     let station_is = c.station.ensures ∙ ap (λ (v : PricedParts). v.grid.station) c.self.view_is in
     let there = subst (λ (s : Station). DiffersElsewhere s (run_at c.args.self.now.parts.runs c.args.run)) station_is

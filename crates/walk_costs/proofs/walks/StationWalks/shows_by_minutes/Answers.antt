@@ -9,21 +9,21 @@ use Rattle.walk_costs.proofs.walks.StationWalks.shows_by_minutes.Goals as goal
 pub slots_in-to-requires-clause-century : goal.slots_in-to-requires-clause-century
 slots_in-to-requires-clause-century c =
     let w = c.args.self.now in
-    let table = subst (λ (v : PricedParts). IsPartTable v.parts) c.self.view_is c.self.invariant.table in
+    let table = subst (λ (v : PricedParts). IsPartTable v.parts) c.self.view_is c.self.invariant.priced.table in
     let parts_is = c.parts-parts.ensures ∙ ap (λ (v : PricedParts). v.parts) c.self.view_is in
     let end = c.run_end.ensures ∙ ap (λ (v : PartTable). end_of_run v.runs v.end c.loop-i.i) parts_is in
     omega (arith, end, ends w.parts table c.loop-i.i c.loop-i.invariant.here.is_run, in_century w.parts table)
 
 pub shows_in_run-requires-clause-minute : goal.shows_in_run-requires-clause-minute
 shows_in_run-requires-clause-minute c =
-    let table = subst (λ (v : PricedParts). IsPartTable v.parts) c.self.view_is c.self.invariant.table in
+    let table = subst (λ (v : PricedParts). IsPartTable v.parts) c.self.view_is c.self.invariant.priced.table in
     omega (arith, c.requires.regular.early, in_century c.args.self.now.parts table)
 
 pub returns-then-shows_in_run : goal.returns-then-shows_in_run
 returns-then-shows_in_run c =
     let w = c.args.self.now in
-    let table = subst (λ (v : PricedParts). IsPartTable v.parts) c.self.view_is c.self.invariant.table in
-    let station = subst (λ (v : PricedParts). v.parts.station ≡ v.grid.station) c.self.view_is c.self.invariant.station in
+    let table = subst (λ (v : PricedParts). IsPartTable v.parts) c.self.view_is c.self.invariant.priced.table in
+    let station = subst (λ (v : PricedParts). v.parts.station ≡ v.grid.station) c.self.view_is c.self.invariant.priced.station in
     let parts_is = c.parts-parts.ensures ∙ ap (λ (v : PricedParts). v.parts) c.self.view_is in
     let end = c.run_end.ensures ∙ ap (λ (v : PartTable). end_of_run v.runs v.end c.loop-i.i) parts_is in
     let count = c.seconds-seconds.ensures.count ∙ ap (λ (v : PricedParts). length v.grid.rows) c.self.view_is in (
@@ -36,8 +36,8 @@ returns-then-shows_in_run c =
 pub returns-then-to-seconds : goal.returns-then-to-seconds
 returns-then-to-seconds c =
     let w = c.args.self.now in
-    let table = subst (λ (v : PricedParts). IsPartTable v.parts) c.self.view_is c.self.invariant.table in
-    let station = subst (λ (v : PricedParts). v.parts.station ≡ v.grid.station) c.self.view_is c.self.invariant.station in
+    let table = subst (λ (v : PricedParts). IsPartTable v.parts) c.self.view_is c.self.invariant.priced.table in
+    let station = subst (λ (v : PricedParts). v.parts.station ≡ v.grid.station) c.self.view_is c.self.invariant.priced.station in
     let parts_is = c.parts-parts.ensures ∙ ap (λ (v : PricedParts). v.parts) c.self.view_is in
     let end = c.run_end.ensures ∙ ap (λ (v : PartTable). end_of_run v.runs v.end c.loop-i.i) parts_is in
     let count = c.seconds-seconds.ensures.count ∙ ap (λ (v : PricedParts). length v.grid.rows) c.self.view_is in
@@ -51,8 +51,8 @@ returns-then-to-seconds c =
 pub loop-i-preserved : goal.loop-i-preserved
 loop-i-preserved c =
     let w = c.args.self.now in
-    let table = subst (λ (v : PricedParts). IsPartTable v.parts) c.self.view_is c.self.invariant.table in
-    let station = subst (λ (v : PricedParts). v.parts.station ≡ v.grid.station) c.self.view_is c.self.invariant.station in
+    let table = subst (λ (v : PricedParts). IsPartTable v.parts) c.self.view_is c.self.invariant.priced.table in
+    let station = subst (λ (v : PricedParts). v.parts.station ≡ v.grid.station) c.self.view_is c.self.invariant.priced.station in
     let parts_is = c.parts-parts.ensures ∙ ap (λ (v : PricedParts). v.parts) c.self.view_is in
     let end = c.run_end.ensures ∙ ap (λ (v : PartTable). end_of_run v.runs v.end c.loop-i.i) parts_is in
     let count = c.seconds-seconds.ensures.count ∙ ap (λ (v : PricedParts). length v.grid.rows) c.self.view_is in

@@ -11,7 +11,7 @@ use Rattle.walk_costs.proofs.walks.StationWalks.shows_in_slot.Goals as goal
 pub local_time-u-requires : goal.local_time-u-requires
 local_time-u-requires c =
     let w = c.args.self.now in
-    let table = subst (λ (v : PricedParts). IsPartTable v.parts) c.self.view_is c.self.invariant.table in
+    let table = subst (λ (v : PricedParts). IsPartTable v.parts) c.self.view_is c.self.invariant.priced.table in
     let begins = c.requires.begins in
     omega (arith, begins.not_over, ends w.parts table c.args.run begins.is_run, in_century w.parts table)
 
@@ -19,7 +19,7 @@ pub returns : goal.returns
 returns c =
     let own = c.self.inside in
     let w = c.args.self.now in
-    let priced = subst (λ (v : PricedParts). ArePriced v.parts v.grid c.self.inside.walks c.self.inside.added) c.self.view_is c.self.invariant in
+    let priced = subst (λ (v : PricedParts). ArePriced v.parts v.grid c.self.inside.walks c.self.inside.added) c.self.view_is c.self.invariant.priced in
     let parts_is = c.parts-parts.ensures ∙ ap (λ (v : PricedParts). v.parts) c.self.view_is in
     let run_is = c.run-at.ensures ∙ ap (λ (v : PartTable). run_at v.runs c.args.run) parts_is in
     let time_is = c.local_time-u.ensures.time ∙ ap (λ (r : Run). (c.args.t0 + r.shift) % 1440) run_is in

@@ -1,9 +1,0 @@
-use Rattle.std.proofs.Common.{◌≡◌, ◌<◌, ℕ, length, get_or}
-use Rattle.walk_costs.specs.Dates.{date_cost}
-use Rattle.walk_costs.proofs.date.by_minute.Given as goal
-
-abbrev pub invariant-loop-m : goal.invariant-loop-m
-invariant-loop-m l = record {
-  long : length l.costs ≡ 30;
-  done : (m : ℕ) → m < l.m → get_or l.costs m 0 ≡ date_cost l.columns l.p m l.part;
-}

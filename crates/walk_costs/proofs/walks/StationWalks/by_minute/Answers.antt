@@ -1,0 +1,15 @@
+use Rattle.std.proofs.Common.{arith}
+use Rattle.walk_costs.proofs.DateLaws.{most_of_few, part_bound}
+use Rattle.walk_costs.proofs.walks.StationWalks.by_minute.Goals as goal
+
+pub by_minute-requires-clause-fits : goal.by_minute-requires-clause-fits
+by_minute-requires-clause-fits c =
+    let grid = c.self.inside.columns in
+    let priced = c.self.invariant.priced in
+    omega (arith, part_bound grid c.args.p c.run-at.result.now.announced priced.small, most_of_few grid priced.few priced.short)
+
+pub by_minute_with-requires-clause-fits : goal.by_minute_with-requires-clause-fits
+by_minute_with-requires-clause-fits c =
+    let grid = c.self.inside.columns in
+    let priced = c.self.invariant.priced in
+    omega (arith, part_bound grid c.args.p c.run-at.result.now.plain priced.small, most_of_few grid priced.few priced.short)
