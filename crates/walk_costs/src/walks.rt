@@ -240,8 +240,8 @@ impl StationWalks {
         ((p as usize + seconds).saturating_sub(1) / SECONDS_PER_MINUTE) as u32
     }
 
-    // What the seconds of DUT1 add: nothing where the walk goes on to another UTC day.
-    fn added_from(&self, p: u8, t0: u32) -> u32
+    /// What the seconds of DUT1 add: nothing where the walk goes on to another UTC day.
+    pub fn added_from(&self, p: u8, t0: u32) -> u32
         requires second { p < SECONDS_PER_MINUTE }
         requires minute { t0 < century_minutes }
         ensures one_day { (last_minute self.now p t0 / minutes_per_day == t0 / minutes_per_day) ≡ true → IsAdded self.now.grid p result }
