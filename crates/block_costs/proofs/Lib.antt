@@ -1,3 +1,5 @@
-pub mod SumLaws
-pub mod UnionLaws
 pub mod KeptLaws
+pub mod MinuteLaws
+pub mod SumLaws
+pub mod TotalLaws
+pub mod UnionLaws

@@ -1,5 +1,5 @@
 -- Ranges of minutes whose unions are kept, and what these cost.
-use Rattle.std.specs.Prelude.{ℕ, ◌≡◌, ◌<◌, ◌≤◌, false, List, [], length, slice_index_or}
+use Rattle.std.specs.Prelude.{ℕ, ◌≡◌, ◌<◌, ◌≤◌, false, List, length, slice_index_or}
 use Rattle.slot_columns.specs.Layered.{LayerSums, layer_cost, part_at}
 use Rattle.slot_columns.specs.Parts.{most_cost}
 use Rattle.slot_columns.specs.declared.limits.TheConstants.{SECONDS_PER_MINUTE}

@@ -26,8 +26,8 @@ pub fn cost_as_asked(walks: &StationWalks, announced: bool, p: u8, lo: u32, hi: 
     }
 }
 
-// The same by a union for each minute that the walks go through.
-fn cost_by_minutes(walks: &StationWalks, announced: bool, p: u8, lo: u32, hi: u32) -> u32
+/// The same by a union for each minute that the walks go through.
+pub fn cost_by_minutes(walks: &StationWalks, announced: bool, p: u8, lo: u32, hi: u32) -> u32
     requires second { p < SECONDS_PER_MINUTE }
     requires some { lo < hi }
     requires regular { AreRegular announced lo (hi + later_minutes (length walks.now.grid.rows) p) walks.now.parts.end }

@@ -5,7 +5,9 @@
 mod asked;
 mod blocks;
 mod kept;
+mod minutes;
 #[cfg(test)]
 mod tests;
 
 pub use blocks::{BlocksFault, StationBlocks};
+pub use minutes::{HOUR_MINUTES, MinuteCosts};

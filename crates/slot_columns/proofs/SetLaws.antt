@@ -96,7 +96,7 @@ pub symbol_entry : (rows : List (List ℕ)) (k x : ℕ) → k < length rows → 
 symbol_entry rows k x within few =
     ap (λ (row : List ℕ). get_or row x 0) (get_or-map by_symbol rows k [] [] within) ∙ symbol_in_row (get_or rows k []) x few
 
-few_symbols : (station : Station) → symbol_count station ≤ 5
+pub few_symbols : (station : Station) → symbol_count station ≤ 5
 few_symbols Dcf77 = omega arith
 few_symbols Msf = omega arith
 few_symbols Wwvb = omega arith
