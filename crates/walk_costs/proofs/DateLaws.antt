@@ -1,6 +1,5 @@
 -- What the date costs in the seconds that are given up for the call sign, walk minute by walk minute, and in the others.
 use Rattle.std.proofs.Common.{◌≡◌, ℕ, ◌+◌, ◌*◌, ◌/◌, ◌%◌, ◌<◌, ◌≤◌, inl, inr, Bool, true, false, ◌==◌, nat_lt, if◌then◌else◌, List, length, get_or, refl, sym, ap, ◌∙◌, arith}
-use Rattle.std.proofs.Math.Nat.{mul-le-mul_left}
 use Rattle.std.proofs.lemmas.Bool.{cases_lt, eq-eqb, le-ltb, lt-ltb, ne_eqb}
 use Rattle.definitions.specs.heard.Costs.{sum_below}
 use Rattle.definitions.proofs.CostLaws.{sum_below_bound, sum_below_same}
@@ -12,12 +11,6 @@ use Rattle.walk_costs.specs.Dates.{given_up, given_up_set, is_given_up, kept, ke
 use Rattle.walk_costs.specs.Walks.{AreSmall, later_minutes}
 use Rattle.walk_costs.proofs.SumLaws.{cost_in, made_part, part_by_second, sum_le, sum_of_two}
 use Rattle.walk_costs.proofs.WalkLaws.{lost, lost_sum}
-
--- the most that slots can cost is a number of 32 bits
-pub most_of_few : (grid : Grid) → grid.receivers ≤ 8 → length grid.rows ≤ 1200 → most_cost grid ≤ 1_920_000_000
-most_of_few grid few short =
-    let small : grid.receivers * RECEIVER_COST ≤ 1_600_000 = omega (arith, few) in
-    omega (arith, short, mul-le-mul_left (length grid.rows) small)
 
 module _ (grid : Grid) (p : ℕ) (part : List ℕ) where
   abbrev pub n : ℕ

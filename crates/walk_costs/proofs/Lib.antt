@@ -4,6 +4,7 @@ pub mod PlaceLaws
 pub mod RunLaws
 pub mod SplitLaws
 pub mod SlotLaws
+pub mod CallLaws
 pub mod WalkLaws
 pub mod DateLaws
 pub mod ShownLaws

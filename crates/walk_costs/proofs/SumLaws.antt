@@ -1,12 +1,14 @@
 -- Sums over the slots of a walk.
-use Rattle.std.proofs.Common.{◌≡◌, ℕ, zero, suc, ◌+◌, ◌%◌, ◌<◌, ◌≤◌, Bool, true, false, nat_lt, if◌then◌else◌, List, length, map, get_or, refl, ap, ◌∙◌, arith}
+use Rattle.std.proofs.Common.{◌≡◌, ℕ, zero, suc, ◌+◌, ◌*◌, ◌%◌, ◌<◌, ◌≤◌, Bool, true, false, nat_lt, if◌then◌else◌, List, length, map, get_or, refl, ap, ◌∙◌, arith}
+use Rattle.std.proofs.Math.Nat.{mul-le-mul_left}
 use Rattle.std.specs.List.{range_with_len}
 use Rattle.std.proofs.lemmas.Bool.{ltb-true}
 use Rattle.std.proofs.lemmas.List.FromFn.{get_or-map-range_with_len}
 use Rattle.definitions.specs.heard.Costs.{set_cost, sum_below}
 use Rattle.definitions.proofs.CostLaws.{sum_below_same}
 use Rattle.symbol_cost.specs.Grid.{Grid, cost_at}
-use Rattle.slot_columns.specs.Parts.{layered_set}
+use Rattle.symbol_cost.specs.declared.limits.TheConstants.{RECEIVER_COST}
+use Rattle.slot_columns.specs.Parts.{layered_set, most_cost}
 use Rattle.walk_costs.specs.Dates.{part_cost}
 
 -- a sum of lesser terms
@@ -25,6 +27,12 @@ sum_of_two (suc n) f g = omega (arith, sum_of_two n f g)
 pub sums_of_two : (n : ℕ) (f g h i : ℕ → ℕ) → ((k : ℕ) → k < n → f k + g k ≡ h k + i k) → sum_below n f + sum_below n g ≡ sum_below n h + sum_below n i
 sums_of_two n f g h i same =
     omega (arith, sum_of_two n f g, sum_of_two n h i, sum_below_same n (λ k. f k + g k) (λ k. h k + i k) same)
+
+-- the most that slots can cost is a number of 32 bits
+pub most_of_few : (grid : Grid) → grid.receivers ≤ 8 → length grid.rows ≤ 1200 → most_cost grid ≤ 1_920_000_000
+most_of_few grid few short =
+    let small : grid.receivers * RECEIVER_COST ≤ 1_600_000 = omega (arith, few) in
+    omega (arith, short, mul-le-mul_left (length grid.rows) small)
 
 -- what a set costs in a slot
 abbrev pub cost_in : Grid → ℕ → ℕ → ℕ

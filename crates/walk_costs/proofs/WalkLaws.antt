@@ -1,6 +1,5 @@
 -- What a walk costs by the parts of its minutes.
 use Rattle.std.proofs.Common.{◌≡◌, ℕ, ◌+◌, ◌*◌, ◌/◌, ◌%◌, ◌^◌, ◌<◌, ◌≤◌, Bool, true, false, ◌==◌, ◌&&◌, ◌||◌, if◌then◌else◌, ℤ, List, [], ◌∷◌, length, map, fold, min, get_or, slice_index_or, unwrap_or, refl, sym, ap, ◌∙◌, arith}
-use Rattle.std.proofs.Math.Nat.{mul-le-mul_left}
 use Rattle.signal_base.specs.declared.station.Station.{Station}
 use Rattle.signal_base.specs.declared.station.Station.TheVariants.{Dcf77, Msf, Wwvb, Jjy}
 use Rattle.signal_base.specs.Waveform.{symbol_count}
@@ -20,7 +19,7 @@ use Rattle.slot_columns.specs.Parts.{minute_cost, most_cost, walk_cost, walk_set
 use Rattle.slot_columns.proofs.SetLaws.{none_chosen, only_costs}
 use Rattle.walk_costs.specs.Dates.{IsAdded, date_cost, free_part, free_set, given_up, given_up_set, is_given_up, least_told, minutes_to_call, part_cost, told_part, told_set}
 use Rattle.walk_costs.specs.Walks.{ArePriced, IsPlainIn, PricedParts, cost_of, last_minute}
-use Rattle.walk_costs.proofs.SumLaws.{at_second, cost_in, made_part, part_by_second, sum_le, sum_of_two, sums_of_two}
+use Rattle.walk_costs.proofs.SumLaws.{at_second, cost_in, made_part, most_of_few, part_by_second, sum_le, sum_of_two, sums_of_two}
 use Rattle.walk_costs.proofs.ToldLaws.{bit_below}
 use Rattle.walk_costs.proofs.PlaceLaws.{one_day}
 use Rattle.walk_costs.proofs.SlotLaws.{place_in, set_in}
@@ -249,9 +248,7 @@ module _ (w : PricedParts) (costs : List (List ℕ)) (more : List ℕ) (priced :
       omega (arith, value.1, sum_of_two n f g, sum_below_bound n (w.grid.receivers * RECEIVER_COST) (λ k. f k + g k) (slot_bound value.0))
 
   pub most_fits : most_cost w.grid ≤ 1_920_000_000
-  most_fits =
-      let small : w.grid.receivers * RECEIVER_COST ≤ 1_600_000 = omega (arith, priced.few) in
-      omega (arith, priced.short, mul-le-mul_left n small)
+  most_fits = most_of_few w.grid priced.few priced.short
 
   -- the cost of the sequence, from the sum of its sets
   pub record IsTotal (sets added : ℕ) : Type 0 where

@@ -1,5 +1,5 @@
 -- What a walk of 60 seconds in each minute costs by the two parts of its telegrams, and what DUT1 adds to it.
-use Rattle.std.specs.Prelude.{ℕ, ◌≡◌, ◌+◌, ◌-◌, ◌%◌, ◌<◌, Bool, true, false, ◌||◌, if◌then◌else◌, List, length, map, slice_index, unwrap_or, ℤ}
+use Rattle.std.specs.Prelude.{ℕ, ◌≡◌, ◌+◌, ◌-◌, ◌%◌, ◌<◌, ◌≤◌, Bool, true, false, ◌||◌, if◌then◌else◌, List, length, map, slice_index, unwrap_or, ℤ}
 use Rattle.std.specs.List.{range_with_len}
 use Rattle.signal_base.specs.declared.station.Station.{Station}
 use Rattle.signal_base.specs.declared.station.Station.TheVariants.{Jjy}
@@ -9,6 +9,7 @@ use Rattle.definitions.specs.heard.Dut1.{dut1_symbol, dut1_values, has_dut1, is_
 use Rattle.symbol_cost.specs.Grid.{Grid, cost_at}
 use Rattle.slot_columns.specs.Parts.{layered_cost, minute_cost}
 use Rattle.slot_columns.specs.declared.limits.TheConstants.{SECONDS_PER_MINUTE}
+use Rattle.walk_costs.specs.declared.call.TheConstants.{CALL_BEGIN, CALL_END}
 
 -- what a part costs over the slots of a grid where each minute of the walk carries it
 abbrev pub part_cost : Grid → ℕ → List ℕ → ℕ
@@ -26,7 +27,12 @@ given_up_set station part s = if is_given_up station s then slice_index part s e
 unfoldable pub given_up : Station → List ℕ → List ℕ
 given_up station part = map (given_up_set station part) (range_with_len 0 60)
 
--- and what it tells of the others, and 0 of these
+-- a part that tells of no other seconds than those from 40 to 55, in which the call sign is
+pub record TellsOfCall (part : List ℕ) : Type 0 where
+  pub before : (s : ℕ) → s < CALL_BEGIN → slice_index part s ≡ 0
+  pub after : (s : ℕ) → CALL_END ≤ s → s < SECONDS_PER_MINUTE → slice_index part s ≡ 0
+
+-- what the date tells of the other seconds, and 0 of these
 abbrev pub kept_set : Station → List ℕ → ℕ → ℕ
 kept_set station part s = if is_given_up station s then 0 else slice_index part s
 

@@ -4,6 +4,7 @@ ghost use Rattle.std.specs.Prelude.{◌≡◌, ◌+◌, ◌-◌, ◌^◌, ◌<�
 ghost use Rattle.walk_costs.specs.Dates.{date_cost, given_up, given_up_set, is_given_up, kept, kept_set, part_cost};
 ghost use Rattle.walk_costs.specs.Walks.{later_minutes};
 
+use crate::call::call_cost;
 use crate::shown::Shown;
 use signal_base::Station;
 use slot_columns::{Part, SECONDS_PER_MINUTE, SlotColumns};
@@ -70,7 +71,7 @@ pub fn by_minute_with(columns: &SlotColumns, p: u8, part: &Part, rest: u32) -> B
     let mut lost = alike(0);
     let mut whole = rest;
     for m in 0..walk_minutes(columns, p) {
-        lost[m] = columns.minute_cost(p, m as u8, &given_up);
+        lost[m] = call_cost(columns, p, m as u8, &given_up);
         whole += lost[m];
     }
     all_but(whole, &lost)

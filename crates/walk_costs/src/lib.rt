@@ -3,6 +3,7 @@
 #![tactic(auto)]
 
 mod announced;
+mod call;
 mod date;
 mod dut;
 mod kept;

@@ -4,6 +4,7 @@ use Rattle.signal_base.specs.declared.station.Station.{Station}
 use Rattle.symbol_cost.specs.Grid.{cost_at}
 use Rattle.slot_columns.specs.Parts.{minute_cost}
 use Rattle.walk_costs.specs.Dates.{given_up, is_given_up}
+use Rattle.walk_costs.proofs.CallLaws.{tells_of_call}
 use Rattle.walk_costs.proofs.DateLaws.{all_lost, before_all, kept_and_given, minute_lost, none_before, none_given, one_more_lost}
 use Rattle.walk_costs.proofs.WalkLaws.{given_up_cost, lost_le, none_lost}
 use Rattle.walk_costs.proofs.date.by_minute_with.Goals as goal
@@ -30,16 +31,19 @@ loop-m-init c = record {
   sum = omega (arith, none_before c.args.columns.now c.args.p c.args.part.now);
 }
 
+pub call_cost-requires-clause-seconds : goal.call_cost-requires-clause-seconds
+call_cost-requires-clause-seconds c = tells_of_call c.station-station.result c.args.part.now c.given_up-given_up.result c.given_up-given_up.ensures
+
 pub overflow_add-whole : goal.overflow_add-whole
 overflow_add-whole c =
     let grid = c.args.columns.now in
     let p = c.args.p in
     let part = c.args.part.now in
     let m = c.loop-m.m in
-    let minute = given_up_cost grid p m part c.station-station.result c.given_up-given_up.result c.minute_cost.result
-    c.station-station.ensures c.given_up-given_up.ensures c.minute_cost.ensures.cost in
+    let minute = given_up_cost grid p m part c.station-station.result c.given_up-given_up.result c.call_cost.result
+    c.station-station.ensures c.given_up-given_up.ensures c.call_cost.ensures in
     let within : c.loop-m.m < length c.loop-m.lost = omega (arith, c.loop-m.invariant.long, c.loop-m-test.true, c.walk_minutes-m-end.ensures.bound) in
-    let one : get_or (set c.loop-m.lost c.loop-m.m c.minute_cost.result) c.loop-m.m 0 ≡ c.minute_cost.result = rw get_or-set_same in
+    let one : get_or (set c.loop-m.lost c.loop-m.m c.call_cost.result) c.loop-m.m 0 ≡ c.call_cost.result = rw get_or-set_same in
     omega (
       arith,
       one,
@@ -58,14 +62,14 @@ loop-m-preserved c =
     let p = c.args.p in
     let part = c.args.part.now in
     let m = c.loop-m.m in
-    let minute = given_up_cost grid p m part c.station-station.result c.given_up-given_up.result c.minute_cost.result
-    c.station-station.ensures c.given_up-given_up.ensures c.minute_cost.ensures.cost in
+    let minute = given_up_cost grid p m part c.station-station.result c.given_up-given_up.result c.call_cost.result
+    c.station-station.ensures c.given_up-given_up.ensures c.call_cost.ensures in
     let within : c.loop-m.m < length c.loop-m.lost = omega (arith, c.loop-m.invariant.long, c.loop-m-test.true, c.walk_minutes-m-end.ensures.bound) in
-    let one : get_or (set c.loop-m.lost c.loop-m.m c.minute_cost.result) c.loop-m.m 0 ≡ c.minute_cost.result = rw get_or-set_same in
+    let one : get_or (set c.loop-m.lost c.loop-m.m c.call_cost.result) c.loop-m.m 0 ≡ c.call_cost.result = rw get_or-set_same in
     record {
       long = simp length-set c.loop-m.invariant.long;
       done = below_more
-          (λ j. get_or (set c.loop-m.lost c.loop-m.m c.minute_cost.result) j 0
+          (λ j. get_or (set c.loop-m.lost c.loop-m.m c.call_cost.result) j 0
           ≡ minute_cost grid.station (cost_at grid.rows) (length grid.rows) p j (given_up grid.station part)) m
           (λ j lt. let other : j ≢ c.loop-m.m = omega arith in rw get_or-set_other (c.loop-m.invariant.done j lt)) (one ∙ minute);
       none = λ j le few. let other : j ≢ c.loop-m.m = omega arith in rw get_or-set_other (c.loop-m.invariant.none j (omega arith) few);

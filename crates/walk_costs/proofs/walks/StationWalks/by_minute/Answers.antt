@@ -1,5 +1,6 @@
 use Rattle.std.proofs.Common.{arith}
-use Rattle.walk_costs.proofs.DateLaws.{most_of_few, part_bound}
+use Rattle.walk_costs.proofs.DateLaws.{part_bound}
+use Rattle.walk_costs.proofs.SumLaws.{most_of_few}
 use Rattle.walk_costs.proofs.walks.StationWalks.by_minute.Goals as goal
 
 pub by_minute-requires-clause-fits : goal.by_minute-requires-clause-fits
