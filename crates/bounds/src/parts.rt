@@ -1,6 +1,6 @@
 //! The children of a block: the days of a year, the hours of a day, the minutes of an hour.
 
-ghost use Rattle.std.specs.Prelude.{◌≡◌, ◌≢◌, ◌+◌, ◌*◌, ◌/◌, ◌<◌, ℕ, List};
+ghost use Rattle.std.specs.Prelude.{◌≡◌, ◌≢◌, ◌+◌, ◌*◌, ◌/◌, ◌<◌, List, min};
 ghost use Rattle.std.specs.Iterator.{YieldsFirst, item_count};
 ghost use Rattle.definitions.specs.declared.block.Block.{Block};
 ghost use Rattle.definitions.specs.declared.block.Span.TheVariants.{Year};
@@ -79,8 +79,7 @@ impl Iterator for ChildBlocks {
             return None;
         }
         let lo = self.lo;
-        let minutes = length(self.span);
-        let hi = lo.saturating_add(minutes - lo % minutes).min(self.hi);
+        let hi = end_of(self.span, lo, self.hi);
         self.most -= 1;
         self.lo = hi;
         Some(Block {
@@ -93,16 +92,25 @@ impl Iterator for ChildBlocks {
     }
 }
 
-// How many minutes a day, an hour or a minute has.
-fn length(span: Span) -> u32
+// Where the day, the hour or the minute ends that has the minute `lo`, or `hi` where that comes before. A search asks this
+// of every block that it visits, so that each length is a number that is known as the program is built.
+fn end_of(span: Span, lo: u32, hi: u32) -> u32
     requires { span ≢ Year }
-    ensures some { 0 < result }
-    ensures ends { (t : ℕ) → span_end span t ≡ (t / result + 1) * result }
+    ensures { result ≡ min (span_end span lo) hi }
 {
     match span {
         Span::Year => unreachable!(),
-        Span::Day => MINUTES_PER_DAY,
-        Span::Hour => MINUTES_PER_HOUR,
-        Span::Minute => 1,
+        Span::Day => end_by(MINUTES_PER_DAY, lo, hi),
+        Span::Hour => end_by(MINUTES_PER_HOUR, lo, hi),
+        Span::Minute => end_by(1, lo, hi),
     }
+}
+
+// The same of spans of so many minutes.
+#[inline(always)]
+fn end_by(minutes: u32, lo: u32, hi: u32) -> u32
+    requires { 0 < minutes }
+    ensures { result ≡ min ((lo / minutes + 1) * minutes) hi }
+{
+    lo.saturating_add(minutes - lo % minutes).min(hi)
 }

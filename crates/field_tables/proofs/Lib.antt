@@ -3,4 +3,4 @@ pub mod WalkableLaws
 pub mod SumLaws
 pub mod BlockLaws
 pub mod UnionBoundLaws
-pub mod DateLaws
+pub mod MinuteLaws

@@ -1,47 +1,32 @@
--- The minutes of an hour in each of which one date is told: what their sequences cost.
-use Rattle.std.specs.Prelude.{ℕ, ◌≡◌, ◌<◌, ◌≤◌, false, List, [], length, slice_index_or}
+-- The bounds of an hour's minutes.
+use Rattle.std.specs.Prelude.{ℕ, ◌≡◌, ◌+◌, ◌<◌, ◌≤◌, ◌↔◌, true, false, [], slice_index, slice_index_or}
+use Rattle.signal_base.specs.declared.limits.TheConstants.{GREATEST_COST}
 use Rattle.signal_base.specs.declared.station.Station.TheVariants.{Dcf77}
 use Rattle.definitions.specs.declared.block.Block.{Block}
 use Rattle.definitions.specs.declared.sequence.Sequence.{Sequence}
-use Rattle.walk_costs.specs.declared.date.DateCost.{DateCost}
-use Rattle.walk_costs.specs.declared.shown.Shown.TheVariants.{Never}
-use Rattle.walk_costs.specs.Walks.{IsDateCost, IsPlainIn, PricedParts}
+use Rattle.definitions.specs.heard.Costs.{sequence_cost}
+use Rattle.definitions.specs.sequences.Walks.{IsLegal}
+use Rattle.walk_costs.specs.Walks.{PricedParts}
+use Rattle.field_tables.specs.declared.minutes.MinuteRow.{MinuteRow}
+use Rattle.block_costs.specs.declared.minutes.TheConstants.{HOUR_MINUTES}
 use Rattle.field_tables.specs.Scored.{Scored}
-use Rattle.definitions.specs.answers.Blocks.{IsBlock}
-use Rattle.field_tables.specs.Blocks.{HasShortWalks}
-use Rattle.field_tables.specs.Sums.{Sums}
+use Rattle.field_tables.specs.Sums.{Sums, costs_by}
 
 -- what stands past the end of lists
 abbrev pub no_walks : PricedParts
 no_walks = record { parts = record { station = Dcf77; times = []; runs = []; end = 0 }; grid = record { station = Dcf77; receivers = 0; rows = [] } }
 
-abbrev pub no_date : DateCost
-no_date = record { announced = false; second = 0; run = 0; shift = 0; by_minute = []; shown = Never }
-
 -- the sequence of a block that begins in a minute
 abbrev pub sequence_at : Block → ℕ → Sequence
 sequence_at b t0 = record { first = t0; second = b.second; announced = b.announced }
 
-pub record HasMinute (b : Block) (t0 : ℕ) : Type 0 where
-  pub not_before : b.lo ≤ t0
-  pub before_end : t0 < b.hi
-
--- the date of a run costs the station this, and the walks of the block lie in the run
-pub record IsDateOf (w : PricedParts) (b : Block) (date : DateCost) : Type 0 where
-  pub announced : date.announced ≡ b.announced
-  pub second : date.second ≡ b.second
-  pub is : IsDateCost w date
-  pub plain : (t0 : ℕ) → HasMinute b t0 → IsPlainIn w b.announced b.second t0 date.run
-
--- the same of the first n stations, in their order
-abbrev pub AreFound : Sums → Block → ℕ → List DateCost → Type 0
-AreFound sums b n dates = (i : ℕ) → i < n → IsDateOf (slice_index_or sums.stations i no_walks) b (slice_index_or dates i no_date)
-
--- of each station of the window, which is at most one of four, for a block of the window
-pub record AreDatesOf (sums : Sums) (b : Block) (dates : List DateCost) : Type 0 where
-  pub block : IsBlock sums.window b
-  pub walks : HasShortWalks sums.window b
-  pub found : AreFound sums b (length sums.stations) dates
+-- the row's entry i tells of the block's minute that comes i minutes after its first: whether its sequence is legal, and if it is, what it costs
+pub record IsRowOf (sums : Sums) (b : Block) (row : MinuteRow) : Type 0 where
+  pub few : b.hi ≤ b.lo + HOUR_MINUTES
+  pub legal : (i : ℕ) → b.lo + i < b.hi → slice_index_or row.legal i false ≡ true ↔ IsLegal sums.window (sequence_at b (b.lo + i))
+  pub cost : (i : ℕ) → b.lo + i < b.hi → slice_index_or row.legal i false ≡ true
+      → slice_index row.costs i ≡ sequence_cost (costs_by sums) sums.window (sequence_at b (b.lo + i))
+  pub small : (i : ℕ) → b.lo + i < b.hi → slice_index row.costs i ≤ GREATEST_COST
 
 -- what contracts see of the minutes of an hour: the tables of their window, and the hour as a block of it
 pub record ScoredHour : Type 0 where

@@ -2,9 +2,9 @@
 #![tactic(auto)]
 
 mod bound;
-mod dates;
 mod hour;
 mod leaps;
+mod minutes;
 mod station;
 mod stations;
 mod sums;

@@ -1,13 +1,20 @@
 //! What one station of a window may send, and what that costs.
 
-ghost use Rattle.std.specs.Prelude.{ℕ, ◌≡◌, ◌<◌, ◌≤◌, ◌↔◌, IfOk, MatchOption, length, slice_index, true};
+ghost use Rattle.std.specs.Prelude.{ℕ, ◌≡◌, ◌+◌, ◌<◌, ◌≤◌, ◌⊎◌, ◌↔◌, IfOk, IsTrue, MatchOption, false, length, slice_index, slice_index_or, true};
 ghost use Rattle.signal_base.specs.declared.limits.TheConstants.{MOST_SECONDS};
 ghost use Rattle.definitions.specs.codes.Allowed.{CanBeEncoded, has_station};
 ghost use Rattle.definitions.specs.answers.Blocks.{HasWalk, IsBlock, IsUnion};
 ghost use Rattle.definitions.specs.sequences.Windows.{IsWindow};
+ghost use Rattle.slot_columns.specs.Parts.{most_cost};
+ghost use Rattle.slot_columns.specs.declared.limits.TheConstants.{SECONDS_PER_MINUTE};
+ghost use Rattle.span_unions.specs.Unions.{AreRegular};
+ghost use Rattle.walk_costs.specs.Walks.{ShowsAnnouncement, cost_of, later_minutes};
+ghost use Rattle.field_tables.specs.Hours.{sequence_at};
 ghost use Rattle.field_tables.specs.Sums.{IsOf};
+ghost use Rattle.block_costs.specs.declared.minutes.TheConstants.{HOUR_MINUTES};
 
-use block_costs::{BlocksFault, StationBlocks};
+use crate::minutes::Flags;
+use block_costs::{BlocksFault, HOUR_MINUTES, MinuteCosts, StationBlocks};
 use civil::Civil;
 use definitions::Block;
 use leap_unions::{LeapFault, LeapUnions, Sets};
@@ -108,6 +115,42 @@ impl StationSums {
         ensures { result.now ≡ self.now }
     {
         &self.blocks
+    }
+
+    /// What the sequences of at most 60 minutes cost the station, whose walks have 60 seconds in each minute.
+    pub fn minute_costs(&self, block: &Block) -> MinuteCosts
+        requires second { block.now.second < SECONDS_PER_MINUTE }
+        requires order { block.now.lo < block.now.hi }
+        requires few { block.now.hi ≤ block.now.lo + HOUR_MINUTES }
+        requires regular { AreRegular block.now.announced block.now.lo (block.now.hi + later_minutes (length self.now.grid.rows) block.now.second) self.now.parts.end }
+        ensures costs { (i : ℕ) → block.now.lo + i < block.now.hi → slice_index result i ≡ cost_of self.now block.now.announced block.now.second (block.now.lo + i) }
+        ensures small { (i : ℕ) → i < HOUR_MINUTES → slice_index result i ≤ most_cost self.now.grid }
+    {
+        self.blocks
+            .minute_costs(block.announced, block.second, block.lo, block.hi)
+    }
+
+    /// Adds the minutes in which an announced sequence shows the announcement at the station.
+    pub fn add_shown(&self, block: &Block, shown: &mut Flags)
+        requires announced { block.now.announced ≡ true }
+        requires second { block.now.second < SECONDS_PER_MINUTE }
+        requires order { block.now.lo < block.now.hi }
+        requires few { block.now.hi ≤ block.now.lo + HOUR_MINUTES }
+        requires regular { AreRegular true block.now.lo (block.now.hi + later_minutes (length self.now.grid.rows) block.now.second) self.now.parts.end }
+        ensures { (i : ℕ) → block.now.lo + i < block.now.hi
+            → slice_index_or shown.new i false ≡ true ↔ (slice_index_or shown.old i false ≡ true ⊎ ShowsAnnouncement self.now (sequence_at block.now (block.now.lo + i))) }
+    {
+        let walks = self.walks();
+        // What ends before the parts' end fits.
+        walks.parts().end();
+        let last = block.hi - 1 + walks.later_minutes(block.second);
+        if walks.never_shows(block.lo, last) {
+            return;
+        }
+        for i in 0..(block.hi - block.lo) as usize {
+            let shows = walks.shows_by_minutes(block.second, block.lo + i as u32);
+            shown[i] = shown[i] || shows;
+        }
     }
 
     /// In each slot the union of what the walkable sequences of an announced block allow the station, or None where no

@@ -103,10 +103,11 @@ impl WindowSums {
         q.first + self.later_minutes(q.second) < self.end
     }
 
-    /// Whether it is known that the walks of a block have 60 seconds in each minute.
+    /// Whether it is known that the walks of a block have 60 seconds in each minute. Where none is announced it is.
     pub fn has_short_walks(&self, civil: &Civil, block: &Block) -> bool
         requires { IsBlock self.now.window block.now }
-        ensures { result ≡ true → HasShortWalks self.now.window block.now }
+        ensures short { result ≡ true → HasShortWalks self.now.window block.now }
+        ensures announced { result ≡ false → block.now.announced ≡ true }
     {
         let second = block.second;
         if second as usize >= SECONDS_PER_MINUTE {

@@ -14,7 +14,7 @@ use crate::station::SumsFault;
 use crate::sums::WindowSums;
 use civil::Civil;
 use definitions::{Block, Sequence};
-use plain_costs::{grid_of, has_walk, plain_cost, union_bound, unions_of};
+use plain_costs::{grid_of, has_walk, plain_cost, unions_of};
 use signal_base::{GREATEST_COST, Station, Window};
 use slot_columns::SECONDS_PER_MINUTE;
 use std::alloc::Global;
@@ -149,25 +149,22 @@ impl<'a> Tables<'a> {
         if self.sums.has_short_walks(self.civil, block) {
             return self.sums.union_bound(block);
         }
-        if block.announced {
-            return self.sums.leap_bound(self.civil, block);
-        }
-        union_bound(self.grids, self.civil, &self.window, block)
+        self.sums.leap_bound(self.civil, block)
     }
 
-    /// What the minutes of an hour cost, where at each station of the window one date is told in all their walks. Of other
-    /// hours each minute is asked for by itself.
+    /// What the minutes of an hour cost, where their walks have 60 seconds in each minute and each station can encode them. Of
+    /// other hours each minute is asked for by itself.
     pub fn hour(&'a self, block: &Block) -> Option<HourCosts<'a>>
         requires { IsBlock self.now.window block.now }
         ensures tables { IfSome result (λ hour. hour.tables ≡ self.now) }
         ensures block { IfSome result (λ hour. hour.block ≡ block.now) }
     {
-        let dates = self.sums.dates_of(self.civil, block)?;
+        let row = self.sums.minutes(self.civil, block)?;
         Some(HourCosts {
             grids: self.grids,
             sums: &self.sums,
             hour: *block,
-            dates,
+            row,
         })
     }
 }

@@ -1,6 +1,5 @@
-use Rattle.std.proofs.Common.{◌≡◌, [], min, sym, ◌∙◌, arith}
-use Rattle.definitions.specs.answers.Blocks.{span_end}
-use Rattle.bounds.proofs.BlockLists.{none_asked, none_left, first_then, end_by_rest, fewer}
+use Rattle.std.proofs.Common.{◌≡◌, [], sym, ◌∙◌, arith}
+use Rattle.bounds.proofs.BlockLists.{none_asked, none_left, first_then, fewer}
 use Rattle.bounds.proofs.parts.ChildBlocksIterator.next.Goals as goal
 
 pub returns-then-self-eq0-clause-steps : goal.returns-then-self-eq0-clause-steps
@@ -18,9 +17,7 @@ returns-then-self-clause-steps c =
 pub returns-clause-steps : goal.returns-clause-steps
 returns-clause-steps c =
     let s = c.self.inside in
-    let end : c.min-hi.result ≡ min (span_end s.span s.lo) s.hi =
-    rw (c.min-hi.ensures, c.saturating_add.ensures, c.length-minutes.ensures.ends s.lo) (end_by_rest s.lo c.length-minutes.result s.hi 4294967295 c.length-minutes.ensures.some (omega arith)) in
-    sym c.self.view_is ∙ first_then s.announced s.second s.span s.most s.lo s.hi c.min-hi.result (omega (arith, c.if-self-eq0.false)) c.if-self.false end
+    sym c.self.view_is ∙ first_then s.announced s.second s.span s.most s.lo s.hi c.end_of-hi.result (omega (arith, c.if-self-eq0.false)) c.if-self.false c.end_of-hi.ensures
 
 pub returns-clause-goes : goal.returns-clause-goes
 returns-clause-goes c =

@@ -15,8 +15,8 @@ returns-then-has_short_walks-clause-bound c =
     subst (λ (s : Scored). IsUnionBound (costs_of s) s.window b c.union_bound.result) c.self.view_is
     (bound_same inside.window (costs_by inside.sums) (grid_costs inside.grids.now) b c.union_bound.result c.self.invariant.agree found)
 
-pub returns-then-block-clause-bound : goal.returns-then-block-clause-bound
-returns-then-block-clause-bound c =
+pub returns-clause-bound : goal.returns-clause-bound
+returns-clause-bound c =
     let inside = c.self.inside in
     let b = c.args.block.now in
     let found = subst (λ (x : Window). IsUnionBound (costs_by inside.sums) x b c.leap_bound.result) c.self.invariant.same c.leap_bound.ensures.bound in
