@@ -33,20 +33,8 @@ pub struct DateCost {
     pub shown: Shown,
 }
 
-/// What a part by the date costs in the walks from second `p` of which the call sign of JJY takes minute `m`.
-pub fn date_cost(columns: &SlotColumns, p: u8, m: u8, part: &Part) -> u32
-    requires { p < SECONDS_PER_MINUTE }
-    ensures { result ≡ date_cost columns.now p m part.now }
-{
-    let station = columns.station();
-    let whole = columns.part_cost(p, part);
-    if !gives_up(station) {
-        return whole;
-    }
-    whole - columns.minute_cost(p, m, &given_up(station, part))
-}
-
-/// The same for each `m` below 30; a walk has no minute after its 21st.
+/// What a part by the date costs in the walks from second `p`, for each walk minute that the call sign of JJY may take. A
+/// walk has no minute after its 21st.
 pub fn by_minute(columns: &SlotColumns, p: u8, part: &Part) -> ByMinute
     requires second { p < SECONDS_PER_MINUTE }
     requires fits { part_cost columns.now p part.now < 2 ^ 32 }
