@@ -33,9 +33,13 @@ not_late Msf s le = refl
 not_late Wwvb s le = refl
 not_late Jjy s le = or_from _ _ (and_right _ _ (lt-leb s 48 (omega arith))) (and_right _ _ (lt-leb s 55 (omega arith)))
 
-pub tells_of_call : (station : Station) (part seconds : List ℕ) → seconds ≡ given_up station part → TellsOfCall seconds
+-- what is told of a second that is given up
+pub given_at : (station : Station) (part : List ℕ) (s : ℕ) → s < 60 → get_or (given_up station part) s 0 ≡ given_up_set station part s
 unfolding given_up
-tells_of_call station part seconds made = record {
-  before = λ s lt. at_second (given_up_set station part) seconds s made (omega arith) ∙ ap (λ b. if b then get_or part s 0 else 0) (not_early station s lt);
-  after = λ s le lt. at_second (given_up_set station part) seconds s made lt ∙ ap (λ b. if b then get_or part s 0 else 0) (not_late station s le);
+given_at station part s lt = at_second (given_up_set station part) (given_up station part) s refl lt
+
+pub tells_of_call : (station : Station) (part : List ℕ) → TellsOfCall (given_up station part)
+tells_of_call station part = record {
+  before = λ s lt. given_at station part s (omega arith) ∙ ap (λ b. if b then get_or part s 0 else 0) (not_early station s lt);
+  after = λ s le lt. given_at station part s lt ∙ ap (λ b. if b then get_or part s 0 else 0) (not_late station s le);
 }

@@ -37,13 +37,6 @@ lost_sum grid p m part =
     (λ k within. ap (λ set. if (p + k) / 60 == m then cost_in grid k set else 0)
     (at_second (given_up_set grid.station part) (given_up grid.station part) ((p + k) % 60) refl (omega arith)))
 
--- as it is computed
-pub given_up_cost : (grid : Grid) (p m : ℕ) (part : List ℕ) (station : Station) (seconds : List ℕ) (cost : ℕ) → station ≡ grid.station
-    → seconds ≡ given_up station part → cost ≡ minute_cost grid.station (cost_at grid.rows) (length grid.rows) p m seconds
-    → cost ≡ minute_cost grid.station (cost_at grid.rows) (length grid.rows) p m (given_up grid.station part)
-given_up_cost grid p m part station seconds cost is made price =
-    price ∙ ap (minute_cost grid.station (cost_at grid.rows) (length grid.rows) p m) (made ∙ ap (λ (t : Station). given_up t part) is)
-
 -- that is part of what the part costs
 pub lost_le : (grid : Grid) (p m : ℕ) (part : List ℕ)
     → minute_cost grid.station (cost_at grid.rows) (length grid.rows) p m (given_up grid.station part) ≤ part_cost grid p part

@@ -27,7 +27,7 @@ given_up_set station part s = if is_given_up station s then slice_index part s e
 unfoldable pub given_up : Station → List ℕ → List ℕ
 given_up station part = map (given_up_set station part) (range_with_len 0 60)
 
--- a part that tells of no other seconds than those from 40 to 55, in which the call sign is
+-- a part that tells of no other seconds than those from 40 to 55, in which the call sign is sent
 pub record TellsOfCall (part : List ℕ) : Type 0 where
   pub before : (s : ℕ) → s < CALL_BEGIN → slice_index part s ≡ 0
   pub after : (s : ℕ) → CALL_END ≤ s → s < SECONDS_PER_MINUTE → slice_index part s ≡ 0

@@ -1,10 +1,11 @@
-//! What a part costs in the seconds of JJY's call sign.
+//! The seconds that JJY gives up for its call sign, and what the date tells in them.
 
 ghost use Rattle.std.specs.Prelude.{◌≡◌, ◌<◌, length};
 ghost use Rattle.symbol_cost.specs.Grid.{cost_at};
 ghost use Rattle.slot_columns.specs.Parts.{minute_cost};
-ghost use Rattle.walk_costs.specs.Dates.{TellsOfCall};
+ghost use Rattle.walk_costs.specs.Dates.{given_up, given_up_set, is_given_up};
 
+use signal_base::Station;
 use slot_columns::{Part, SECONDS_PER_MINUTE, SlotColumns};
 
 /// The first second that the call sign may take, and the one after its last.
@@ -12,14 +13,15 @@ pub const CALL_BEGIN: usize = 40;
 
 pub const CALL_END: usize = 56;
 
-/// What a part costs in walk minute `m` alone, which tells of these seconds and of no others: a look at 16 slots at most.
+/// What the date tells in walk minute `m` of the seconds that the station gives up for its call sign costs this: a look at 16
+/// slots at most.
 pub fn call_cost(columns: &SlotColumns, p: u8, m: u8, part: &Part) -> u32
-    requires second { p < SECONDS_PER_MINUTE }
-    requires seconds { TellsOfCall part.now }
-    ensures { result ≡ minute_cost columns.now.station (cost_at columns.now.rows) (length columns.now.rows) p m part.now }
+    requires { p < SECONDS_PER_MINUTE }
+    ensures { result ≡ minute_cost columns.now.station (cost_at columns.now.rows) (length columns.now.rows) p m (given_up columns.now.station part.now) }
 {
     // The receivers are few, so that the sum fits.
     columns.receivers();
+    let station = columns.station();
     let p = p as usize;
     let minute = SECONDS_PER_MINUTE * m as usize;
     let from = (minute + CALL_BEGIN).saturating_sub(p);
@@ -27,7 +29,29 @@ pub fn call_cost(columns: &SlotColumns, p: u8, m: u8, part: &Part) -> u32
     let end = end.min(columns.seconds() as usize);
     let mut cost = 0;
     for k in from..end {
-        cost += columns.cost(k as u16, part[p + k - minute]);
+        cost += columns.cost(k as u16, given_up_set(station, part, p + k - minute));
     }
     cost
+}
+
+// What the date tells of a second that the call sign takes.
+fn given_up_set(station: Station, part: &Part, second: usize) -> u8
+    requires { second < SECONDS_PER_MINUTE }
+    ensures { result ≡ given_up_set station part.now second }
+{
+    if is_given_up(station, second) {
+        part[second]
+    } else {
+        0
+    }
+}
+
+/// Whether the call sign takes the second, in the minutes 15 and 45 of an hour.
+pub fn is_given_up(station: Station, second: usize) -> bool
+    ensures { result ≡ is_given_up station second }
+{
+    match station {
+        Station::Jjy => 40 <= second && second <= 48 || 50 <= second && second <= 55,
+        Station::Dcf77 | Station::Msf | Station::Wwvb => false,
+    }
 }

@@ -1,10 +1,10 @@
 //! What the date of a run costs in a walk.
 
 ghost use Rattle.std.specs.Prelude.{◌≡◌, ◌+◌, ◌-◌, ◌^◌, ◌<◌, ◌≤◌, ℕ, false, length, slice_index};
-ghost use Rattle.walk_costs.specs.Dates.{date_cost, given_up, given_up_set, is_given_up, kept, kept_set, part_cost};
+ghost use Rattle.walk_costs.specs.Dates.{date_cost, is_given_up, kept, kept_set, part_cost};
 ghost use Rattle.walk_costs.specs.Walks.{later_minutes};
 
-use crate::call::call_cost;
+use crate::call::{call_cost, is_given_up};
 use crate::shown::Shown;
 use signal_base::Station;
 use slot_columns::{Part, SECONDS_PER_MINUTE, SlotColumns};
@@ -33,20 +33,8 @@ pub struct DateCost {
     pub shown: Shown,
 }
 
-/// What a part by the date costs in the walks from second `p` of which the call sign of JJY takes minute `m`.
-pub fn date_cost(columns: &SlotColumns, p: u8, m: u8, part: &Part) -> u32
-    requires { p < SECONDS_PER_MINUTE }
-    ensures { result ≡ date_cost columns.now p m part.now }
-{
-    let station = columns.station();
-    let whole = columns.part_cost(p, part);
-    if !gives_up(station) {
-        return whole;
-    }
-    whole - columns.minute_cost(p, m, &given_up(station, part))
-}
-
-/// The same for each `m` below 30; a walk has no minute after its 21st.
+/// What a part by the date costs in the walks from second `p`, for each walk minute that the call sign of JJY may take. A
+/// walk has no minute after its 21st.
 pub fn by_minute(columns: &SlotColumns, p: u8, part: &Part) -> ByMinute
     requires second { p < SECONDS_PER_MINUTE }
     requires fits { part_cost columns.now p part.now < 2 ^ 32 }
@@ -67,11 +55,10 @@ pub fn by_minute_with(columns: &SlotColumns, p: u8, part: &Part, rest: u32) -> B
     if !gives_up(station) {
         return alike(rest);
     }
-    let given_up = given_up(station, part);
     let mut lost = alike(0);
     let mut whole = rest;
     for m in 0..walk_minutes(columns, p) {
-        lost[m] = call_cost(columns, p, m as u8, &given_up);
+        lost[m] = call_cost(columns, p, m as u8, part);
         whole += lost[m];
     }
     all_but(whole, &lost)
@@ -116,13 +103,6 @@ fn gives_up(station: Station) -> bool
     }
 }
 
-// What the date tells of the seconds that the station gives up for its call sign.
-fn given_up(station: Station, part: &Part) -> Part
-    ensures { result ≡ given_up station part.now }
-{
-    array::from_fn(|second| given_up_set(station, part, second))
-}
-
 /// What the date tells of the other seconds.
 pub fn kept(station: Station, part: &Part) -> Part
     ensures { result ≡ kept station part.now }
@@ -138,26 +118,5 @@ fn kept_set(station: Station, part: &Part, second: usize) -> u8
         0
     } else {
         part[second]
-    }
-}
-
-fn given_up_set(station: Station, part: &Part, second: usize) -> u8
-    requires { second < SECONDS_PER_MINUTE }
-    ensures { result ≡ given_up_set station part.now second }
-{
-    if is_given_up(station, second) {
-        part[second]
-    } else {
-        0
-    }
-}
-
-/// Whether the call sign takes the second, in the minutes 15 and 45 of an hour.
-pub fn is_given_up(station: Station, second: usize) -> bool
-    ensures { result ≡ is_given_up station second }
-{
-    match station {
-        Station::Jjy => 40 <= second && second <= 48 || 50 <= second && second <= 55,
-        Station::Dcf77 | Station::Msf | Station::Wwvb => false,
     }
 }

@@ -6,7 +6,7 @@ ghost use Rattle.definitions.specs.time.Calendar.{minutes_per_day};
 ghost use Rattle.walk_costs.specs.Dates.{is_given_up};
 ghost use Rattle.walk_costs.specs.Shown.{DiffersElsewhere, SomeSlotShows, shows_in};
 
-use crate::date::is_given_up;
+use crate::call::is_given_up;
 use definitions::MINUTES_PER_DAY;
 use minute_parts::{Parts, Run};
 use signal_base::Station;

@@ -3,19 +3,19 @@
 ghost use Rattle.std.specs.Prelude.{◌≡◌, ◌==◌, ◌+◌, ◌/◌, ◌%◌, ◌<◌, ◌≤◌, ◌↔◌, ℕ, IfOk, IfSome, IsNone, IsTrue, false, length, true};
 ghost use Rattle.definitions.specs.time.Calendar.{century_minutes, is_leap_end, minutes_per_day};
 ghost use Rattle.symbol_cost.specs.Grid.{HasCosts, cost_at};
-ghost use Rattle.minute_parts.specs.Parts.{IsPartTable, part_where};
+ghost use Rattle.minute_parts.specs.Parts.{IsPartTable};
 ghost use Rattle.slot_columns.specs.Parts.{AreWalkCosts, most_cost};
 ghost use Rattle.walk_costs.specs.Dates.{AreAdded, IsAdded, minutes_to_call};
 ghost use Rattle.walk_costs.specs.Walks.{AreSmall, IsDateCost, IsPlainIn, IsShown, ShowsAnnouncement, cost_of, last_minute, later_minutes};
 
-use crate::date::{CALL_MINUTES, DateCost, date_cost};
+use crate::date::{CALL_MINUTES, DateCost};
 use crate::dut::added;
 use crate::kept::dates_of;
 use crate::shown::{Shown, TWO_MINUTES, differs_elsewhere, is_told_alike, some_slot_shows};
 use crate::small::look_at_all;
 use civil::Civil;
 use definitions::{CENTURY_MINUTES, MINUTES_PER_DAY, MINUTES_PER_HOUR};
-use minute_parts::{Part, Parts, Run};
+use minute_parts::{Part, Parts};
 use slot_columns::{ColumnsFault, LayerTable, SECONDS_PER_MINUTE, SlotColumns, WalkTable};
 use span_unions::Unions;
 use std::alloc::{AllocError, Global};
@@ -150,11 +150,8 @@ impl StationWalks {
         ensures cost { result ≡ cost_of self.now announced p t0 }
         ensures bound { result ≤ most_cost self.now.grid }
     {
-        let run = self.unions.parts().run(number);
-        let u = local_time(run.shift, t0);
-        let part = part_where(announced, run);
-        let date = date_cost(&self.columns, p, minutes_to_call(u), part);
-        self.walks.cost(p, u) + date + self.added_from(p, t0)
+        let date = self.date_cost(announced, p, number);
+        self.cost_by(&date, t0)
     }
 
     /// What the date of a run costs in the walks that begin in second `p`, below 60.
@@ -302,17 +299,6 @@ pub fn meets_leap_end(civil: &Civil, first: u32, last: u32) -> bool
 {
     let end = first / MINUTES_PER_DAY * MINUTES_PER_DAY + (MINUTES_PER_DAY - 1);
     end <= last && civil.leap_end(end)
-}
-
-// What the date tells in a run.
-fn part_where(announced: bool, run: &Run) -> &Part
-    ensures { result.now ≡ part_where announced run.now }
-{
-    if announced {
-        &run.announced
-    } else {
-        &run.plain
-    }
 }
 
 /// The minute of the local day that is encoded in the minute `t`.

@@ -4,9 +4,8 @@ use Rattle.signal_base.specs.declared.station.Station.{Station}
 use Rattle.symbol_cost.specs.Grid.{cost_at}
 use Rattle.slot_columns.specs.Parts.{minute_cost}
 use Rattle.walk_costs.specs.Dates.{given_up, is_given_up}
-use Rattle.walk_costs.proofs.CallLaws.{tells_of_call}
 use Rattle.walk_costs.proofs.DateLaws.{all_lost, before_all, kept_and_given, minute_lost, none_before, none_given, one_more_lost}
-use Rattle.walk_costs.proofs.WalkLaws.{given_up_cost, lost_le, none_lost}
+use Rattle.walk_costs.proofs.WalkLaws.{lost_le, none_lost}
 use Rattle.walk_costs.proofs.date.by_minute_with.Goals as goal
 
 pub returns-then-not-gives_up : goal.returns-then-not-gives_up
@@ -31,17 +30,13 @@ loop-m-init c = record {
   sum = omega (arith, none_before c.args.columns.now c.args.p c.args.part.now);
 }
 
-pub call_cost-requires-clause-seconds : goal.call_cost-requires-clause-seconds
-call_cost-requires-clause-seconds c = tells_of_call c.station-station.result c.args.part.now c.given_up-given_up.result c.given_up-given_up.ensures
-
 pub overflow_add-whole : goal.overflow_add-whole
 overflow_add-whole c =
     let grid = c.args.columns.now in
     let p = c.args.p in
     let part = c.args.part.now in
     let m = c.loop-m.m in
-    let minute = given_up_cost grid p m part c.station-station.result c.given_up-given_up.result c.call_cost.result
-    c.station-station.ensures c.given_up-given_up.ensures c.call_cost.ensures in
+    let minute = c.call_cost.ensures in
     let within : c.loop-m.m < length c.loop-m.lost = omega (arith, c.loop-m.invariant.long, c.loop-m-test.true, c.walk_minutes-m-end.ensures.bound) in
     let one : get_or (set c.loop-m.lost c.loop-m.m c.call_cost.result) c.loop-m.m 0 ≡ c.call_cost.result = rw get_or-set_same in
     omega (
@@ -62,8 +57,7 @@ loop-m-preserved c =
     let p = c.args.p in
     let part = c.args.part.now in
     let m = c.loop-m.m in
-    let minute = given_up_cost grid p m part c.station-station.result c.given_up-given_up.result c.call_cost.result
-    c.station-station.ensures c.given_up-given_up.ensures c.call_cost.ensures in
+    let minute = c.call_cost.ensures in
     let within : c.loop-m.m < length c.loop-m.lost = omega (arith, c.loop-m.invariant.long, c.loop-m-test.true, c.walk_minutes-m-end.ensures.bound) in
     let one : get_or (set c.loop-m.lost c.loop-m.m c.call_cost.result) c.loop-m.m 0 ≡ c.call_cost.result = rw get_or-set_same in
     record {
