@@ -3,3 +3,4 @@ pub mod MinuteLaws
 pub mod SumLaws
 pub mod TotalLaws
 pub mod UnionLaws
+pub mod HourLaws

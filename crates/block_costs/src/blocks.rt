@@ -1,14 +1,18 @@
 //! The tables of a station's blocks.
 
-ghost use Rattle.std.specs.Prelude.{ℕ, ◌≡◌, ◌+◌, ◌<◌, ◌≤◌, IfOk, length};
+ghost use Rattle.std.specs.Prelude.{ℕ, ◌≡◌, ◌+◌, ◌<◌, ◌≤◌, IfOk, IfSome, false, length};
 ghost use Rattle.span_unions.specs.Unions.{AreRegular};
 ghost use Rattle.slot_columns.specs.Parts.{most_cost};
 ghost use Rattle.slot_columns.specs.declared.limits.TheConstants.{SECONDS_PER_MINUTE};
 ghost use Rattle.walk_costs.specs.Walks.{later_minutes};
 ghost use Rattle.block_costs.specs.Blocks.{AreUnionsOfWalks, unions_cost};
+ghost use Rattle.block_costs.specs.Hours.{IsHourCost};
+ghost use Rattle.block_costs.specs.declared.minutes.TheConstants.{HOUR_MINUTES};
 
 use crate::asked::cost_as_asked;
+use crate::hours::{Hours, hours_of};
 use crate::kept::{Kept, YEAR_DAYS, is_kept, kept_days, kept_years};
+use crate::minutes::HOUR_MINUTES;
 use definitions::MINUTES_PER_DAY;
 use slot_columns::ColumnsFault;
 use std::alloc::{AllocError, Global};
@@ -41,6 +45,7 @@ pub struct StationBlocks {
     walks: StationWalks,
     days: Kept,
     years: Kept,
+    hours: Hours,
 }
 
 impl Model for StationBlocks {
@@ -48,11 +53,13 @@ impl Model for StationBlocks {
 
     ghost Value = { PricedParts };
 
+    ghost use Rattle.block_costs.specs.Hours.{AreHours};
     ghost use Rattle.block_costs.specs.Keeping.{AreKept};
 
     ghost view = { λ b. b.walks };
 
-    ghost invariant = { λ b. AreKept b.walks b.days.ranges.items b.days.costs × AreKept b.walks b.years.ranges.items b.years.costs };
+    ghost invariant = { λ b. AreKept b.walks b.days.ranges.items b.days.costs × AreKept b.walks b.years.ranges.items b.years.costs
+        × AreHours b.walks b.hours.begin b.hours.firsts.items b.hours.rests.items b.hours.costs };
 }
 
 impl StationBlocks {
@@ -62,7 +69,13 @@ impl StationBlocks {
     {
         let days = kept_days(alloc, &walks)?;
         let years = kept_years(alloc, &walks)?;
-        Ok(StationBlocks { walks, days, years })
+        let hours = hours_of(alloc, &walks)?;
+        Ok(StationBlocks {
+            walks,
+            days,
+            years,
+            hours,
+        })
     }
 
     /// What the station's sequences cost one by one.
@@ -81,17 +94,54 @@ impl StationBlocks {
         ensures cost { (sets : ℕ → ℕ) → AreUnionsOfWalks self.now.grid.station announced p lo hi (length self.now.grid.rows) sets → result ≡ unions_cost self.now.grid sets }
         ensures bound { result ≤ most_cost self.now.grid }
     {
-        if announced {
-            return cost_as_asked(&self.walks, announced, p, lo, hi);
+        if !announced {
+            return self.plain_cost(p, lo, hi);
         }
+        // What ends before the parts' end fits.
+        self.walks.parts().end();
+        let last = hi - 1 + self.walks.later_minutes(p);
+        if self.walks.never_shows(lo, last) {
+            return self.plain_cost(p, lo, hi);
+        }
+        cost_as_asked(&self.walks, announced, p, lo, hi)
+    }
+
+    // The same where no leap second is announced.
+    fn plain_cost(&self, p: u8, lo: u32, hi: u32) -> u32
+        requires second { p < SECONDS_PER_MINUTE }
+        requires some { lo < hi }
+        requires encoded { hi + later_minutes (length self.now.grid.rows) p ≤ self.now.parts.end }
+        ensures cost { (sets : ℕ → ℕ) → AreUnionsOfWalks self.now.grid.station false p lo hi (length self.now.grid.rows) sets → result ≡ unions_cost self.now.grid sets }
+        ensures bound { result ≤ most_cost self.now.grid }
+    {
         let day = (lo / MINUTES_PER_DAY) as usize;
         if is_kept(&self.days, day, lo, hi) {
             return self.days.costs.cost(day, p);
+        }
+        if hi - lo == HOUR_MINUTES as u32 {
+            if let Some(cost) = self.hour_cost(p, lo) {
+                return cost;
+            }
         }
         let year = day / YEAR_DAYS as usize;
         if is_kept(&self.years, year, lo, hi) {
             return self.years.costs.cost(year, p);
         }
-        cost_as_asked(&self.walks, announced, p, lo, hi)
+        cost_as_asked(&self.walks, false, p, lo, hi)
+    }
+
+    // The same of an hour whose walks lie in one run.
+    fn hour_cost(&self, p: u8, lo: u32) -> Option<u32>
+        requires second { p < SECONDS_PER_MINUTE }
+        requires encoded { lo + HOUR_MINUTES + later_minutes (length self.now.grid.rows) p ≤ self.now.parts.end }
+        ensures { IfSome result (IsHourCost self.now p lo) }
+    {
+        let parts = self.walks.parts();
+        let run = parts.run_of(lo);
+        let later = self.walks.later_minutes(p);
+        if parts.run_end(run) - lo < HOUR_MINUTES as u32 + later {
+            return None;
+        }
+        self.hours.cost(&self.walks, p, lo, run)
     }
 }

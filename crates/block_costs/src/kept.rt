@@ -31,8 +31,8 @@ pub struct Gathered {
     pub rests: Vec<Part>,
 }
 
-// The walks that begin in it reach furthest.
-const LAST_SECOND: u8 = 59;
+/// The walks that begin in it reach furthest.
+pub const LAST_SECOND: u8 = 59;
 
 /// The years of the century.
 pub const CENTURY_YEARS: u32 = 100;

@@ -4,6 +4,7 @@
 
 mod asked;
 mod blocks;
+mod hours;
 mod kept;
 mod minutes;
 #[cfg(test)]

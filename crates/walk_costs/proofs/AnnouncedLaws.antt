@@ -1,9 +1,13 @@
 -- Whether a walk shows the announcement, run by run.
-use Rattle.std.proofs.Common.{◌≡◌, ℕ, ◌+◌, ◌-◌, ◌*◌, ◌/◌, ◌%◌, ◌<◌, ◌≤◌, inl, inr, true, min, length, get_or, sym, ap, subst, arith}
+use Rattle.std.proofs.Common.{◌≡◌, ℕ, ◌+◌, ◌-◌, ◌*◌, ◌/◌, ◌%◌, ◌<◌, ◌≤◌, inl, inr, true, false, min, length, get_or, refl, sym, ap, ◌∙◌, subst, arith}
 use Rattle.std.proofs.lemmas.Bool.{cases_Bool, cases_lt}
+use Rattle.signal_base.specs.declared.station.Station.{Station}
 use Rattle.definitions.specs.declared.sequence.Sequence.{Sequence}
+use Rattle.definitions.specs.codes.Allowed.{allowed}
+use Rattle.definitions.specs.time.Calendar.{minute_length}
 use Rattle.definitions.specs.sequences.Walks.{set_at, unannounced}
 use Rattle.minute_parts.specs.declared.runs.Run.{Run}
+use Rattle.minute_parts.specs.Overlay.{overlay}
 use Rattle.minute_parts.specs.Parts.{IsInRun, IsPartTable, PartTable, local_time, times_at}
 use Rattle.minute_parts.specs.Runs.{end_of_run, first_of, run_at}
 use Rattle.span_unions.proofs.RunLaws.{next_run}
@@ -104,3 +108,15 @@ never w station table lo last alike p t0 second le within regular = λ h.
     let k : ℕ = h.0 in
     let there = alike (t0 + (p + k) / 60) (omega (arith, le)) (omega (arith, h.1, within)) in
     h.2 (alike_is_silent w station table p t0 second (λ t from to. regular.short t from (omega (arith, to))) there.0 k h.1 there.1 there.2)
+
+-- and carry the same sets
+pub same_sets : (w : PricedParts) → w.parts.station ≡ w.grid.station → IsPartTable w.parts → (lo last : ℕ)
+    → ((t : ℕ) → lo ≤ t → t ≤ last → IsAlikeAt w.parts t)
+    → (t s : ℕ) → lo ≤ t → t ≤ last → minute_length true t ≡ 60 → s < 60 → allowed w.grid.station true (t, s) ≡ allowed w.grid.station false (t, s)
+same_sets w station table lo last alike t s le within short lt =
+    let there = alike t le within in
+    let time = get_or (times_at w.parts (local_time (run_at w.parts.runs there.0) t)) s 0 in
+    subst (λ (st : Station). allowed st true (t, s) ≡ allowed st false (t, s)) station
+    (table.tells true there.0 t s there.1 short lt
+    ∙ ap (λ part. overlay time (get_or part s 0)) (sym there.2)
+    ∙ sym (table.tells false there.0 t s there.1 refl lt))

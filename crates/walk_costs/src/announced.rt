@@ -1,8 +1,9 @@
 //! Whether announced sequences show the announcement, whose walks may go through several runs.
 
-ghost use Rattle.std.specs.Prelude.{◌≡◌, ◌+◌, ◌-◌, ◌*◌, ◌<◌, ◌≤◌, ◌↔◌, ℕ, IsTrue, length, min, true};
+ghost use Rattle.std.specs.Prelude.{◌≡◌, ◌+◌, ◌-◌, ◌*◌, ◌<◌, ◌≤◌, ◌↔◌, ℕ, IsTrue, false, length, min, true};
 ghost use Rattle.signal_base.specs.declared.limits.TheConstants.{MOST_SECONDS};
-ghost use Rattle.definitions.specs.time.Calendar.{century_minutes};
+ghost use Rattle.definitions.specs.codes.Allowed.{allowed};
+ghost use Rattle.definitions.specs.time.Calendar.{century_minutes, minute_length};
 ghost use Rattle.minute_parts.specs.Parts.{local_time};
 ghost use Rattle.minute_parts.specs.Runs.{run_at};
 ghost use Rattle.walk_costs.specs.Shown.{SomeSlotShows};
@@ -37,12 +38,14 @@ impl StationWalks {
     }
 
     /// Whether no walk shows the announcement that lies in the runs from that of the minute `lo` to that of `last`: none of
-    /// them tells anything else where a leap second is announced.
+    /// them tells anything else where a leap second is announced, so that the minutes carry the same.
     pub fn never_shows(&self, lo: u32, last: u32) -> bool
         requires order { lo ≤ last }
         requires encoded { last < self.now.parts.end }
-        ensures { result ≡ true → (p t0 : ℕ) → p < SECONDS_PER_MINUTE → lo ≤ t0 → last_minute self.now p t0 ≤ last → IsRegularWalk self.now p t0
+        ensures never { result ≡ true → (p t0 : ℕ) → p < SECONDS_PER_MINUTE → lo ≤ t0 → last_minute self.now p t0 ≤ last → IsRegularWalk self.now p t0
             → ¬ (ShowsAnnouncement self.now (record { first = t0; second = p; announced = true })) }
+        ensures alike { result ≡ true → (t s : ℕ) → lo ≤ t → t ≤ last → minute_length true t ≡ 60 → s < SECONDS_PER_MINUTE
+            → allowed self.now.grid.station true (t, s) ≡ allowed self.now.grid.station false (t, s) }
     {
         let parts = self.unions.parts();
         for i in parts.run_of(lo)..parts.runs() {

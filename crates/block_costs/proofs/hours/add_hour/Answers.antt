@@ -1,0 +1,20 @@
+use Rattle.std.proofs.Common.{◌≡◌, ◌+◌, ◌*◌, ◌<◌, ℕ, [], ◌∷◌, ◌++◌, List, length, sym, ap, ◌∙◌, subst, arith}
+use Rattle.span_unions.specs.Hours.{AreTimeLayers}
+use Rattle.minute_parts.specs.Parts.{PartTable}
+use Rattle.walk_costs.specs.Walks.{later_minutes}
+use Rattle.block_costs.specs.Hours.{AreHourLayers}
+use Rattle.block_costs.proofs.HourLaws.{hours_more}
+use Rattle.block_costs.proofs.hours.add_hour.Goals as goal
+
+pub returns : goal.returns
+returns c =
+    let w = c.args.walks.now in
+    let firsts = c.args.firsts.now.items in
+    let rests = c.args.rests.now.items in
+    let reach = later_minutes (length w.grid.rows) 59 in
+    let minute : c.saturating_add-u.result ≡ 60 * length firsts + c.args.begin = omega (arith, c.saturating_add-u.ensures, c.saturating_mul.ensures, c.len.ensures, c.if-saturating_add.false, c.saturating_add.ensures) in
+    let told = subst (λ (p : PartTable). AreTimeLayers p.times c.saturating_add-u.result c.later_minutes-reach.result c.in-Some.layers) c.unions.ensures.unions c.in-Some.ensures in
+    let here = subst (λ u. AreTimeLayers w.parts.times u reach c.in-Some.layers) minute (subst (λ r. AreTimeLayers w.parts.times c.saturating_add-u.result r c.in-Some.layers) c.later_minutes-reach.ensures.count told) in
+    subst (λ (xs : List (List ℕ)). AreHourLayers w c.args.begin xs c.push-2.new.self.items) (sym c.in_ok-push.ensures.items)
+    (subst (λ (ys : List (List ℕ)). AreHourLayers w c.args.begin (firsts ++ c.in-Some.layers.first ∷ []) ys) (sym c.in_ok-push-2.ensures.items)
+    (hours_more w c.args.begin firsts rests c.in-Some.layers.first c.in-Some.layers.rest c.requires here))
