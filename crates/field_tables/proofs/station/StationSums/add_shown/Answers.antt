@@ -17,7 +17,7 @@ returns-then-never_shows c = λ j within.
     let long = ap (λ (v : PricedParts). length v.grid.rows) c.walks-walks.ensures in
     let hidden = subst (λ (v : PricedParts). (p t0 : ℕ) → p < 60 → b.lo ≤ t0 → t0 + later_minutes (length v.grid.rows) p ≤ b.hi - 1 + c.later_minutes.result
     → AreRegular true t0 (t0 + 1 + later_minutes (length v.grid.rows) p) v.parts.end → ¬ (ShowsAnnouncement v (record { first = t0; second = p; announced = true })))
-    c.walks-walks.ensures (c.never_shows.ensures c.if-never_shows.true) in (
+    c.walks-walks.ensures (c.never_shows.ensures.never c.if-never_shows.true) in (
       λ told. inl told,
       λ either. elim either [
         | inl told ↦ told
