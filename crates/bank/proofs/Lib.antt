@@ -10,6 +10,8 @@ pub mod GridLaws
 pub mod PartLaws
 pub mod VerdictLaws
 pub mod DutLaws
+pub mod OrderLaws
+pub mod EntryLaws
 pub mod FindingLaws
 pub mod EndingLaws
 pub mod RunLaws

@@ -1,10 +1,10 @@
 -- A configuration and its logs are loaded, or why not.
-use Rattle.std.proofs.Common.{◌≡◌, ℕ, List, inl, inr, sym, ◌∙◌, subst, arith}
+use Rattle.std.proofs.Common.{◌≡◌, ℕ, suc, List, [], ◌∷◌, length, inl, inr, sym, ap, ◌∙◌, subst, arith}
 use Rattle.definitions.specs.heard.Logs.{Records}
 use Rattle.bank_files.specs.Told.{Finds, Told}
 use Rattle.bank_files.specs.Fault.{HasFault}
 use Rattle.bank_files.specs.Seen.{SameCounts, Seen}
-use Rattle.bank_config.specs.Configuration.{PlainConfig}
+use Rattle.bank_config.specs.Configuration.{PlainConfig, PlainReceiver}
 use Rattle.due.specs.Configurations.{IsBadConfiguration, IsConfiguration}
 use Rattle.due.specs.Rules.{configuration}
 use Rattle.bank.specs.Ending.{MayHold}
@@ -15,6 +15,12 @@ use Rattle.bank.proofs.ContentLaws.{failing_contents, found_may_hold, found_same
 
 pub same_counts : (old mid new : Seen) → SameCounts old mid → SameCounts mid new → SameCounts old new
 same_counts old mid new first second = record { of_reads = second.of_reads ∙ first.of_reads; of_writes = second.of_writes ∙ first.of_writes }
+
+-- one log for each receiver
+pub read_length : (old : Seen) (rs : List PlainReceiver) (logs : List Records) → AreRead old rs logs → length logs ≡ length rs
+read_length old [] logs are = ap length are
+read_length old (r ∷ rs) [] are = absurd are
+read_length old (r ∷ rs) (log ∷ logs) are = ap suc (read_length old rs logs are.1)
 
 -- the configuration isn't read
 pub configuration_not_read : (old new : Seen) (file : List ℕ) (why : Unloaded) → IsNotRead old new file IsBadConfiguration why → IsNotLoaded old new file why

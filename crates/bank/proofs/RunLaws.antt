@@ -1,23 +1,19 @@
 -- What a run tells of a bank or a trial, and which statuses are told.
-use Rattle.std.proofs.Common.{◌≡◌, ℕ, ◌+◌, ◌≤◌, ◌⊎◌, List, [], ◌∷◌, length, Result, Ok, Err, refl, ap, ◌∙◌, subst, arith}
+use Rattle.std.proofs.Common.{◌≡◌, ℕ, ◌≤◌, ◌⊎◌, List, Result, Ok, Err, refl, ap, ◌∙◌, subst, arith}
 use Rattle.signal_base.specs.declared.station.Station.{Station}
 use Rattle.definitions.specs.declared.answer.Answer.TheVariants as answers
 use Rattle.definitions.specs.declared.sequence.Sequence.{Sequence}
-use Rattle.definitions.specs.heard.Logs.{Records}
 use Rattle.formats.specs.declared.refusal.Refusal.{Refusal}
 use Rattle.formats.specs.declared.refusal.Refusal.TheVariants.{WordsUsage, WordsBad, WordsEmptyRange, ConfigTooLarge, ConfigNotToml, ConfigMissing, ConfigWrongKind, ConfigOutOfRange, ConfigUnknownKey, LogTooLarge, LogLine}
 use Rattle.formats.specs.declared.words.Asked.{Asked}
 use Rattle.bank_files.specs.Told.{output_name}
 use Rattle.bank_files.specs.Seen.{Seen, WriteFails}
-use Rattle.bank_config.specs.Configuration.{PlainReceiver}
 use Rattle.trial_log.specs.Trials.{trial_receivers, trial_sequence, trial_station}
 use Rattle.due.specs.declared.due.Due.{Due}
 use Rattle.due.specs.declared.due.Due.TheVariants as dues
 use Rattle.due.specs.declared.status.Status.{Status}
 use Rattle.due.specs.Banks.{Bank, IsBankAnswer, window_of}
-use Rattle.due.specs.Configurations.{logs_from}
 use Rattle.due.specs.Dues.{refusal_status, status_of}
-use Rattle.due.specs.LogFiles.{AreGood}
 use Rattle.due.specs.Orders.{BankOrder}
 use Rattle.due.specs.Rules.{IsTold, told_of}
 use Rattle.due.specs.Status.{code_of}
@@ -27,12 +23,6 @@ use Rattle.bank.specs.declared.stop.Stop.TheVariants.{Failed, NoMemory}
 use Rattle.bank.specs.declared.verdict.Verdict.{Verdict}
 use Rattle.bank.specs.Ending.{Ends, SomeReadFails, status_after}
 use Rattle.bank.specs.Finding.{IsTried, IsVerdict}
-
--- good logs are as many as their receivers
-pub good_length : (contents : ℕ → List ℕ) (n : ℕ) (rs : List PlainReceiver) (logs : List Records) → AreGood contents (logs_from n rs) logs → length logs ≡ length rs
-good_length contents n [] logs good = ap length good
-good_length contents n (r ∷ rs) [] good = absurd good
-good_length contents n (r ∷ rs) (log ∷ logs) good = let rest = good_length contents (n + 1) rs logs good.1 in omega arith
 
 -- the answer for a bank, told as it is asked for
 pub verdict_told : (o : BankOrder) (bank seen : Bank) (verdict : Verdict) (due : Due) → seen ≡ bank → IsVerdict o.asked seen verdict

@@ -9,6 +9,7 @@ use Rattle.due.specs.Configurations.{IsBadConfiguration, IsConfiguration, logs_o
 use Rattle.due.specs.LogFiles.{AreGood, IsBad, IsFirstBad, IsGood, IsLogRead, LogFile}
 use Rattle.due.specs.Rules.{configuration}
 use Rattle.bank.specs.Ending.{MayHold}
+use Rattle.bank.specs.Order.{IsInOrder}
 use Rattle.bank.specs.declared.loading.Unloaded.{Unloaded}
 use Rattle.bank.specs.declared.loading.Unloaded.TheVariants.{Failed, NoMemory, Refused}
 
@@ -75,6 +76,11 @@ pub record Loads (old : Seen) (file : List ℕ) (config : PlainConfig) (logs : L
 
 abbrev pub IsLoaded : Seen → List ℕ → PlainConfig → List Records → Type 0
 IsLoaded old file config logs = (contents : ℕ → List ℕ) × Loads old file config logs contents
+
+-- the same, with the receivers and their logs in the order of stations
+abbrev pub IsLoadedInOrder : Seen → List ℕ → PlainConfig → List Records → Type 0
+IsLoadedInOrder old file ordered ordered_logs =
+    (config : PlainConfig) × (logs : List Records) × IsLoaded old file config logs × IsInOrder config logs ordered ordered_logs
 
 -- for some such contents the configuration or the first bad log is refused so
 pub record RefusesConfiguration (old : Seen) (file : List ℕ) (refusal : Refusal) (contents : ℕ → List ℕ) : Type 0 where

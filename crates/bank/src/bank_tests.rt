@@ -3,8 +3,8 @@
 
 ghost use Rattle.std.specs.Prelude.{◌≤◌};
 
-use crate::run;
 use crate::tests::{CONFIG, REPORT, SENTENCES, clean_log, files_of, printed, push_record, words};
+use crate::{load, run};
 use bank_files::{OneByte, SureFiles};
 use std::alloc::{AllocError, Global};
 use std::sync::atomic::{AtomicBool, Ordering};
@@ -46,6 +46,33 @@ fn dcf77_log(alloc: Global) -> Result<String, AllocError> {
     }
     push_record(&mut text, 60_000, "H")?;
     Ok(text)
+}
+
+// The receivers of DCF77 come first, in the configuration's order, and each keeps its own log.
+#[test]
+fn loads_in_the_order_of_stations(rt: HostRuntime) -> Result<(), Fail> {
+    let config = format!(in rt.alloc();
+        "{TWO_STATIONS}[[receiver]]\nname = \"c\"\nlog = \"c.log\"\nstation = \"dcf77\"\n"
+    )?;
+    let mut files = files_of(rt.alloc(), &config, "0 H\n7 L\n")?;
+    files.put("b.log", b"0 H\n5 L\n")?;
+    files.put("c.log", b"0 H\n6 L\n")?;
+    let loaded = load(rt.alloc(), &mut files, "k.toml")?;
+    assert_eq!(rt; loaded.logs.len(), 3);
+    for (i, name, last) in [(0usize, "b", 5), (1, "c", 6), (2, "a", 7)] {
+        let named = loaded
+            .config
+            .receivers
+            .get(i)
+            .is_some_and(|r| r.name.as_str() == name);
+        assert!(rt; named, "{name}");
+        let heard = loaded
+            .logs
+            .get(i)
+            .is_some_and(|log| log.len() == 2 && log.entry(1).0 == last);
+        assert!(rt; heard, "{name}");
+    }
+    Ok(())
 }
 
 // Another year costs two bits of DCF77.

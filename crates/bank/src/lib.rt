@@ -9,6 +9,7 @@ mod first_two;
 mod grids;
 mod hearing;
 mod loading;
+mod order;
 mod program;
 mod stop;
 #[cfg(test)]

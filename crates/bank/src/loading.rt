@@ -8,8 +8,9 @@ ghost use Rattle.bank_config.specs.InRange.{IsInRange, IsReceiverInRange};
 ghost use Rattle.due.specs.Configurations.{IsBadConfiguration, IsConfiguration, fault_refusal, name_of, receiver_of};
 ghost use Rattle.due.specs.LogFiles.{IsBad, IsGood};
 ghost use Rattle.bank.specs.declared.loading.Unloaded.TheVariants as kinds;
-ghost use Rattle.bank.specs.Loading.{AreNotRead, AreRead, IsHalted, IsLoaded, IsNotLoaded, IsNotRead, IsReadAs, log_file};
+ghost use Rattle.bank.specs.Loading.{AreNotRead, AreRead, IsHalted, IsLoadedInOrder, IsNotLoaded, IsNotRead, IsReadAs, log_file};
 
+use crate::order::in_station_order;
 use bank_config::{CONFIG_LIMIT, Config, ConfigFault, Key, Receiver, read_config};
 use bank_files::{Files, ReadWhole, read_whole};
 use formats::{KeyName, LOG_LIMIT, Name, Refusal};
@@ -17,12 +18,13 @@ use pulse_log::{Log, read_log};
 use signal_base::MOST_RECEIVERS;
 use std::alloc::{AllocError, AllocFailed, Global};
 
-/// A configuration and the logs of its receivers, in their order.
+/// A configuration and what its receivers heard.
 #[derive(Debug, Drop)]
 pub struct Loaded {
-    /// The configuration.
+    /// The configuration, with its receivers in the order of their stations: DCF77, MSF, WWVB, JJY. Those of one station
+    /// stand as the text has them.
     pub config: Config,
-    /// The logs.
+    /// The receivers' logs, in the same order.
     pub logs: Vec<Log>,
 }
 
@@ -57,19 +59,20 @@ impl<T: Drop> From<AllocFailed<T>> for Unloaded {
 }
 
 /// Reads and checks a configuration, and then its logs one after the other in the order of its receivers. The first that
-/// is bad decides, and no file behind it is read. No line is written here, so that what is refused is told like all else
-/// that is due.
+/// is bad decides, and no file behind it is read. A refusal numbers receivers as the configuration does. What is loaded is
+/// then put in the order of stations. No line is written here, so that what is refused is told like all else that is due.
 pub fn load<F: Files>(alloc: Global, files: &mut F, config: &str) -> Result<Loaded, Unloaded>
     requires { config.now ≢ output_name }
-    ensures loaded { IfOk result (λ loaded. IsLoaded (F.view files.old) config.now (plain_config loaded.config) loaded.logs.items) }
+    ensures loaded { IfOk result (λ loaded. IsLoadedInOrder (F.view files.old) config.now (plain_config loaded.config) loaded.logs.items) }
     ensures in_range { IfOk result (λ loaded. IsInRange loaded.config) }
+    ensures one_each { IfOk result (λ loaded. length loaded.logs.items ≡ length loaded.config.receivers.items) }
     ensures not_loaded { IfErr result (IsNotLoaded (F.view files.old) (F.view files.new) config.now) }
     ensures same_counts { OnOk result (SameCounts (F.view files.old) (F.view files.new)) }
     ensures only { OnlyReads (F.view files.old) (F.view files.new) }
 {
     let config = read_configuration(alloc, files, config)?;
     let logs = read_logs(alloc, files, config.receivers.as_slice())?;
-    Ok(Loaded { config, logs })
+    Ok(in_station_order(alloc, config, logs)?)
 }
 
 // Reads a configuration.

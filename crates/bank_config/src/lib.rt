@@ -3,6 +3,8 @@
 
 mod config;
 mod fault;
+#[cfg(test)]
+mod fault_tests;
 mod limits;
 mod lists;
 mod places;

@@ -6,25 +6,25 @@ use std::alloc::{AllocError, Global};
 use std::process::Abort;
 use std::test::Fail;
 
-fn read(rt: &(impl Abort + AllocGlobal), text: &[u8]) -> Result<Config, ConfigFault> {
+pub(crate) fn read(rt: &(impl Abort + AllocGlobal), text: &[u8]) -> Result<Config, ConfigFault> {
     assert!(rt; text.len() <= CONFIG_LIMIT);
     read_config(rt.alloc(), text)
 }
 
-fn missing(key: Key) -> ConfigFault {
+pub(crate) fn missing(key: Key) -> ConfigFault {
     ConfigFault::Missing { key }
 }
 
-fn wrong_kind(key: Key) -> ConfigFault {
+pub(crate) fn wrong_kind(key: Key) -> ConfigFault {
     ConfigFault::WrongKind { key }
 }
 
-fn out_of_range(key: Key) -> ConfigFault {
+pub(crate) fn out_of_range(key: Key) -> ConfigFault {
     ConfigFault::OutOfRange { key }
 }
 
 // `KEY = [1, 1, ..]` with so many numbers, and then the last.
-fn list(alloc: Global, key: &str, ones: u32, last: &str) -> Result<String, AllocError> {
+pub(crate) fn list(alloc: Global, key: &str, ones: u32, last: &str) -> Result<String, AllocError> {
     let mut text = format!(in alloc; "{key} = [")?;
     for _ in 0..ones {
         text.push_str("1, ")?;
@@ -32,183 +32,6 @@ fn list(alloc: Global, key: &str, ones: u32, last: &str) -> Result<String, Alloc
     text.push_str(last)?;
     text.push_str("]\n")?;
     Ok(text)
-}
-
-// Each fault alone, and beside the one that is checked next.
-#[test]
-fn tells_the_first_fault(rt: HostRuntime) -> Result<(), Fail> {
-    let (name, file) = (Key::Name { receiver: 1 }, Key::File { receiver: 1 });
-    let (delay, weight) = (Key::Delay { receiver: 1 }, Key::Weight { receiver: 1 });
-    let own = Key::ReceiverStation { receiver: 1 };
-    let cases = [
-        (b"".as_slice(), missing(Key::Station)),
-        (b"station = jjy\n", ConfigFault::NotToml),
-        (
-            b"station = \"jjy\"\nstation = \"jjy\"\n",
-            ConfigFault::NotToml,
-        ),
-        (b"station = \"\xFF\"\n", ConfigFault::NotToml),
-        (b"station = 9223372036854775808\n", ConfigFault::NotToml),
-        (b"ceiling = \"x\"\n", missing(Key::Station)),
-        (b"station = 1\nceiling = \"x\"\n", wrong_kind(Key::Station)),
-        (
-            b"station = \"bpc\"\nceiling = \"x\"\n",
-            out_of_range(Key::Station),
-        ),
-        (
-            b"station = \"jjy\"\nceiling = 1.0\n",
-            wrong_kind(Key::Ceiling),
-        ),
-        (
-            b"station = \"jjy\"\nceiling = -1\n",
-            out_of_range(Key::Ceiling),
-        ),
-        (
-            b"station = \"jjy\"\nceiling = 1920000001\n",
-            out_of_range(Key::Ceiling),
-        ),
-        (b"station = \"jjy\"\ntable = 1\n", missing(Key::Receiver)),
-        (
-            b"station = \"jjy\"\nreceiver = 1\ntable = 1\n",
-            wrong_kind(Key::Receiver),
-        ),
-        (
-            b"station = \"jjy\"\n[receiver]\nname = \"a\"\nlog = \"a\"\n",
-            wrong_kind(Key::Receiver),
-        ),
-        (
-            b"station = \"jjy\"\nreceiver = [1, 1, 1, 1, 1, 1, 1, 1, 1]\n",
-            wrong_kind(Key::Receiver),
-        ),
-        (
-            b"station = \"jjy\"\nreceiver = []\n",
-            out_of_range(Key::Receiver),
-        ),
-        (
-            b"station = \"jjy\"\nreceiver = [{}, {}, {}, {}, {}, {}, {}, {}, {}]\n",
-            out_of_range(Key::Receiver),
-        ),
-        (
-            b"station = \"jjy\"\nreceiver = [{}]\nx = 1\n",
-            missing(name),
-        ),
-        (
-            b"station = \"jjy\"\nreceiver = [{name = 1}]\n",
-            wrong_kind(name),
-        ),
-        (
-            b"station = \"jjy\"\nreceiver = [{name = \"\"}]\n",
-            out_of_range(name),
-        ),
-        (
-            b"station = \"jjy\"\nreceiver = [{name = \"A\"}]\n",
-            out_of_range(name),
-        ),
-        (
-            b"station = \"jjy\"\nreceiver = [{name = \"abcdefghijklmnopqrstuvwxyz_-01234\"}]\n",
-            out_of_range(name),
-        ),
-        (
-            b"station = \"jjy\"\nreceiver = [{name = \"a\", delay_ms = 501}]\n",
-            missing(file),
-        ),
-        (
-            b"station = \"jjy\"\nreceiver = [{name = \"a\", log = 1}]\n",
-            wrong_kind(file),
-        ),
-        (
-            b"station = \"jjy\"\nreceiver = [{name = \"a\", log = \"-\", delay_ms = 501}]\n",
-            out_of_range(file),
-        ),
-        (
-            b"station = \"jjy\"\nreceiver = [{name = \"a\", log = \"\"}]\n",
-            out_of_range(file),
-        ),
-        (
-            b"station = \"jjy\"\nreceiver = [{name = \"a\", log = \"a\", delay_ms = \"1\"}]\n",
-            wrong_kind(delay),
-        ),
-        (
-            b"station = \"jjy\"\nreceiver = [{name = \"a\", log = \"a\", delay_ms = 501, weight = 0}]\n",
-            out_of_range(delay),
-        ),
-        (
-            b"station = \"jjy\"\nreceiver = [{name = \"a\", log = \"a\", weight = 1.0}]\n",
-            wrong_kind(weight),
-        ),
-        (
-            b"station = \"jjy\"\nreceiver = [{name = \"a\", log = \"a\", weight = 0, station = 1}]\n",
-            out_of_range(weight),
-        ),
-        (
-            b"station = \"jjy\"\nreceiver = [{name = \"a\", log = \"a\", weight = 101}]\n",
-            out_of_range(weight),
-        ),
-        (
-            b"station = \"jjy\"\nreceiver = [{name = \"a\", log = \"a\", weight = -1}]\n",
-            out_of_range(weight),
-        ),
-        (
-            b"station = \"jjy\"\nreceiver = [{name = \"a\", log = \"a\", weight = 9223372036854775807}]\n",
-            out_of_range(weight),
-        ),
-        (
-            b"station = \"jjy\"\nreceiver = [{name = \"a\", log = \"a\", station = 1}]\ntable = 1\n",
-            wrong_kind(own),
-        ),
-        (
-            b"station = \"jjy\"\nreceiver = [{name = \"a\", log = \"a\", station = \"bpc\"}, {}]\n",
-            out_of_range(own),
-        ),
-        (
-            b"station = \"jjy\"\nreceiver = [{name = \"a\", log = \"a\"}, {}]\ntable = 1\n",
-            missing(Key::Name { receiver: 2 }),
-        ),
-        (
-            b"station = \"jjy\"\nx = 1\nreceiver = [{name = \"a\", log = \"a\"}]\ntable = 1\n",
-            wrong_kind(Key::CostTable),
-        ),
-        (
-            b"station = \"jjy\"\nreceiver = [{name = \"a\", log = \"a\"}]\nother = {}\n",
-            ConfigFault::UnknownKey,
-        ),
-        (
-            b"station = \"jjy\"\nreceiver = [{name = \"a\", log = \"a\", x = 1}]\n",
-            ConfigFault::UnknownKey,
-        ),
-        (
-            b"station = \"jjy\"\nreceiver = [{name = \"a\", log = \"a\"}]\ntable = {x = 1}\n",
-            ConfigFault::UnknownKey,
-        ),
-        (
-            b"station = \"jjy\"\nceiling = -1\nreceiver = 1\n",
-            out_of_range(Key::Ceiling),
-        ),
-        (
-            b"station = \"jjy\"\nreceiver = []\ntable = 1\n",
-            out_of_range(Key::Receiver),
-        ),
-        (
-            b"station = \"jjy\"\nreceiver = [{name = \"a\", log = \"a\", delay_ms = \"1\", weight = 0}]\n",
-            wrong_kind(delay),
-        ),
-        (
-            b"station = \"jjy\"\nreceiver = [{name = \"a\", log = \"a\", weight = 1.0, station = 1}]\n",
-            wrong_kind(weight),
-        ),
-        (
-            b"station = \"jjy\"\nreceiver = [{name = \"a\", log = \"a\"}]\ntable = {low = 1, high = 1, x = 1}\n",
-            wrong_kind(Key::Low),
-        ),
-        (
-            b"station = \"jjy\"\nreceiver = [{name = \"a\", log = \"a\"}]\ntable = {high = 1, x = 1}\n",
-            wrong_kind(Key::High),
-        ),
-    ];
-    for (text, fault) in cases {
-        assert!(rt; read(&rt, text).err() == Some(fault));
-    }
-    Ok(())
 }
 
 #[test]

@@ -2,6 +2,13 @@
 //! that `bank` answers. Where that is neither an answer nor a refused log, standard error says why.
 #![tactic(auto)]
 
+ghost use Rattle.std.specs.Prelude.{◌≡◌, ◌≢◌, ◌⊎◌};
+ghost use Rattle.bank_files.specs.Seen.{SameCounts, WriteFails};
+ghost use Rattle.bank_files.specs.Told.{output_name};
+ghost use Rattle.bank_words.specs.Seen.{texts_of};
+ghost use Rattle.bank.specs.Ending.{PrintsNothing, SomeReadFails, TellsDue};
+ghost use Rattle.tsbank.specs.Owed.{IsOwed};
+
 mod command_line;
 mod ending;
 #[cfg(test)]
@@ -65,13 +72,16 @@ pub(crate) fn status<
     )
 }
 
-// The status that a run for these words ends with.
+// The status that a run for these words ends with. Of the machine's files nothing is told, so that the status is one that
+// is due for some contents.
 fn run<R: Threads + Sync, H: rt::Files + Print + Eprint + AllocGlobal, S: Clock + Eprint + Sync>(
     rt: &R,
     host: &H,
     words: &[String],
     progress: &Progress<'_, S>,
-) -> u8 {
+) -> u8
+    ensures owed { result ≢ FILE_FAILED → result ≢ NO_MEMORY → IsOwed (texts_of words.now) result }
+{
     let mut files = RealFiles::new(host.alloc(), HostMachine::new(host));
     let status = answer(rt, host.alloc(), words, &mut files, progress);
     progress.end();
@@ -79,13 +89,19 @@ fn run<R: Threads + Sync, H: rt::Files + Print + Eprint + AllocGlobal, S: Clock 
     status
 }
 
-// The program's one call of `bank`.
+// The program's one call of `bank`. Its status, and with it what was printed, is what `bank` answers.
 fn answer<R: Threads + Sync, F: Files, G: Gate + Sync>(
     rt: &R,
     alloc: Global,
     words: &[String],
     files: &mut F,
     gate: &G,
-) -> u8 {
+) -> u8
+    ensures due { result ≢ FILE_FAILED → result ≢ NO_MEMORY → TellsDue (F.view files.old) (F.view files.new) (texts_of words.now) result }
+    ensures failed { result ≡ FILE_FAILED → WriteFails output_name (F.view files.old) (F.view files.new)
+        ⊎ SomeReadFails (F.view files.old) (F.view files.new) (texts_of words.now) }
+    ensures no_fault { result ≢ FILE_FAILED → SameCounts (F.view files.old) (F.view files.new) }
+    ensures memory { result ≡ NO_MEMORY → PrintsNothing (F.view files.old) (F.view files.new) }
+{
     bank::run(rt, alloc, words, files, gate)
 }

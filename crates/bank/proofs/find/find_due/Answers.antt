@@ -1,25 +1,20 @@
 -- What is due for what is asked.
 use Rattle.std.proofs.Common.{ℕ, List, ◌∙◌, subst}
 use Rattle.std.proofs.lemmas.Result.{IfOk-weaker}
-use Rattle.bank_config.specs.Configuration.{plain_config, plain_receiver}
+use Rattle.bank_config.specs.Configuration.{plain_config}
 use Rattle.due.specs.declared.due.Due.{Due}
-use Rattle.due.specs.Banks.{bank_of}
+use Rattle.due.specs.Banks.{bank_of, ordered}
+use Rattle.due.specs.Orders.{BankOrder}
 use Rattle.bank.specs.declared.loading.Unloaded.{Unloaded}
 use Rattle.bank.specs.declared.words.Task.{Task}
 use Rattle.bank.specs.Finding.{IsFound, IsTried}
 use Rattle.bank.specs.Hearing.{bank_seen}
 use Rattle.bank.specs.Loading.{IsNotLoaded}
 use Rattle.bank.specs.Tasks.{Asks}
+use Rattle.bank.proofs.EntryLaws.{bank_in_order, told_in_order}
 use Rattle.bank.proofs.FindingLaws.{answer_found, failure_found, listing_found, refusal_found, trial_found}
-use Rattle.bank.proofs.LogListLaws.{length_map}
-use Rattle.bank.proofs.RunLaws.{good_length, verdict_told}
+use Rattle.bank.proofs.RunLaws.{verdict_told}
 use Rattle.bank.proofs.find.find_due.Goals as goal
-
-pub bank_of-requires-clause-logs : goal.bank_of-requires-clause-logs
-bank_of-requires-clause-logs g c =
-    let loaded = c.in-Ok.ensures.loaded in
-    let rs = c.in-Ok.loaded.config.receivers.items in
-    good_length loaded.0 1 (plain_config c.in-Ok.loaded.config).receivers c.in-Ok.loaded.logs.items loaded.1.good ∙ length_map plain_receiver rs
 
 pub returns-in-List-clause-due : goal.returns-in-List-clause-due
 returns-in-List-clause-due g c = λ words asks.
@@ -36,13 +31,14 @@ returns-in-Try-clause-due g c =
 pub returns-in_ok-verdict-in-Ok-clause-due : goal.returns-in_ok-verdict-in-Ok-clause-due
 returns-in_ok-verdict-in-Ok-clause-due g c = λ words asks.
     let d = c.in-Decode in
+    let o : BankOrder = record { config = d.config.now; asked = d.asked; as_feed = d.as_feed } in
     let seen = bank_seen c.in_ok-bank-in-Ok.bank in
-    let verdict = c.in_ok-verdict-in-Ok.verdict in
     let is = c.in_ok-verdict-in-Ok.ensures.verdict in
-    answer_found words (record { config = d.config.now; asked = d.asked; as_feed = d.as_feed }) (subst (λ (t : Task). Asks words t) d.is asks)
-    (g.F.Files.view c.args.files.now) (plain_config c.in-Ok.loaded.config) c.in-Ok.loaded.logs.items c.told_of.result c.in-Ok.ensures.loaded
-    (verdict_told (record { config = d.config.now; asked = d.asked; as_feed = d.as_feed }) (bank_of (plain_config c.in-Ok.loaded.config) c.in-Ok.loaded.logs.items) seen verdict c.told_of.result
-    c.in_ok-bank-in-Ok.ensures.bank is (c.told_of.ensures.told seen is.duts_are))
+    let (config, logs, loaded, order) = c.in-Ok.ensures.loaded in
+    let same = c.in_ok-bank-in-Ok.ensures.bank ∙ bank_in_order config logs (plain_config c.in-Ok.loaded.config) c.in-Ok.loaded.logs.items order in
+    answer_found words o (subst (λ (t : Task). Asks words t) d.is asks) (g.F.Files.view c.args.files.now) config logs c.told_of.result loaded
+    (told_in_order o (bank_of config logs) c.told_of.result
+    (verdict_told o (ordered (bank_of config logs)) seen c.in_ok-verdict-in-Ok.verdict c.told_of.result same is (c.told_of.ensures.told seen is.duts_are)))
 
 pub returns-in-Refused-clause-due : goal.returns-in-Refused-clause-due
 returns-in-Refused-clause-due g c = λ words asks.
