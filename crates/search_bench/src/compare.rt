@@ -1,0 +1,234 @@
+//! The quick answers of a search compared with the plain ones, over windows and blocks by chance.
+
+ghost use Rattle.std.specs.Prelude.{◌<◌, ◌≤◌, ◌*◌, length};
+ghost use Rattle.definitions.specs.answers.Blocks.{IsBlock};
+ghost use Rattle.definitions.specs.sequences.Walks.{IsSequence};
+ghost use Rattle.definitions.specs.time.Calendar.{century_minutes};
+ghost use Rattle.formats.specs.OrderRanges.{IsAsked};
+ghost use Rattle.signal_base.specs.declared.limits.TheConstants.{MOST_RECEIVERS};
+ghost use Rattle.search_bench.specs.declared.compare.TheConstants.{LONG_REACH};
+
+use crate::case::Case;
+use crate::chance::Chance;
+use crate::draw::{draw_block, draw_sequence};
+use crate::fault::Fault;
+use crate::noise::noisy_bank;
+use crate::places::{PLACES, Place, minute_at};
+use crate::plain::plain_bound;
+use crate::tally::Tally;
+use bank::{grids_of, window_of};
+use bounds::{Bounded, bound, items};
+use civil::Civil;
+use definitions::{Block, CENTURY_MINUTES, Sequence};
+use field_tables::Tables;
+use formats::Asked;
+use plain_costs::plain_cost;
+use sequence::{legal, walkable};
+use signal_base::{LEAST_SECONDS, MOST_SECONDS, Station};
+use std::alloc::Global;
+
+// Each station alone, and all four.
+const STATION_SETS: u8 = 5;
+
+// Half of the windows are no longer than this.
+const FEW_SECONDS: u16 = 180;
+
+// How many minutes a range reaches at most to either side of its place: within an hour, over some hours, over some days.
+const SHORT_REACH: u32 = 20;
+
+const REACH: u32 = 300;
+
+const LONG_REACH: u32 = 4000;
+
+// So many windows are compared for each set at each place.
+const WINDOWS: u32 = 2;
+
+// So many blocks are drawn for a window. Those are left out whose sequences have more slots together than are left of so
+// many.
+const DRAWS: u32 = 400;
+
+const MOST_SLOTS: u64 = 2_000_000;
+
+// So many sequences are drawn for a window.
+const SEQUENCES: u32 = 200;
+
+/// Compares, and prints how much.
+pub fn compare<R: Print + AllocGlobal>(rt: &R, seed: u64) -> Result<(), Fault> {
+    let alloc = rt.alloc();
+    let civil = Civil::make(alloc)?;
+    let mut chance = Chance::new(seed);
+    for place in PLACES {
+        let mut tally = Tally::new();
+        for set in 0..STATION_SETS {
+            for _ in 0..WINDOWS {
+                let t = minute_at(&civil, &mut chance, place);
+                let asked = asked_near(&mut chance, t);
+                compare_window(
+                    alloc,
+                    &civil,
+                    &mut chance,
+                    stations(set),
+                    &asked,
+                    &mut tally,
+                )?;
+            }
+        }
+        println!(rt; "{place}: {tally}")?;
+    }
+    Ok(())
+}
+
+// The stations of a set. Where there are four, each has two receivers.
+fn stations(set: u8) -> &'static [Station]
+    ensures some { 1 ≤ length result.now }
+    ensures few { length result.now ≤ MOST_RECEIVERS }
+{
+    match set {
+        0 => &[Station::Dcf77],
+        1 => &[Station::Msf],
+        2 => &[Station::Wwvb],
+        3 => &[Station::Jjy],
+        _ => &[
+            Station::Jjy,
+            Station::Wwvb,
+            Station::Msf,
+            Station::Dcf77,
+            Station::Dcf77,
+            Station::Msf,
+            Station::Wwvb,
+            Station::Jjy,
+        ],
+    }
+}
+
+// A window that may begin in some minutes around this one.
+fn asked_near(chance: &mut Chance, t: u32) -> Asked
+    requires { t < century_minutes }
+    ensures { IsAsked result }
+{
+    let reach = reach(chance);
+    let before = chance.between(0, reach);
+    let after = chance.between(0, reach);
+    let most = if chance.flip() {
+        FEW_SECONDS
+    } else {
+        MOST_SECONDS
+    };
+    Asked {
+        start: Some(0),
+        seconds: chance.between(LEAST_SECONDS as u32, most as u32) as u16,
+        from: t.saturating_sub(before),
+        to: (t + 1 + after).min(CENTURY_MINUTES),
+    }
+}
+
+// How far a range reaches at most.
+fn reach(chance: &mut Chance) -> u32
+    ensures { result ≤ LONG_REACH }
+{
+    match chance.below(3) {
+        0 => SHORT_REACH,
+        1 => REACH,
+        _ => LONG_REACH,
+    }
+}
+
+// Compares in a window in which receivers of these stations hear noise.
+fn compare_window(
+    alloc: Global,
+    civil: &Civil,
+    chance: &mut Chance,
+    stations: &[Station],
+    asked: &Asked,
+    tally: &mut Tally,
+) -> Result<(), Fault>
+    requires some { 1 ≤ length stations.now }
+    requires few { length stations.now ≤ MOST_RECEIVERS }
+    requires asked { IsAsked asked.now }
+{
+    let bank = noisy_bank(alloc, chance, stations, asked.seconds)?;
+    let window = window_of(&bank, asked);
+    let grids = grids_of(alloc, bank, &window)?;
+    let tables = Tables::make(alloc, &grids, civil, &window)?;
+    let case = Case {
+        civil,
+        grids: &grids,
+        tables: &tables,
+        window,
+    };
+    tally.count_window();
+    compare_blocks(alloc, &case, chance, tally)?;
+    for _ in 0..SEQUENCES {
+        let q = draw_sequence(&case.window, chance);
+        compare_sequence(&case, &q, tally)?;
+    }
+    Ok(())
+}
+
+// Compares the bounds of blocks.
+fn compare_blocks(
+    alloc: Global,
+    case: &Case,
+    chance: &mut Chance,
+    tally: &mut Tally,
+) -> Result<(), Fault> {
+    let list = items(alloc, case.civil, &case.window)?;
+    let mut slots_left = MOST_SLOTS;
+    for _ in 0..DRAWS {
+        let Some(found) = draw_block(case.tables, &list, chance) else {
+            return Ok(());
+        };
+        let slots = slots_of(case, &found.block);
+        if slots <= slots_left {
+            slots_left -= slots;
+            compare_block(case, &found, tally)?;
+        }
+    }
+    Ok(())
+}
+
+// How many slots the sequences of a block have together, over the stations.
+fn slots_of(case: &Case, block: &Block) -> u64 {
+    let minutes = block.hi.saturating_sub(block.lo) as u64;
+    let stations = case.grids.len() as u64;
+    minutes
+        .saturating_mul(case.window.seconds as u64)
+        .saturating_mul(stations)
+}
+
+// Compares the bounds of a block.
+fn compare_block(case: &Case, found: &Bounded, tally: &mut Tally) -> Result<(), Fault>
+    requires { IsBlock case.now.window found.now.block }
+{
+    let alone = bound(case.tables, &found.block);
+    let plain = plain_bound(case, &found.block);
+    tally.count_block(&found.block, plain);
+    if alone != plain || found.bound != plain {
+        return Err(Fault::Bounds {
+            block: found.block,
+            alone,
+            in_row: found.bound,
+            plain,
+        });
+    }
+    Ok(())
+}
+
+// Compares whether a sequence is legal, and what it costs.
+fn compare_sequence(case: &Case, q: &Sequence, tally: &mut Tally) -> Result<(), Fault>
+    requires { IsSequence q.now }
+{
+    let is_legal = legal(case.civil, &case.window, q);
+    if case.tables.legal(q) != is_legal {
+        return Err(Fault::Sequences(*q));
+    }
+    let is_walkable = walkable(case.civil, &case.window, q);
+    tally.count_sequence(is_walkable, is_legal);
+    if is_walkable {
+        let plain = plain_cost(case.grids, case.civil, &case.window, q);
+        if case.tables.cost(q) != plain {
+            return Err(Fault::Sequences(*q));
+        }
+    }
+    Ok(())
+}

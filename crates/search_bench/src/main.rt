@@ -1,0 +1,88 @@
+//! Compares the quick answers of a search with those of the plain definitions, and measures both.
+//!
+//! | Words | What it does |
+//! |---|---|
+//! | `compare [SEED]` | compares the bounds of blocks, and the legality and costs of sequences, over windows of noise |
+//! | `costs STATION` | works out ten million costs of an empty log |
+//! | `measure SECONDS FROM TO STATION=LOG..` | counts and times what a search of the logs visits |
+#![tactic(auto)]
+
+mod case;
+mod chance;
+mod compare;
+mod draw;
+mod fault;
+mod load;
+mod measure;
+mod noise;
+mod order;
+mod places;
+mod plain;
+mod pricing;
+mod receivers;
+mod sample;
+mod searching;
+mod silence;
+mod tally;
+mod times;
+mod visits;
+
+use compare::compare;
+use fault::Fault;
+use load::station_of;
+use measure::measure;
+use silence::{MINUTES, costly_silence};
+use std::env;
+use std::process::ExitCode;
+use std::rt::{Clock, Env, Files};
+use std::thread::Threads;
+use std::time::Instant;
+use times::{nanoseconds, tell};
+
+// The seed of a comparison that isn't given one.
+const FIRST_SEED: u64 = 1;
+
+fn main(rt: HostRuntime) -> ExitCode {
+    match run(&rt) {
+        Ok(()) => ExitCode::SUCCESS,
+        Err(fault) => {
+            let _ = eprintln!(&rt; "{fault}");
+            ExitCode::FAILURE
+        }
+    }
+}
+
+// Does what the words ask for.
+fn run<R: Threads + Sync + Clock + Env + Files + Print + AllocGlobal>(rt: &R) -> Result<(), Fault> {
+    let words: Vec<String> = env::args(rt)?.collect(rt.alloc())?;
+    let [_, mode, rest @ ..] = words.as_slice() else {
+        return Err(Fault::Words);
+    };
+    match mode.as_str() {
+        "compare" => compare(rt, seed_of(rest)?),
+        "costs" => time_silence(rt, rest),
+        "measure" => measure(rt, rest),
+        _ => Err(Fault::Words),
+    }
+}
+
+// The seed that a comparison is given, if it is.
+fn seed_of(words: &[String]) -> Result<u64, Fault> {
+    let Some(word) = words.first() else {
+        return Ok(FIRST_SEED);
+    };
+    word.as_str().parse::<u64>().map_err(|_| Fault::Words)
+}
+
+// Times the costs of an empty log of the station that is named.
+fn time_silence<R: Clock + Print + AllocGlobal>(rt: &R, words: &[String]) -> Result<(), Fault> {
+    let [name] = words else {
+        return Err(Fault::Words);
+    };
+    let station = station_of(name.as_str())?;
+    let begin = Instant::now(rt)?;
+    let costly = costly_silence(rt.alloc(), station)?;
+    tell(rt, "costs", MINUTES as u64)?;
+    tell(rt, "not_zero", costly as u64)?;
+    tell(rt, "taken_ns", nanoseconds(rt, begin)?)
+}

@@ -1,0 +1,72 @@
+//! A measurement of the search of a window.
+
+ghost use Rattle.std.specs.Prelude.{IfOk};
+ghost use Rattle.formats.specs.OrderRanges.{IsAsked};
+
+use crate::case::Case;
+use crate::fault::Fault;
+use crate::load::load;
+use crate::order::search_order;
+use crate::pricing::measure_bounds;
+use crate::searching::measure_search;
+use crate::times::{nanoseconds, tell};
+use bank::{grids_of, window_of};
+use civil::Civil;
+use definitions::CENTURY_MINUTES;
+use field_tables::Tables;
+use formats::Asked;
+use signal_base::{LEAST_SECONDS, MOST_SECONDS};
+use std::rt::{Clock, Files};
+use std::thread::Threads;
+use std::time::Instant;
+
+/// Searches the window that the words ask for, as `180 0 52596000 jjy=a.log`: so many seconds, the first minute of the range
+/// and its end, and the receivers. Prints what was measured, a name and a number a line.
+pub fn measure<R: Threads + Sync + Clock + Files + Print + AllocGlobal>(
+    rt: &R,
+    words: &[String],
+) -> Result<(), Fault> {
+    let [seconds, from, to, receivers @ ..] = words else {
+        return Err(Fault::Words);
+    };
+    let asked = asked_of(seconds.as_str(), from.as_str(), to.as_str())?;
+    let bank = load(rt, receivers)?;
+    let civil = Civil::make(rt.alloc())?;
+    let window = window_of(&bank, &asked);
+    let grids = grids_of(rt.alloc(), bank, &window)?;
+    let begin = Instant::now(rt)?;
+    let tables = Tables::make(rt.alloc(), &grids, &civil, &window)?;
+    tell(rt, "tables_ns", nanoseconds(rt, begin)?)?;
+    let begin = Instant::now(rt)?;
+    let order = search_order(rt.alloc(), &civil, &tables, &window)?;
+    tell(rt, "order_ns", nanoseconds(rt, begin)?)?;
+    let case = Case {
+        civil: &civil,
+        grids: &grids,
+        tables: &tables,
+        window,
+    };
+    measure_bounds(rt, &case, &order)?;
+    measure_search(rt, &tables, &order)
+}
+
+// Which window the words ask for.
+fn asked_of(seconds: &str, from: &str, to: &str) -> Result<Asked, Fault>
+    ensures { IfOk result IsAsked }
+{
+    let seconds = seconds.parse::<u16>().map_err(|_| Fault::Words)?;
+    let from = from.parse::<u32>().map_err(|_| Fault::Words)?;
+    let to = to.parse::<u32>().map_err(|_| Fault::Words)?;
+    if seconds < LEAST_SECONDS || seconds > MOST_SECONDS {
+        return Err(Fault::Words);
+    }
+    if from >= to || to > CENTURY_MINUTES {
+        return Err(Fault::Words);
+    }
+    Ok(Asked {
+        start: Some(0),
+        seconds,
+        from,
+        to,
+    })
+}

@@ -1,0 +1,104 @@
+//! What was compared, counted by kind.
+
+use definitions::{Block, Span};
+use std::fmt;
+
+/// How much of each kind was compared.
+#[derive(Clone, Copy, Debug)]
+pub struct Tally {
+    windows: u32,
+    minutes: u32,
+    hours: u32,
+    days: u32,
+    years: u32,
+    announced: u32,
+    from_leap_seconds: u32,
+    without_bound: u32,
+    sequences: u32,
+    walkable: u32,
+    legal: u32,
+}
+
+impl Tally {
+    /// Of nothing.
+    pub fn new() -> Tally {
+        Tally {
+            windows: 0,
+            minutes: 0,
+            hours: 0,
+            days: 0,
+            years: 0,
+            announced: 0,
+            from_leap_seconds: 0,
+            without_bound: 0,
+            sequences: 0,
+            walkable: 0,
+            legal: 0,
+        }
+    }
+
+    /// Counts a window.
+    pub fn count_window(&mut self) {
+        count_if(&mut self.windows, true);
+    }
+
+    /// Counts a block with its bound.
+    pub fn count_block(&mut self, block: &Block, bound: Option<u32>) {
+        match block.span {
+            Span::Minute => count_if(&mut self.minutes, true),
+            Span::Hour => count_if(&mut self.hours, true),
+            Span::Day => count_if(&mut self.days, true),
+            Span::Year => count_if(&mut self.years, true),
+        }
+        count_if(&mut self.announced, block.announced);
+        count_if(&mut self.from_leap_seconds, block.second == LEAP_SECOND);
+        count_if(&mut self.without_bound, bound.is_none());
+    }
+
+    /// Counts a sequence.
+    pub fn count_sequence(&mut self, is_walkable: bool, is_legal: bool) {
+        count_if(&mut self.sequences, true);
+        count_if(&mut self.walkable, is_walkable);
+        count_if(&mut self.legal, is_legal);
+    }
+}
+
+// The second that is inserted.
+const LEAP_SECOND: u8 = 60;
+
+fn count_if(count: &mut u32, counts: bool) {
+    if counts {
+        *count = count.saturating_add(1);
+    }
+}
+
+impl fmt::Display for Tally {
+    fn fmt<W: fmt::Write>(&self, f: &mut fmt::Formatter<W>) -> fmt::Result {
+        let Tally {
+            windows,
+            minutes,
+            hours,
+            days,
+            years,
+            announced,
+            from_leap_seconds,
+            without_bound,
+            sequences,
+            walkable,
+            legal,
+        } = *self;
+        write!(f, "{windows} windows")?;
+        write!(
+            f,
+            "; {minutes} minutes, {hours} hours, {days} days, {years} years"
+        )?;
+        write!(
+            f,
+            ", of them {announced} announced, {from_leap_seconds} from second 60, {without_bound} without a bound"
+        )?;
+        write!(
+            f,
+            "; {sequences} sequences, {walkable} walkable, {legal} legal"
+        )
+    }
+}
