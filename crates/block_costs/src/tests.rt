@@ -1,6 +1,6 @@
 //! Blocks of which four seconds are known, whose costs were worked out by hand, and how long such costs take.
 
-ghost use Rattle.std.specs.Prelude.{◌≡◌, ◌≤◌, IfOk};
+ghost use Rattle.std.specs.Prelude.{◌≡◌, ◌+◌, ◌<◌, ◌≤◌, IfOk};
 ghost use Rattle.signal_base.specs.Limits.{IsPriced};
 ghost use Rattle.signal_base.specs.declared.limits.TheConstants.{MOST_COST};
 
@@ -76,6 +76,23 @@ fn cost(blocks: &StationBlocks, p: u8, lo: u32, hi: u32) -> Option<u32> {
     Some(blocks.union_cost(false, p, lo, hi))
 }
 
+// The cost of the sequence that begins in the minute `lo + i`, among those of the minutes before `hi`, and none where these
+// reach past the last minute that is encoded.
+fn minute_cost(blocks: &StationBlocks, p: u8, lo: u32, hi: u32, i: usize) -> Option<u32>
+    requires second { p < 60 }
+    requires order { lo ≤ hi }
+    requires few { hi ≤ lo + 60 }
+    requires entry { i < 60 }
+{
+    let end = blocks.walks().parts().end();
+    let reach = blocks.walks().later_minutes(p);
+    if hi > end || end - hi < reach {
+        return None;
+    }
+    let costs = blocks.minute_costs(false, p, lo, hi);
+    Some(costs[i])
+}
+
 // 2024-06-10T06:46Z, a minute after JJY's call sign; the minutes 46 to 55 of the hour come then. That day, and that year.
 const MINUTE: u32 = 12_855_286;
 
@@ -105,6 +122,43 @@ fn unions_of_known_seconds(rt: HostRuntime) -> Result<(), Fail> {
             "second {second} of {lo} to {hi}"
         );
     }
+    Ok(())
+}
+
+// From second 1 on the minutes' tens tell, which change from 4 to 5 in minute 50, and to 0 after minute 59. From second 33 on
+// the local day's number does, of which the last bit changes at 15:00Z. What isn't asked for costs nothing.
+#[test]
+fn minutes_one_by_one(rt: HostRuntime) -> Result<(), Fail> {
+    let blocks = StationBlocks::make(rt.alloc(), walks(rt.alloc(), 62)?)?;
+    assert_eq!(rt;
+        minute_cost(&blocks, 1, MINUTE, MINUTE + 15, 3),
+        Some(150 + 120 + 150 + 120)
+    );
+    assert_eq!(rt;
+        minute_cost(&blocks, 1, MINUTE, MINUTE + 15, 4),
+        Some(150 + 150 + 150 + 120)
+    );
+    assert_eq!(rt;
+        minute_cost(&blocks, 1, MINUTE, MINUTE + 15, 13),
+        Some(150 + 150 + 120 + 120)
+    );
+    assert_eq!(rt;
+        minute_cost(&blocks, 1, MINUTE, MINUTE + 15, 14),
+        Some(4 * 120)
+    );
+    assert_eq!(rt; minute_cost(&blocks, 1, MINUTE, MINUTE + 15, 15), Some(0));
+    assert_eq!(rt;
+        minute_cost(&blocks, 33, DAY + 898, DAY + 901, 0),
+        Some(4 * 120)
+    );
+    assert_eq!(rt;
+        minute_cost(&blocks, 33, DAY + 898, DAY + 901, 1),
+        Some(120 + 120 + 150 + 120)
+    );
+    assert_eq!(rt;
+        minute_cost(&blocks, 33, DAY + 898, DAY + 901, 2),
+        Some(150 + 120 + 150 + 120)
+    );
     Ok(())
 }
 
@@ -141,30 +195,46 @@ fn of_years(blocks: &StationBlocks) -> u32 {
     all
 }
 
-fn times_of(rt: &HostRuntime, seconds: u16) -> Result<u32, Fail>
+fn of_minutes(blocks: &StationBlocks) -> u32 {
+    let mut all = 0;
+    for hour in 0..60_000u32 {
+        all ^= minute_cost(blocks, 17, hour * 60, hour * 60 + 60, 59).unwrap_or(0);
+    }
+    all
+}
+
+fn times_of(rt: &HostRuntime, blocks: &StationBlocks) -> Result<u32, Fail> {
+    let begin = Instant::now(rt)?;
+    let mut sum = of_days(blocks);
+    tell(rt, "a day", begin, 36_000)?;
+    let begin = Instant::now(rt)?;
+    sum ^= of_hours(blocks);
+    tell(rt, "an hour", begin, 360_000)?;
+    let begin = Instant::now(rt)?;
+    sum ^= of_years(blocks);
+    tell(rt, "a year", begin, 10_000)?;
+    let begin = Instant::now(rt)?;
+    sum ^= of_minutes(blocks);
+    tell(rt, "the 60 minutes of an hour", begin, 60_000)?;
+    Ok(sum)
+}
+
+fn made_in_time(rt: &HostRuntime, seconds: u16) -> Result<StationBlocks, Fail>
     requires { seconds ≤ 1200 }
 {
     let walks = walks(rt.alloc(), seconds)?;
     let begin = Instant::now(rt)?;
     let blocks = StationBlocks::make(rt.alloc(), walks)?;
-    tell(rt, "all layers that are kept", begin, 1)?;
-    let begin = Instant::now(rt)?;
-    let days = of_days(&blocks);
-    tell(rt, "a day", begin, 36_000)?;
-    let begin = Instant::now(rt)?;
-    let hours = of_hours(&blocks);
-    tell(rt, "an hour", begin, 360_000)?;
-    let begin = Instant::now(rt)?;
-    let years = of_years(&blocks);
-    tell(rt, "a year", begin, 10_000)?;
-    Ok(days ^ hours ^ years)
+    tell(rt, "all that is kept", begin, 1)?;
+    Ok(blocks)
 }
 
 // Tells the times of three minutes and of twenty.
 #[test]
 fn times_of_unions(rt: HostRuntime) -> Result<(), Fail> {
     for seconds in [180, 1200] {
-        let sum = times_of(&rt, seconds)?;
+        let blocks = made_in_time(&rt, seconds)?;
+        let sum = times_of(&rt, &blocks)?;
         println!(&rt; "{seconds} seconds, {sum}")?;
     }
     Ok(())
