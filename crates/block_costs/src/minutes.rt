@@ -120,7 +120,8 @@ fn add_in_run(
     requires done { AreMinuteCosts walks.now date.now.announced date.now.second lo costs.old t }
     ensures { AreMinuteCosts walks.now date.now.announced date.now.second lo costs.new next }
 {
+    let stretch = walks.costs_in_run(date, t, next);
     for u in t..next {
-        costs[(u - lo) as usize] = walks.cost_by(date, u);
+        costs[(u - lo) as usize] = stretch[(u - t) as usize];
     }
 }

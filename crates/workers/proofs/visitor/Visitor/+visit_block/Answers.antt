@@ -6,7 +6,7 @@ use Rattle.definitions.specs.answers.Blocks.{block_key, children}
 use Rattle.field_tables.specs.Scored.{costs_of}
 use Rattle.workers.specs.Visits.{limit_at}
 use Rattle.workers.specs.Steps.{depth}
-use Rattle.workers.proofs.Walking.{IsWalking, passed_none, passed_above, offered_minute, opened_block, children_are_shorter, one_more, ended, stopped_below}
+use Rattle.workers.proofs.Walking.{IsWalking, passed_none, passed_above, opened_block, children_are_shorter, one_more, ended, stopped_below}
 use Rattle.workers.proofs.visitor.Visitor.+visit_block.Goals as goal
 
 pub returns-in_default-clause-walked : goal.returns-in_default-clause-walked
@@ -24,18 +24,6 @@ returns-then-key-limit-clause-walked g t c =
     passed_above g.K.Recorder.told (costs_of s.tables.now) s.tables.now.window s.ceiling c.args.found.now.block
     c.args.seat.now.view c.limit-seen.new.seat.view c.args.recorder.now c.record.new.self c.limit-seen.result c.limit-seen.ensures.below
     c.args.found.now.bound c.in-Some.bound c.in-Some.is c.requires.bound c.in_ok-record.ensures.kept over c.limit-seen.ensures.view
-
-pub returns-then-eq-clause-walked : goal.returns-then-eq-clause-walked
-returns-then-eq-clause-walked g t c =
-    let s = c.args.self.now in
-    let within : block_key c.in-Some.bound c.args.found.now.block ≤ limit_at s.ceiling c.limit-seen.result =
-    omega (arith, c.if-key-limit.false, c.block_key-key.ensures, c.limit_at-limit.ensures) in
-    let span : c.args.found.now.block.span ≡ Minute = search rules in
-    let offered = c.offer.ensures.view in
-    offered_minute g.K.Recorder.told (costs_of s.tables.now) s.tables.now.window s.ceiling c.args.found.now.block
-    c.args.seat.now.view c.offer.new.seat.view c.args.recorder.now c.record.new.self c.limit-seen.result c.limit-seen.ensures.below
-    c.args.found.now.bound c.in-Some.bound c.in-Some.is c.requires.bound c.in_ok-record.ensures.kept
-    c.block_key-key.result offered.0 c.limit-seen.new.seat.view c.block_key-key.ensures within span c.limit-seen.ensures.view offered.1 offered.2
 
 pub loop-child-init : goal.loop-child-init
 loop-child-init g t c =
@@ -89,4 +77,32 @@ returns-in_err-visit_block-clause-stopped g t c =
     c.args.seat.now.view at.seat.view c.visit_block.new.seat.view c.args.recorder.now at.recorder c.visit_block.new.recorder
     (subst (λ left. IsWalking g.K.Recorder.told (costs_of s.tables.now) s.tables.now.window s.ceiling b c.args.seat.now.view c.args.recorder.now left at.seat.view at.recorder)
     c.in-Some-next.ensures.child at.invariant.walking) c.in_err-visit_block.ensures.stopped in
+    search rules
+
+pub loop-child-preserved-then-eq-2 : goal.loop-child-preserved-then-eq-2
+loop-child-preserved-then-eq-2 g t c =
+    let s = c.args.self.now in
+    let b = c.args.found.now.block in
+    let at = c.loop-child in
+    let child = c.in-Some-next.ensures in
+    let visited = c.in_ok-visit_minute.ensures in record {
+      race = visited.race ∙ at.invariant.race;
+      tables = child.tables ∙ at.invariant.tables;
+      shorter = (subst (AllByRecursion (λ c. depth c.span < depth b.span)) child.child at.invariant.shorter).1;
+      walking = one_more g.K.Recorder.told (costs_of s.tables.now) s.tables.now.window s.ceiling b c.in-Some-next.child.block c.next.new.self.left
+          c.args.seat.now.view at.seat.view c.visit_minute-then-eq-2.new.seat.view c.args.recorder.now at.recorder c.visit_minute-then-eq-2.new.recorder
+          (subst (λ left. IsWalking g.K.Recorder.told (costs_of s.tables.now) s.tables.now.window s.ceiling b c.args.seat.now.view c.args.recorder.now left at.seat.view at.recorder)
+          child.child at.invariant.walking)
+          visited.walked;
+    }
+
+pub returns-in_err-visit_minute-clause-stopped : goal.returns-in_err-visit_minute-clause-stopped
+returns-in_err-visit_minute-clause-stopped g t c =
+    let s = c.args.self.now in
+    let b = c.args.found.now.block in
+    let at = c.loop-child in
+    let stopped = stopped_below g.K.Recorder.told (costs_of s.tables.now) s.tables.now.window s.ceiling g.K.Recorder.fails b c.in-Some-next.child.block c.next.new.self.left
+    c.args.seat.now.view at.seat.view c.visit_minute-then-eq-2.new.seat.view c.args.recorder.now at.recorder c.visit_minute-then-eq-2.new.recorder
+    (subst (λ left. IsWalking g.K.Recorder.told (costs_of s.tables.now) s.tables.now.window s.ceiling b c.args.seat.now.view c.args.recorder.now left at.seat.view at.recorder)
+    c.in-Some-next.ensures.child at.invariant.walking) c.in_err-visit_minute.ensures.stopped in
     search rules
