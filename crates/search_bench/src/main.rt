@@ -24,6 +24,8 @@ mod sample;
 mod searching;
 mod silence;
 mod tally;
+#[cfg(test)]
+mod tests;
 mod times;
 mod visits;
 

@@ -34,10 +34,10 @@ const EVERY_SUMMED: usize = 200;
 
 const MOST_SUMMED: usize = 10;
 
-// How often each is timed.
-const ROUNDS: u64 = 20;
+// How often bounds and sums are timed, and costs, which take longer. The least time counts.
+const ROUNDS: u32 = 50;
 
-const SUM_ROUNDS: u64 = 200;
+const COST_ROUNDS: u32 = 5;
 
 /// Times the bounds of days, hours and minutes alone, and the plain ways to them.
 pub fn measure_bounds<R: Clock + Print + AllocGlobal>(
@@ -70,13 +70,14 @@ fn time_bounds<R: Clock + Print>(
 ) -> Result<(), Fault>
     requires { AllByRecursion (IsBlock case.now.window) blocks.now }
 {
-    let begin = Instant::now(rt)?;
+    let mut least = u64::MAX;
     let mut mixed = 0;
     for _ in 0..ROUNDS {
+        let begin = Instant::now(rt)?;
         mixed = mix_bounds(case, blocks, mixed);
+        least = least.min(nanoseconds(rt, begin)?);
     }
-    let taken = nanoseconds(rt, begin)?;
-    tell_each(rt, name, taken, ROUNDS.saturating_mul(blocks.len() as u64))?;
+    tell_each(rt, name, least, blocks.len() as u64)?;
     tell(rt, "mixed", mixed as u64)
 }
 
@@ -100,14 +101,26 @@ fn time_costs<R: Clock + Print>(
     requires sequences { AllByRecursion IsSequence sequences.now }
     requires walkable { AllByRecursion (IsWalkable case.now.window) sequences.now }
 {
-    let begin = Instant::now(rt)?;
-    let mut mixed = 0u32;
+    let mut least = u64::MAX;
+    let mut mixed = 0;
+    for _ in 0..COST_ROUNDS {
+        let begin = Instant::now(rt)?;
+        mixed = mix_costs(case, sequences, mixed);
+        least = least.min(nanoseconds(rt, begin)?);
+    }
+    tell_each(rt, name, least, sequences.len() as u64)?;
+    tell(rt, "mixed", mixed as u64)
+}
+
+fn mix_costs(case: &Case, sequences: &[Sequence], before: u32) -> u32
+    requires sequences { AllByRecursion IsSequence sequences.now }
+    requires walkable { AllByRecursion (IsWalkable case.now.window) sequences.now }
+{
+    let mut mixed = before;
     for q in sequences {
         mixed = mixed.rotate_left(1) ^ plain_cost(case.grids, case.civil, &case.window, q);
     }
-    let taken = nanoseconds(rt, begin)?;
-    tell_each(rt, name, taken, sequences.len() as u64)?;
-    tell(rt, "mixed", mixed as u64)
+    mixed
 }
 
 // The first sequences of the blocks, as far as they are walkable.
@@ -139,7 +152,7 @@ fn time_sums<R: Clock + Print + AllocGlobal>(
 ) -> Result<(), Fault>
     requires { AllByRecursion (IsBlock case.now.window) blocks.now }
 {
-    let mut taken = 0u64;
+    let mut all = 0u64;
     let mut count = 0u64;
     let mut mixed = 0u32;
     for grid in case.grids {
@@ -147,14 +160,16 @@ fn time_sums<R: Clock + Print + AllocGlobal>(
             continue;
         }
         let unions = unions_in(rt.alloc(), case, grid, blocks)?;
-        let begin = Instant::now(rt)?;
-        for _ in 0..SUM_ROUNDS {
+        let mut least = u64::MAX;
+        for _ in 0..ROUNDS {
+            let begin = Instant::now(rt)?;
             mixed = mix_sums(grid, &unions, mixed);
+            least = least.min(nanoseconds(rt, begin)?);
         }
-        taken = taken.saturating_add(nanoseconds(rt, begin)?);
-        count = SUM_ROUNDS.saturating_mul(unions.len() as u64);
+        all = all.saturating_add(least);
+        count = unions.len() as u64;
     }
-    tell_each(rt, name, taken, count)?;
+    tell_each(rt, name, all, count)?;
     tell(rt, "mixed", mixed as u64)
 }
 
