@@ -66,8 +66,11 @@ fmt: ## lays out the files of every crate
 
 bench: ## measures the program: speed, memory, and how often its answers are wrong
 	@$(FRESH) || $(MAKE) build
+	cd crates/search_bench && rt run > /dev/null
 	bench/decode
+	bench/search
 	bench/reading
+	bench/failures
 	bench/wrong-answers
 
 clean: ## removes what was built and what checks kept (some gigabytes)
