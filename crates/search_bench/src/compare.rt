@@ -40,14 +40,11 @@ const REACH: u32 = 300;
 
 const LONG_REACH: u32 = 4000;
 
-// So many windows are compared for each set at each place.
-const WINDOWS: u32 = 2;
-
 // So many blocks are drawn for a window. Those are left out whose sequences have more slots together than are left of so
 // many.
-const DRAWS: u32 = 400;
+const DRAWS: u32 = 1000;
 
-const MOST_SLOTS: u64 = 2_000_000;
+const MOST_SLOTS: u64 = 3_000_000;
 
 // So many sequences are drawn for a window.
 const SEQUENCES: u32 = 200;
@@ -60,18 +57,16 @@ pub fn compare<R: Print + AllocGlobal>(rt: &R, seed: u64) -> Result<(), Fault> {
     for place in PLACES {
         let mut tally = Tally::new();
         for set in 0..STATION_SETS {
-            for _ in 0..WINDOWS {
-                let t = minute_at(&civil, &mut chance, place);
-                let asked = asked_near(&mut chance, t);
-                compare_window(
-                    alloc,
-                    &civil,
-                    &mut chance,
-                    stations(set),
-                    &asked,
-                    &mut tally,
-                )?;
-            }
+            let t = minute_at(&civil, &mut chance, place);
+            let asked = asked_near(&mut chance, t);
+            compare_window(
+                alloc,
+                &civil,
+                &mut chance,
+                stations(set),
+                &asked,
+                &mut tally,
+            )?;
         }
         println!(rt; "{place}: {tally}")?;
     }
