@@ -32,8 +32,6 @@ pub enum Fault {
         /// The bound by a walk through each slot of its sequences.
         plain: Option<u32>,
     },
-    /// A union differs.
-    Unions(Block),
     /// A sequence is legal by one way and not by the other, or costs another sum.
     Sequences(Sequence),
     /// Two searches of the same window found other keys.
@@ -58,7 +56,6 @@ impl fmt::Display for Fault {
                 f,
                 "bounds differ: {alone:?} alone, {in_row:?} in its row, {plain:?} plainly, of {block:?}"
             ),
-            Fault::Unions(block) => write!(f, "unions differ: {block:?}"),
             Fault::Sequences(sequence) => write!(f, "legality or costs differ: {sequence:?}"),
             Fault::Searches => f.write_str("searches of one window found different keys"),
         }
