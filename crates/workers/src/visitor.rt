@@ -113,14 +113,14 @@ impl Visitor<'_> {
             OnErr result (HasStopped K.told K.fails (costs_of t) t.window self.now.ceiling found.now.block seat.old.view seat.new.view recorder.old recorder.new) }
     {
         children_share_the_sequences();
-        let seen = self.race.limit(seat);
-        recorder.record(&found.block, found.bound, seen)?;
+        let read = self.race.limit(seat);
+        recorder.record(&found.block, found.bound, read)?;
         let Some(bound) = found.bound else {
             return Ok(());
         };
         let key = block_key(bound, &found.block);
-        let limit = limit_at(self.ceiling, seen);
-        if key > limit {
+        let most = limit_at(self.ceiling, read);
+        if key > most {
             return Ok(());
         }
         self.race.offer(seat, key);
