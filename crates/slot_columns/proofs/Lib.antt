@@ -1,6 +1,7 @@
 pub mod ColumnLaws
 pub mod GroupLaws
 pub mod LayerLaws
+pub mod MarkLaws
 pub mod MinuteLaws
 pub mod PlaceLaws
 pub mod RowLaws

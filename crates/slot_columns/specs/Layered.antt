@@ -21,6 +21,11 @@ pub record IsCommon (parts : List (List ℕ)) (s : ℕ) (common : Common) : Type
   pub same : common.differs ≡ false → (i : ℕ) → i < length parts → slice_index (part_at parts i) s ≡ common.set
   pub none : common.differs ≡ true → common.set ≡ 0
 
+-- each of n parts carries what its counterpart does in all seconds but these
+abbrev pub AgreeBut : List Bool → (ℕ → List ℕ) → (ℕ → List ℕ) → ℕ → Type 0
+AgreeBut seconds a b n =
+    (i s : ℕ) → i < n → s < SECONDS_PER_MINUTE → slice_index_or seconds s false ≡ false → slice_index (a i) s ≡ slice_index (b i) s
+
 -- what the sets of two parts cost in the seconds before n, where the set at a place costs this in a second of walk minute
 -- 0, and that in a second of all later minutes
 abbrev pub second_cost : (ℕ → ℕ → ℕ) → (ℕ → ℕ → ℕ) → List ℕ → List ℕ → ℕ → ℕ
