@@ -2,12 +2,14 @@
 //! code).
 #![tactic(auto)]
 
-ghost use Rattle.std.specs.Prelude.{◌≡◌, ◌+◌, ◌%◌, ◌<◌, ◌≤◌, ◌==◌, if◌then◌else◌, map};
+ghost use Rattle.std.specs.Prelude.{◌≡◌, ◌+◌, ◌%◌, ◌<◌, ◌≤◌, ◌==◌, if◌then◌else◌, map, replicate};
 ghost use Rattle.std.specs.List.{range_with_len};
 ghost use Rattle.definitions.specs.codes.Dcf77.{AreInRange, dcf_bit, dcf_fields, dcf_second, weekday_from_monday};
+ghost use Rattle.definitions.specs.codes.Vocabulary.{free};
+ghost use Rattle.telegram_fields.specs.Laying.{with_sets};
+ghost use Rattle.dcf_code.specs.Laying.{no_field};
 
 pub use definitions::DcfFacts;
-use std::array;
 use telegram_fields::{FREE, Field, NO_SECOND, carried_bit, only, seconds_of};
 
 // Seconds and their weights.
@@ -40,6 +42,9 @@ const YEAR: [(u8, u8); 8] = [
     (57, 80),
 ];
 
+// The symbol of a one.
+const ONE: u8 = 1;
+
 // The symbol of a second without a reduction of the carrier.
 const NO_REDUCTION: u8 = 2;
 
@@ -49,10 +54,40 @@ pub fn telegram(facts: &DcfFacts) -> [u8; 61]
     requires { AreInRange facts.now }
     ensures { result ≡ map (dcf_second facts.now) (range_with_len 0 61) }
 {
-    array::from_fn(|second| set_of(facts, second as u8))
+    let mut sets = sets_of_no_field(facts);
+    let [minute, hour, day, weekday, month, year] = &fields(facts);
+    minute.lay(&mut sets, ONE);
+    hour.lay(&mut sets, ONE);
+    day.lay(&mut sets, ONE);
+    weekday.lay(&mut sets, ONE);
+    month.lay(&mut sets, ONE);
+    year.lay(&mut sets, ONE);
+    sets
+}
+
+// The sets of the seconds that no field has.
+fn sets_of_no_field(facts: &DcfFacts) -> [u8; 61]
+    requires { AreInRange facts.now }
+    ensures { result ≡ with_sets (dcf_second facts.now) no_field (replicate 61 free) }
+{
+    let mut sets = [FREE; 61];
+    sets[0] = set_of(facts, 0);
+    sets[16] = set_of(facts, 16);
+    sets[17] = set_of(facts, 17);
+    sets[18] = set_of(facts, 18);
+    sets[19] = set_of(facts, 19);
+    sets[20] = set_of(facts, 20);
+    sets[28] = set_of(facts, 28);
+    sets[35] = set_of(facts, 35);
+    sets[58] = set_of(facts, 58);
+    sets[59] = set_of(facts, 59);
+    sets[60] = set_of(facts, 60);
+    sets
 }
 
 /// The set of symbols that a second may carry, empty from the end of the minute on.
+// Of a second that is given as a number, what it carries is looked up as the program is built.
+#[inline(always)]
 pub fn set_of(facts: &DcfFacts, second: u8) -> u8
     requires { AreInRange facts.now }
     ensures { result ≡ dcf_second facts.now second }

@@ -1,19 +1,13 @@
 //! What the date tells of each second.
 
-ghost use Rattle.std.specs.Prelude.{◌≡◌, ◌-◌, ◌≤◌, ℕ, IsTrue, if◌then◌else◌, slice_index};
+ghost use Rattle.std.specs.Prelude.{◌≡◌, ◌-◌, ◌<◌, ◌≤◌, ℕ, IsTrue, slice_index};
 ghost use Rattle.signal_base.specs.declared.station.Station.TheVariants.{Dcf77, Jjy, Msf, Wwvb};
-ghost use Rattle.definitions.specs.codes.Msf as msf;
-ghost use Rattle.definitions.specs.codes.Msf.{msf_second};
-ghost use Rattle.minute_parts.specs.Overlay.{is_time_second};
-ghost use Rattle.minute_parts.specs.Dates.{AreInRange, date_part};
+ghost use Rattle.minute_parts.specs.Dates.{AreInRange, date_part, set_by};
 ghost use Rattle.minute_parts.specs.Filling.{IsFilled, none_tell};
 
 use crate::dates::DateFacts;
-use crate::seconds::{Part, msf_facts, set_by};
-use crate::times::is_time_second;
-use definitions::MsfFacts;
+use crate::seconds::{Part, dcf_facts, msf_facts, set_by};
 use signal_base::Station;
-use std::array;
 
 /// What the date tells, by its facts.
 pub fn date_part(station: Station, date: &DateFacts) -> Part
@@ -35,10 +29,40 @@ fn dcf_part(date: &DateFacts) -> Part
     requires { AreInRange date.now }
     ensures { result ≡ date_part Dcf77 date.now }
 {
+    let sets = dcf_sets(date);
     let mut part = empty();
-    fill(&mut part, Station::Dcf77, date, 0, 21);
-    fill(&mut part, Station::Dcf77, date, 36, 60);
+    take(&mut part, &sets, Station::Dcf77, date, 0, 21);
+    take(&mut part, &sets, Station::Dcf77, date, 36, 60);
     part
+}
+
+// What DCF77 sends in the first minute of the day.
+fn dcf_sets(date: &DateFacts) -> [u8; 61]
+    requires { AreInRange date.now }
+    ensures { (s : ℕ) → s < 60 → slice_index result s ≡ set_by Dcf77 date.now 0 s }
+{
+    dcf_code::telegram(&dcf_facts(date, 0))
+}
+
+#[tactic(auto, using(crate::proofs::FillLaws::finished))]
+fn msf_part(date: &DateFacts) -> Part
+    requires { AreInRange date.now }
+    ensures { result ≡ date_part Msf date.now }
+{
+    let sets = msf_sets(date);
+    let mut part = empty();
+    take(&mut part, &sets, Station::Msf, date, 0, 39);
+    take(&mut part, &sets, Station::Msf, date, 52, 57);
+    take(&mut part, &sets, Station::Msf, date, 58, 60);
+    part
+}
+
+// What MSF sends in the first minute of the day.
+fn msf_sets(date: &DateFacts) -> [u8; 61]
+    requires { AreInRange date.now }
+    ensures { (s : ℕ) → s < 60 → slice_index result s ≡ set_by Msf date.now 0 s }
+{
+    msf_code::telegram(&msf_facts(date, 0))
 }
 
 #[tactic(auto, using(crate::proofs::FillLaws::finished))]
@@ -94,22 +118,24 @@ fn fill(part: &mut Part, station: Station, date: &DateFacts, from: usize, to: us
     }
 }
 
-// The code of MSF is too long to be inlined, so that this way is the faster one.
-fn msf_part(date: &DateFacts) -> Part
-    requires { AreInRange date.now }
-    ensures { result ≡ date_part Msf date.now }
+// Takes some seconds from a telegram.
+#[inline(always)]
+fn take(
+    part: &mut Part,
+    sets: &[u8; 61],
+    station: Station,
+    date: &DateFacts,
+    from: usize,
+    to: usize,
+)
+    requires sets { (s : ℕ) → s < 60 → slice_index sets.now s ≡ set_by station date.now 0 s }
+    requires order { from ≤ to }
+    requires minute { to ≤ 60 }
+    requires told { IsTrue (none_tell station from (to - from)) }
+    requires before { IsFilled station date.now part.old from }
+    ensures { IsFilled station date.now part.new to }
 {
-    let facts = msf_facts(date, 0);
-    array::from_fn(|second| msf_set(&facts, second as u8))
-}
-
-fn msf_set(facts: &MsfFacts, second: u8) -> u8
-    requires { msf.AreInRange facts.now }
-    ensures { result ≡ (if is_time_second Msf second then 0 else msf_second facts.now second) }
-{
-    if is_time_second(Station::Msf, second) {
-        0
-    } else {
-        msf_code::set_of(facts, second)
+    for second in from..to {
+        part[second] = sets[second];
     }
 }

@@ -27,7 +27,7 @@ pub fn set_by(station: Station, date: &DateFacts, u: u16, second: u8) -> u8
 }
 
 // The facts of a minute of each station, from the facts of its date and the minute of the local day.
-fn dcf_facts(date: &DateFacts, u: u16) -> DcfFacts
+pub fn dcf_facts(date: &DateFacts, u: u16) -> DcfFacts
     requires { u < minutes_per_day }
     ensures { result ≡ dcf_facts_by date.now u }
 {

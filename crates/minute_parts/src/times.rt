@@ -45,8 +45,8 @@ fn time_set(station: Station, u: u16, second: u8) -> u8
     }
 }
 
-/// Whether the time of day always tells the second.
-pub fn is_time_second(station: Station, second: u8) -> bool
+// Whether the time of day always tells the second.
+fn is_time_second(station: Station, second: u8) -> bool
     ensures { result ≡ is_time_second station second }
 {
     match station {

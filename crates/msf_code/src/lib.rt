@@ -1,9 +1,12 @@
 //! The telegram of MSF: the set of symbols that each second of a minute may carry (NPL's MSF 60 kHz time and date code).
 #![tactic(auto)]
 
-ghost use Rattle.std.specs.Prelude.{◌≡◌, ◌<◌, map};
+ghost use Rattle.std.specs.Prelude.{◌≡◌, ◌<◌, false, map, replicate, set};
 ghost use Rattle.std.specs.List.{range_with_len};
+ghost use Rattle.definitions.specs.codes.Vocabulary.{free, no_second};
 ghost use Rattle.definitions.specs.codes.Msf.{AreInRange, bit_a, bit_b, code_second, msf_fields, msf_second, odd_parity};
+ghost use Rattle.telegram_fields.specs.Laying.{with_sets};
+ghost use Rattle.msf_code.specs.Laying.{no_field};
 
 pub use definitions::MsfFacts;
 use std::array;
@@ -39,6 +42,9 @@ const MINUTE: [(u8, u8); 7] = [
     (51, 1),
 ];
 
+// The symbol of a one in bit A alone.
+const ONE: u8 = 2;
+
 // The symbol that marks second 0.
 const MINUTE_MARKER: u8 = 4;
 
@@ -48,7 +54,45 @@ pub fn telegram(facts: &MsfFacts) -> [u8; 61]
     requires { AreInRange facts.now }
     ensures { result ≡ map (msf_second facts.now) (range_with_len 0 61) }
 {
-    array::from_fn(|second| set_of(facts, second as u8))
+    if facts.long {
+        return array::from_fn(|second| set_of(facts, second as u8));
+    }
+    short_telegram(facts)
+}
+
+// That of a minute of 60 seconds.
+fn short_telegram(facts: &MsfFacts) -> [u8; 61]
+    requires range { AreInRange facts.now }
+    requires short { facts.now.long ≡ false }
+    ensures { result ≡ map (msf_second facts.now) (range_with_len 0 61) }
+{
+    let mut sets = sets_of_no_field(facts);
+    let [year, month, day, weekday, hour, minute] = &fields(facts);
+    year.lay(&mut sets, ONE);
+    month.lay(&mut sets, ONE);
+    day.lay(&mut sets, ONE);
+    weekday.lay(&mut sets, ONE);
+    hour.lay(&mut sets, ONE);
+    minute.lay(&mut sets, ONE);
+    sets
+}
+
+// The sets of the seconds of the code that no field has.
+fn sets_of_no_field(facts: &MsfFacts) -> [u8; 61]
+    ensures { result ≡ with_sets (code_second facts.now) no_field (set (replicate 61 free) 60 no_second) }
+{
+    let mut sets = [FREE; 61];
+    sets[60] = NO_SECOND;
+    sets[0] = code_second(facts, 0);
+    sets[52] = code_second(facts, 52);
+    sets[53] = code_second(facts, 53);
+    sets[54] = code_second(facts, 54);
+    sets[55] = code_second(facts, 55);
+    sets[56] = code_second(facts, 56);
+    sets[57] = code_second(facts, 57);
+    sets[58] = code_second(facts, 58);
+    sets[59] = code_second(facts, 59);
+    sets
 }
 
 /// The set of symbols that a second may carry, empty from the end of the minute on.
@@ -71,7 +115,9 @@ pub fn set_of(facts: &MsfFacts, second: u8) -> u8
     code_second(facts, second)
 }
 
-// The set of a second of the code.
+// The set of a second of the code. Of a second that is given as a number, what it carries is looked up as the program is
+// built.
+#[inline(always)]
 fn code_second(facts: &MsfFacts, second: u8) -> u8
     ensures { result ≡ code_second facts.now second }
 {

@@ -1,9 +1,11 @@
 //! A field of a telegram: a decimal number whose digits are sent in binary, each bit in a second of its own.
 
-ghost use Rattle.std.specs.Prelude.{◌≡◌, ◌%◌, ◌<◌, ◌≤◌, IfSome, IsTrue, length, nat_lt};
+ghost use Rattle.std.specs.Prelude.{◌≡◌, ◌*◌, ◌%◌, ◌<◌, ◌≤◌, IfSome, IsTrue, length, nat_lt};
 ghost use Rattle.std.specs.List.{list_all};
 ghost use Rattle.definitions.specs.codes.Vocabulary.{carried_bit, digit_bit, ones, weight_of};
+ghost use Rattle.telegram_fields.specs.Laying.{laid};
 
+use crate::set::only;
 use std::marker::Model;
 
 /// The seconds that carry a number, each with its weight, and the number. The weights 1 to 8 carry its units, 10 to 80
@@ -45,6 +47,20 @@ impl<'a> Field<'a> {
             count += digit_bit(self.value, weight.1);
         }
         count
+    }
+
+    /// Puts the field's bits into the sets of a telegram, where each second has its own: the symbol 0, or this one in the
+    /// place of a one.
+    // With the seconds of a table inlined, the loop is unrolled.
+    #[inline(always)]
+    pub fn lay(&self, sets: &mut [u8; 61], one: u8)
+        requires seconds { IsTrue (list_all (λ w. nat_lt w.0 61) self.now.0) }
+        requires symbol { one < 8 }
+        ensures { sets.new ≡ laid (λ bit. one * bit) self.now.0 self.now.1 sets.old }
+    {
+        for weight in self.weights {
+            sets[weight.0 as usize] = only(one * digit_bit(self.value, weight.1));
+        }
     }
 
     // The weight of the second, if the field has it.
