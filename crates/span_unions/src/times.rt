@@ -32,12 +32,7 @@ fn level_of(n: usize) -> usize
     ensures within { 2 ^ result ≤ n }
     ensures half { n ≤ 2 * 2 ^ result }
 {
-    for level in 0..LEVELS - 1 {
-        if n < width(level + 1) {
-            return level;
-        }
-    }
-    LEVELS - 1
+    n.ilog2() as usize
 }
 
 /// The unions of what the time of day tells.
