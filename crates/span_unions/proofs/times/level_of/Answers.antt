@@ -8,4 +8,4 @@ low : (level n : ℕ) → 2 ^ level ≤ n → n ≤ 1440 → level < 11
 low level n within day = elim (cases_lt level 11) [ inl lt ↦ lt | inr le ↦ absurd (omega (arith, within, day, pow_mono {i = 11} {j = level} le)) ]
 
 pub returns-clause-is_level : goal.returns-clause-is_level
-returns-clause-is_level c = low c.ilog2.result c.args.n c.ilog2.ensures.power_le c.requires.day
+returns-clause-is_level c = low c.ilog2.result c.args.n (omega (arith, c.ilog2.ensures.power_le)) c.requires.day
