@@ -3,7 +3,7 @@ use Rattle.symbol_cost.specs.Grid.{cost_at}
 use Rattle.slot_columns.specs.Parts.{minute_cost}
 use Rattle.walk_costs.specs.Dates.{given_up}
 use Rattle.walk_costs.proofs.DateLaws.{lost_before}
-use Rattle.walk_costs.proofs.date.by_minute_with.Given as goal
+use Rattle.walk_costs.proofs.date.by_call_with.Given as goal
 
 abbrev pub invariant-loop-m : goal.invariant-loop-m
 invariant-loop-m l = record {

@@ -6,7 +6,7 @@ use Rattle.slot_columns.specs.Parts.{minute_cost}
 use Rattle.walk_costs.specs.Dates.{given_up, is_given_up}
 use Rattle.walk_costs.proofs.DateLaws.{all_lost, before_all, kept_and_given, minute_lost, none_before, none_given, one_more_lost}
 use Rattle.walk_costs.proofs.WalkLaws.{lost_le, none_lost}
-use Rattle.walk_costs.proofs.date.by_minute_with.Goals as goal
+use Rattle.walk_costs.proofs.date.by_call_with.Goals as goal
 
 pub returns-then-not-gives_up : goal.returns-then-not-gives_up
 returns-then-not-gives_up c = λ m few.
@@ -19,14 +19,13 @@ returns-then-not-gives_up c = λ m few.
       none_given grid c.args.p part keeps,
       kept_and_given grid c.args.p part,
       c.requires.rest,
-      c.alike.ensures m few,
     )
 
 pub loop-m-init : goal.loop-m-init
 loop-m-init c = record {
   long = search rules;
   done = λ m lt. absurd (omega arith);
-  none = λ m le few. c.alike-lost.ensures m few;
+  none = λ m le few. c.no_losses-lost.ensures m few;
   sum = omega (arith, none_before c.args.columns.now c.args.p c.args.part.now);
 }
 
