@@ -1,5 +1,5 @@
 -- What the unions of an hour cost: what the time of day tells there, and what the date tells of the seconds that are left to it.
-use Rattle.std.proofs.Common.{◌≡◌, ◌≢◌, ℕ, ◌+◌, ◌-◌, ◌*◌, ◌/◌, ◌%◌, ◌<◌, ◌≤◌, ◌||◌, inl, inr, Bool, true, false, nat_lt, if◌then◌else◌, List, [], ◌∷◌, ◌++◌, length, get_or, bit_or, refl, sym, ap, ◌∙◌, subst, arith}
+use Rattle.std.proofs.Common.{◌≡◌, ℕ, ◌+◌, ◌-◌, ◌*◌, ◌/◌, ◌%◌, ◌<◌, ◌≤◌, inl, inr, Bool, true, false, nat_lt, if◌then◌else◌, List, [], ◌∷◌, ◌++◌, length, get_or, bit_or, refl, sym, ap, ◌∙◌, subst, arith}
 use Rattle.std.specs.Int.Bits.{or_zero_l, or_zero_r}
 use Rattle.std.proofs.Math.ListN.{get_or-append}
 use Rattle.std.proofs.lemmas.Bool.{and_parts, cases_Bool, cases_lt, ltb-false, ltb-true, or_cases}
@@ -9,10 +9,10 @@ use Rattle.signal_base.specs.Mask.{has_bit}
 use Rattle.signal_base.specs.declared.station.Station.{Station}
 use Rattle.signal_base.specs.declared.station.Station.TheVariants.{Dcf77, Msf, Wwvb, Jjy}
 use Rattle.definitions.specs.codes.Allowed.{allowed}
-use Rattle.definitions.specs.heard.Costs.{set_cost, sum_below}
+use Rattle.definitions.specs.heard.Costs.{set_cost}
 use Rattle.definitions.specs.time.Calendar.{minute_length}
 use Rattle.definitions.proofs.CostLaws.{sum_below_bound, sum_below_same}
-use Rattle.symbol_cost.specs.Grid.{Grid, cost_at}
+use Rattle.symbol_cost.specs.Grid.{cost_at}
 use Rattle.minute_parts.specs.Overlay.{is_call_second, is_time_second, tells_time}
 use Rattle.minute_parts.specs.Parts.{IsPartTable, PartTable, part_where}
 use Rattle.minute_parts.specs.Runs.{end_of_run, first_of, run_at}
@@ -26,7 +26,8 @@ use Rattle.span_unions.specs.Unions.{IsUnionOf, IsUnionOver}
 use Rattle.span_unions.proofs.UnionLaws.{none_has, one_union, union_same}
 use Rattle.walk_costs.specs.Dates.{is_given_up, kept, kept_set, part_cost}
 use Rattle.walk_costs.specs.Walks.{AreSmall, PricedParts, later_minutes}
-use Rattle.walk_costs.proofs.SumLaws.{at_second, cost_in, one_layer, sum_of_two}
+use Rattle.slot_columns.proofs.SplitLaws.{one_layer}
+use Rattle.walk_costs.proofs.SumLaws.{at_second, cost_in, sum_of_two}
 use Rattle.block_costs.specs.Blocks.{AreUnionsOfWalks, unions_cost}
 use Rattle.block_costs.specs.Hours.{AreHourLayers, AreHours, IsHourCost}
 

@@ -1,5 +1,4 @@
 pub mod KeptLaws
-pub mod MinuteLaws
 pub mod SumLaws
 pub mod TotalLaws
 pub mod UnionLaws

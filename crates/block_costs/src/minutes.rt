@@ -1,17 +1,19 @@
 //! What sequences cost whose walks have 60 seconds in each minute, and may go through several runs: one by one, and for the
 //! minutes of an hour at once.
 
-ghost use Rattle.std.specs.Prelude.{ℕ, ◌≡◌, ◌+◌, ◌<◌, ◌≤◌, length, slice_index};
+ghost use Rattle.std.specs.Prelude.{ℕ, ◌≡◌, ◌+◌, ◌^◌, ◌<◌, ◌≤◌, length, slice_index};
+ghost use Rattle.minute_parts.specs.Parts.{IsInRun};
+ghost use Rattle.minute_parts.specs.Runs.{end_of_run};
 ghost use Rattle.span_unions.specs.Unions.{AreRegular};
 ghost use Rattle.slot_columns.specs.Parts.{most_cost};
 ghost use Rattle.slot_columns.specs.declared.limits.TheConstants.{SECONDS_PER_MINUTE};
-ghost use Rattle.walk_costs.specs.Walks.{IsDateCost, IsPlainIn, cost_of, later_minutes};
-ghost use Rattle.block_costs.specs.Minutes.{AreMinuteCosts};
+ghost use Rattle.walk_costs.specs.Stretches.{AreAddedCosts, HaveRoom};
+ghost use Rattle.walk_costs.specs.Walks.{cost_of, last_minute, later_minutes};
 
 use crate::asked::cost_by_minutes;
 use crate::blocks::StationBlocks;
 use definitions::MINUTES_PER_HOUR;
-use walk_costs::{DateCost, StationWalks};
+use walk_costs::StationWalks;
 
 /// The minutes of an hour.
 pub const HOUR_MINUTES: usize = MINUTES_PER_HOUR as usize;
@@ -31,23 +33,29 @@ impl StationBlocks {
         cost_of_walk(self.walks(), announced, p, t0)
     }
 
-    /// What the sequences cost that begin in second `p` of the minutes from `lo` up to, and without, `hi`, at most 60 of
-    /// them: entry `i` is that of the minute `lo + i`.
-    pub fn minute_costs(&self, announced: bool, p: u8, lo: u32, hi: u32) -> MinuteCosts
+    /// Adds what the sequences cost the station that begin in second `p` of the minutes from `lo` up to, and without, `hi`, at
+    /// most 60 of them: to entry `i` what that of the minute `lo + i` costs.
+    pub fn add_minute_costs(
+        &self,
+        announced: bool,
+        p: u8,
+        lo: u32,
+        hi: u32,
+        costs: &mut MinuteCosts,
+    )
         requires second { p < SECONDS_PER_MINUTE }
         requires order { lo ≤ hi }
         requires few { hi ≤ lo + HOUR_MINUTES }
         requires regular { AreRegular announced lo (hi + later_minutes (length self.now.grid.rows) p) self.now.parts.end }
-        ensures costs { (i : ℕ) → i < HOUR_MINUTES → lo + i < hi → slice_index result i ≡ cost_of self.now announced p (lo + i) }
-        ensures bound { (i : ℕ) → i < HOUR_MINUTES → slice_index result i ≤ most_cost self.now.grid }
+        requires room { (i : ℕ) → i < HOUR_MINUTES → slice_index costs.old i + most_cost self.now.grid < 2 ^ 32 }
+        ensures costs { (i : ℕ) → i < HOUR_MINUTES → lo + i < hi → slice_index costs.new i ≡ slice_index costs.old i + cost_of self.now announced p (lo + i) }
+        ensures bound { (i : ℕ) → i < HOUR_MINUTES → slice_index costs.new i ≤ slice_index costs.old i + most_cost self.now.grid }
     {
         let walks = self.walks();
-        let mut costs = [0; HOUR_MINUTES];
         let mut t = lo;
         while t < hi {
-            t = add_stretch(&mut costs, walks, announced, p, lo, t, hi);
+            t = add_stretch(costs, walks, announced, p, lo, t, hi);
         }
-        costs
     }
 }
 
@@ -67,7 +75,8 @@ fn cost_of_walk(walks: &StationWalks, announced: bool, p: u8, t0: u32) -> u32
     sets + walks.added_from(p, t0)
 }
 
-// Adds the costs of the minute `t`, and of those after it whose walks end in its run. Tells the next minute.
+// Adds the costs of the minute `t`, and of those after it whose walks end in the same run as its own does. Tells the next
+// minute.
 fn add_stretch(
     costs: &mut MinuteCosts,
     walks: &StationWalks,
@@ -82,10 +91,10 @@ fn add_stretch(
     requires some { t < hi }
     requires few { hi ≤ lo + HOUR_MINUTES }
     requires regular { AreRegular announced lo (hi + later_minutes (length walks.now.grid.rows) p) walks.now.parts.end }
-    requires done { AreMinuteCosts walks.now announced p lo costs.old t }
+    requires room { HaveRoom walks.now lo t costs.old }
     ensures more { t < result }
     ensures within { result ≤ hi }
-    ensures done { AreMinuteCosts walks.now announced p lo costs.new result }
+    ensures added { AreAddedCosts walks.now announced p lo t result costs.old costs.new }
 {
     let parts = walks.parts();
     // What ends before it fits.
@@ -94,34 +103,52 @@ fn add_stretch(
     let left = parts.run_end(run) - t;
     let later = walks.later_minutes(p);
     if left <= later {
-        costs[(t - lo) as usize] = cost_of_walk(walks, announced, p, t);
-        return t + 1;
+        return add_across(costs, walks, announced, p, lo, t, hi, run);
     }
     let next = hi.min(t + (left - later));
     let date = walks.date_cost(announced, p, run);
-    add_in_run(costs, walks, &date, lo, t, next);
+    walks.add_costs_in_run(&date, lo, t, next, costs);
     next
 }
 
-// Adds the costs of the minutes from `t` up to, and without, `next`, whose walks lie in one run.
-fn add_in_run(
+// Adds the cost of the minute `t`, whose walk leaves its run. Where it ends in the next run, and the local time is encoded
+// there as before, also those of the minutes after it whose walks do the same.
+fn add_across(
     costs: &mut MinuteCosts,
     walks: &StationWalks,
-    date: &DateCost,
+    announced: bool,
+    p: u8,
     lo: u32,
     t: u32,
-    next: u32,
-)
+    hi: u32,
+    run: usize,
+) -> u32
+    requires second { p < SECONDS_PER_MINUTE }
     requires begun { lo ≤ t }
-    requires order { t ≤ next }
-    requires few { next ≤ lo + HOUR_MINUTES }
-    requires date { IsDateCost walks.now date.now }
-    requires walks { (u : ℕ) → t ≤ u → u < next → IsPlainIn walks.now date.now.announced date.now.second u date.now.run }
-    requires done { AreMinuteCosts walks.now date.now.announced date.now.second lo costs.old t }
-    ensures { AreMinuteCosts walks.now date.now.announced date.now.second lo costs.new next }
+    requires some { t < hi }
+    requires few { hi ≤ lo + HOUR_MINUTES }
+    requires regular { AreRegular announced lo (hi + later_minutes (length walks.now.grid.rows) p) walks.now.parts.end }
+    requires here { IsInRun walks.now.parts t run }
+    requires leaves { end_of_run walks.now.parts.runs walks.now.parts.end run ≤ last_minute walks.now p t }
+    requires room { HaveRoom walks.now lo t costs.old }
+    ensures more { t < result }
+    ensures within { result ≤ hi }
+    ensures added { AreAddedCosts walks.now announced p lo t result costs.old costs.new }
 {
-    let stretch = walks.costs_in_run(date, t, next);
-    for u in t..next {
-        costs[(u - lo) as usize] = stretch[(u - t) as usize];
+    let parts = walks.parts();
+    // What ends before it fits.
+    parts.end();
+    let later = walks.later_minutes(p);
+    // The next run's number fits, as the count of runs does.
+    parts.runs();
+    let following = run + 1;
+    let end = parts.run_end(following);
+    if t + later >= end || parts.run(run).shift != parts.run(following).shift {
+        costs[(t - lo) as usize] += cost_of_walk(walks, announced, p, t);
+        return t + 1;
     }
+    let crossing = walks.crossing_costs(announced, p, run);
+    let next = hi.min(parts.run_end(run)).min(end - later);
+    walks.add_costs_across(&crossing, lo, t, next, costs);
+    next
 }

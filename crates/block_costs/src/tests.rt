@@ -4,7 +4,7 @@ ghost use Rattle.std.specs.Prelude.{◌≡◌, ◌+◌, ◌<◌, ◌≤◌, IfOk
 ghost use Rattle.signal_base.specs.Limits.{IsPriced};
 ghost use Rattle.signal_base.specs.declared.limits.TheConstants.{MOST_COST};
 
-use crate::StationBlocks;
+use crate::{HOUR_MINUTES, StationBlocks};
 use civil::Civil;
 use minute_parts::Parts;
 use pulse_log::read_log;
@@ -89,7 +89,10 @@ fn minute_cost(blocks: &StationBlocks, p: u8, lo: u32, hi: u32, i: usize) -> Opt
     if hi > end || end - hi < reach {
         return None;
     }
-    let costs = blocks.minute_costs(false, p, lo, hi);
+    // What a walk costs fits.
+    blocks.walks().columns();
+    let mut costs = [0; HOUR_MINUTES];
+    blocks.add_minute_costs(false, p, lo, hi, &mut costs);
     Some(costs[i])
 }
 

@@ -32,6 +32,10 @@ receivers g = g.receivers
 abbrev pub IsWithin : Sums → ℕ → ℕ → Type 0
 IsWithin sums i total = total ≤ sums.window.seconds * (sum_by receivers (take i (grids_of sums.stations)) * RECEIVER_COST)
 
+-- and so is what is less
+pub within_less : (sums : Sums) (i less total : ℕ) → less ≤ total → IsWithin sums i total → IsWithin sums i less
+within_less sums i less total le within = omega (arith, le, within)
+
 module _ (sums : Sums) (are : AreSums sums) where
   as_long : length (grids_of sums.stations) ≡ length sums.stations
   as_long = length-map sums.stations (λ (v : PricedParts). v.grid)

@@ -1,6 +1,6 @@
 //! What the minutes of an hour cost, all of them at once.
 
-ghost use Rattle.std.specs.Prelude.{◌≡◌, ◌≢◌, ◌+◌, ◌<◌, ◌≤◌, ◌↔◌, ◌^◌, ℕ, IfSome, IsTrue, false, length, slice_index, slice_index_or, true};
+ghost use Rattle.std.specs.Prelude.{◌≡◌, ◌≢◌, ◌+◌, ◌<◌, ◌≤◌, ◌↔◌, ℕ, IfSome, IsTrue, false, length, slice_index, slice_index_or, true};
 ghost use Rattle.signal_base.specs.declared.limits.TheConstants.{GREATEST_COST};
 ghost use Rattle.definitions.specs.answers.Blocks.{IsBlock};
 ghost use Rattle.definitions.specs.heard.Costs.{sequence_cost};
@@ -65,8 +65,7 @@ impl WindowSums {
     {
         let mut costs = no_costs();
         for station in &self.stations {
-            let row = station.minute_costs(block);
-            add(&mut costs, &row);
+            station.add_minute_costs(block, &mut costs);
         }
         costs
     }
@@ -130,14 +129,4 @@ fn some(flags: &Flags) -> bool
     ensures { result ≡ false → (i : ℕ) → slice_index_or flags.now i false ≡ false }
 {
     flags.iter().any(|flag| *flag)
-}
-
-// Adds a row's costs to others.
-fn add(costs: &mut MinuteCosts, row: &MinuteCosts)
-    requires { (i : ℕ) → i < HOUR_MINUTES → slice_index costs.old i + slice_index row.now i < 2 ^ 32 }
-    ensures { (i : ℕ) → i < HOUR_MINUTES → slice_index costs.new i ≡ slice_index costs.old i + slice_index row.now i }
-{
-    for i in 0..HOUR_MINUTES {
-        costs[i] += row[i];
-    }
 }

@@ -1,6 +1,6 @@
 //! What one station of a window may send, and what that costs.
 
-ghost use Rattle.std.specs.Prelude.{ℕ, ◌≡◌, ◌+◌, ◌<◌, ◌≤◌, ◌⊎◌, ◌↔◌, IfOk, IsTrue, MatchOption, false, length, slice_index, slice_index_or, true};
+ghost use Rattle.std.specs.Prelude.{ℕ, ◌≡◌, ◌+◌, ◌<◌, ◌≤◌, ◌⊎◌, ◌↔◌, ◌^◌, IfOk, IsTrue, MatchOption, false, length, slice_index, slice_index_or, true};
 ghost use Rattle.signal_base.specs.declared.limits.TheConstants.{MOST_SECONDS};
 ghost use Rattle.definitions.specs.codes.Allowed.{CanBeEncoded, has_station};
 ghost use Rattle.definitions.specs.answers.Blocks.{HasWalk, IsBlock, IsUnion};
@@ -117,17 +117,19 @@ impl StationSums {
         &self.blocks
     }
 
-    /// What the sequences of at most 60 minutes cost the station, whose walks have 60 seconds in each minute.
-    pub fn minute_costs(&self, block: &Block) -> MinuteCosts
+    /// Adds what the sequences of at most 60 minutes cost the station, whose walks have 60 seconds in each minute.
+    pub fn add_minute_costs(&self, block: &Block, costs: &mut MinuteCosts)
         requires second { block.now.second < SECONDS_PER_MINUTE }
         requires order { block.now.lo < block.now.hi }
         requires few { block.now.hi ≤ block.now.lo + HOUR_MINUTES }
         requires regular { AreRegular block.now.announced block.now.lo (block.now.hi + later_minutes (length self.now.grid.rows) block.now.second) self.now.parts.end }
-        ensures costs { (i : ℕ) → block.now.lo + i < block.now.hi → slice_index result i ≡ cost_of self.now block.now.announced block.now.second (block.now.lo + i) }
-        ensures small { (i : ℕ) → i < HOUR_MINUTES → slice_index result i ≤ most_cost self.now.grid }
+        requires room { (i : ℕ) → i < HOUR_MINUTES → slice_index costs.old i + most_cost self.now.grid < 2 ^ 32 }
+        ensures costs { (i : ℕ) → block.now.lo + i < block.now.hi
+            → slice_index costs.new i ≡ slice_index costs.old i + cost_of self.now block.now.announced block.now.second (block.now.lo + i) }
+        ensures small { (i : ℕ) → i < HOUR_MINUTES → slice_index costs.new i ≤ slice_index costs.old i + most_cost self.now.grid }
     {
         self.blocks
-            .minute_costs(block.announced, block.second, block.lo, block.hi)
+            .add_minute_costs(block.announced, block.second, block.lo, block.hi, costs);
     }
 
     /// Adds the minutes in which an announced sequence shows the announcement at the station.

@@ -13,20 +13,24 @@ use Rattle.slot_columns.proofs.PlaceLaws.{after_walk, at_index, before_walk, in_
 use Rattle.slot_columns.proofs.SetLaws.{index_bound}
 use Rattle.slot_columns.proofs.SumLaws.{sum_after_first, sum_by_rows, sum_in_two, sum_of_none, sum_to_later, sum_turned}
 
--- A sum over the slots of a walk is one over its seconds, of what lies in walk minute 0 and what lies in later ones.
--- Slot k is at place p + k, and outside the walk there is nothing.
-pub by_seconds : (g : ℕ → ℕ) (p n : ℕ) → p < 60 → n ≤ 1200 → ((i : ℕ) → i < p → g i ≡ 0) → ((i : ℕ) → p + n ≤ i → g i ≡ 0)
-    → sum_below n (λ k. g (p + k)) ≡ sum_below 60 (λ s. g s + sum_below 20 (λ m. g (60 * (m + 1) + s)))
-by_seconds g p n second short before after =
+-- A sum over the slots of a walk is one over its seconds, minute by minute. Slot k is at place p + k, and outside the walk
+-- there is nothing.
+pub by_columns : (g : ℕ → ℕ) (p n : ℕ) → p < 60 → n ≤ 1200 → ((i : ℕ) → i < p → g i ≡ 0) → ((i : ℕ) → p + n ≤ i → g i ≡ 0)
+    → sum_below n (λ k. g (p + k)) ≡ sum_below 60 (λ s. sum_below 21 (λ m. g (60 * m + s)))
+by_columns g p n second short before after =
     let walk = λ (k : ℕ). g (p + k) in
     let left : ℕ = 1260 - p in
     let whole : p + left ≡ 1260 = omega arith in
     let slots : sum_below left walk ≡ sum_below n walk = sum_to_later n left walk (omega arith) (λ k le lt. after (p + k) (omega arith)) in
     let places : sum_below 1260 g ≡ sum_below n walk =
     ap (λ m. sum_below m g) (sym whole) ∙ sum_in_two p left g ∙ ap (λ c. c + sum_below left walk) (sum_of_none p g before) ∙ omega (arith, slots) in
-    let columns : sum_below 1260 g ≡ sum_below 60 (λ s. sum_below 21 (λ m. g (60 * m + s))) =
-    sum_by_rows 21 g ∙ sum_turned 21 60 (λ m s. g (60 * m + s)) in
-    sym places ∙ columns
+    sym places ∙ sum_by_rows 21 g ∙ sum_turned 21 60 (λ m s. g (60 * m + s))
+
+-- what lies in walk minute 0, and what in later ones
+pub by_seconds : (g : ℕ → ℕ) (p n : ℕ) → p < 60 → n ≤ 1200 → ((i : ℕ) → i < p → g i ≡ 0) → ((i : ℕ) → p + n ≤ i → g i ≡ 0)
+    → sum_below n (λ k. g (p + k)) ≡ sum_below 60 (λ s. g s + sum_below 20 (λ m. g (60 * (m + 1) + s)))
+by_seconds g p n second short before after =
+    by_columns g p n second short before after
     ∙ sum_below_same 60 (λ s. sum_below 21 (λ m. g (60 * m + s))) (λ s. g s + sum_below 20 (λ m. g (60 * (m + 1) + s)))
     (λ s lt. sum_after_first 20 (λ m. g (60 * m + s)) ∙ ap (λ i. g i + sum_below 20 (λ m. g (60 * (m + 1) + s))) (omega arith))
 

@@ -6,6 +6,7 @@ pub mod MinuteLaws
 pub mod PlaceLaws
 pub mod RowLaws
 pub mod SetLaws
+pub mod SplitLaws
 pub mod SumLaws
 pub mod TermLaws
 pub mod WalkLaws

@@ -20,6 +20,16 @@ layered_set p first rest k =
 abbrev pub layered_cost : Station → (ℕ → ℕ → ℕ) → ℕ → ℕ → List ℕ → List ℕ → ℕ
 layered_cost station costs n p first rest = sum_below n (λ k. set_cost station (costs k) (layered_set p first rest k))
 
+-- the set of slot k where the first b minutes of the walk carry one part, and each later minute another
+abbrev pub split_set : ℕ → ℕ → List ℕ → List ℕ → ℕ → ℕ
+split_set p b before after k =
+    let place = p + k in
+    slice_index (if nat_lt (place / SECONDS_PER_MINUTE) b then before else after) (place % SECONDS_PER_MINUTE)
+
+-- what these sets cost a station over n slots
+abbrev pub split_cost : Station → (ℕ → ℕ → ℕ) → ℕ → ℕ → ℕ → List ℕ → List ℕ → ℕ
+split_cost station costs n p b before after = sum_below n (λ k. set_cost station (costs k) (split_set p b before after k))
+
 -- what a part costs in slot k if that lies in walk minute m
 abbrev pub cost_in_minute : Station → (ℕ → ℕ → ℕ) → ℕ → ℕ → List ℕ → ℕ → ℕ
 cost_in_minute station costs p m part k =

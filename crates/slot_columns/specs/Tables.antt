@@ -11,6 +11,10 @@ use Rattle.slot_columns.specs.declared.limits.TheConstants.{COLUMNS, LATER_MINUT
 abbrev pub at_place : Grid → ℕ → ℕ → ℕ → ℕ
 at_place grid p set i = if nat_le p i && nat_lt (i - p) (length grid.rows) then cost_in_slot grid set (i - p) else 0
 
+-- what it costs in second s of the walk minutes before minute b
+abbrev pub in_front : Grid → ℕ → ℕ → ℕ → ℕ → ℕ
+in_front grid p s set b = sum_below b (λ m. at_place grid p set (SECONDS_PER_MINUTE * m + s))
+
 -- what it costs in second s of walk minute 0, and of all later minutes together
 abbrev pub in_first : Grid → ℕ → ℕ → ℕ → ℕ
 in_first grid p s set = at_place grid p set s

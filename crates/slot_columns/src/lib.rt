@@ -11,6 +11,7 @@ mod layered;
 mod limits;
 mod part;
 mod slots;
+mod split;
 mod tables;
 mod terms;
 #[cfg(test)]
@@ -21,4 +22,5 @@ pub use columns::{ColumnsFault, SlotColumns};
 pub use layered::LayerTable;
 pub use limits::SECONDS_PER_MINUTE;
 pub use part::Part;
-pub use walks::WalkTable;
+pub use split::{SPLITS, SplitCosts};
+pub use walks::{WalkRow, WalkTable};

@@ -18,8 +18,8 @@ use crate::slots::{Row, SlotCosts};
 use std::alloc::{AllocError, Global};
 use std::marker::Model;
 
-// What the walks cost that begin in each minute of a day.
-type WalkRow = [u32; DAY_MINUTES];
+/// What the walks cost that begin in each minute of a day.
+pub type WalkRow = [u32; DAY_MINUTES];
 
 /// What the parts of a day's minutes cost, for each second of a minute and each minute of the day in which a walk may
 /// begin.
@@ -60,6 +60,14 @@ impl WalkTable {
         ensures { result ≡ entry self.now p u }
     {
         self.costs[p as usize][u as usize]
+    }
+
+    /// The same of all minutes of the day.
+    pub fn row(&self, p: u8) -> &WalkRow
+        requires { p < SECONDS_PER_MINUTE }
+        ensures { (u : ℕ) → slice_index result.now u ≡ entry self.now p u }
+    {
+        &self.costs[p as usize]
     }
 }
 

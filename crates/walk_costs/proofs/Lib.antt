@@ -5,8 +5,10 @@ pub mod RunLaws
 pub mod SplitLaws
 pub mod SlotLaws
 pub mod CallLaws
+pub mod TotalLaws
 pub mod WalkLaws
 pub mod DateLaws
 pub mod ShownLaws
 pub mod AnnouncedLaws
 pub mod StretchLaws
+pub mod CrossingLaws

@@ -1,14 +1,14 @@
 -- Sums over the slots of a walk.
-use Rattle.std.proofs.Common.{◌≡◌, ℕ, zero, suc, ◌+◌, ◌*◌, ◌%◌, ◌<◌, ◌≤◌, Bool, true, false, nat_lt, if◌then◌else◌, List, length, map, get_or, refl, ap, ◌∙◌, arith}
+use Rattle.std.proofs.Common.{◌≡◌, ℕ, zero, suc, ◌+◌, ◌*◌, ◌%◌, ◌<◌, ◌≤◌, List, length, map, get_or, refl, ap, ◌∙◌, arith}
 use Rattle.std.proofs.Math.Nat.{mul-le-mul_left}
 use Rattle.std.specs.List.{range_with_len}
-use Rattle.std.proofs.lemmas.Bool.{ltb-true}
 use Rattle.std.proofs.lemmas.List.FromFn.{get_or-map-range_with_len}
 use Rattle.definitions.specs.heard.Costs.{set_cost, sum_below}
 use Rattle.definitions.proofs.CostLaws.{sum_below_same}
 use Rattle.symbol_cost.specs.Grid.{Grid, cost_at}
 use Rattle.symbol_cost.specs.declared.limits.TheConstants.{RECEIVER_COST}
 use Rattle.slot_columns.specs.Parts.{layered_set, most_cost}
+use Rattle.slot_columns.proofs.SplitLaws.{one_layer}
 use Rattle.walk_costs.specs.Dates.{part_cost}
 
 -- a sum of lesser terms
@@ -38,17 +38,7 @@ most_of_few grid few short =
 abbrev pub cost_in : Grid → ℕ → ℕ → ℕ
 cost_in grid k set = set_cost grid.station (cost_at grid.rows k) set
 
--- where all minutes carry one part, slot k has what that has for its second
-pub one_layer : (p : ℕ) (part : List ℕ) (k : ℕ) → layered_set p part part k ≡ get_or part ((p + k) % 60) 0
-one_layer p part k = by_test (nat_lt (p + k) 60) refl
-  where
-    by_test : (t : Bool) → nat_lt (p + k) 60 ≡ t → (if t then get_or part (p + k) 0 else get_or part ((p + k) % 60) 0) ≡ get_or part ((p + k) % 60) 0
-    by_test true e =
-        let early = ltb-true (p + k) 60 e in
-        let same : p + k ≡ (p + k) % 60 = omega arith in
-        ap (λ s. get_or part s 0) same
-    by_test false e = refl
-
+-- what a part costs that each minute carries
 pub part_by_second : (grid : Grid) (p : ℕ) (part : List ℕ)
     → part_cost grid p part ≡ sum_below (length grid.rows) (λ k. cost_in grid k (get_or part ((p + k) % 60) 0))
 part_by_second grid p part =

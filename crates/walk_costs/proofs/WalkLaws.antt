@@ -1,29 +1,24 @@
 -- What a walk costs by the parts of its minutes.
-use Rattle.std.proofs.Common.{◌≡◌, ℕ, ◌+◌, ◌*◌, ◌/◌, ◌%◌, ◌^◌, ◌<◌, ◌≤◌, Bool, true, false, ◌==◌, ◌&&◌, ◌||◌, if◌then◌else◌, ℤ, List, [], ◌∷◌, length, map, fold, min, get_or, slice_index_or, unwrap_or, refl, sym, ap, ◌∙◌, arith}
+use Rattle.std.proofs.Common.{◌≡◌, ℕ, ◌+◌, ◌-◌, ◌/◌, ◌%◌, ◌<◌, ◌≤◌, inl, inr, Bool, true, false, ◌==◌, ◌&&◌, ◌||◌, if◌then◌else◌, List, [], length, get_or, slice_index_or, refl, sym, ap, ◌∙◌, subst, arith}
+use Rattle.std.proofs.lemmas.Bool.{cases_eq, ne_eqb}
 use Rattle.signal_base.specs.declared.station.Station.{Station}
-use Rattle.signal_base.specs.declared.station.Station.TheVariants.{Dcf77, Msf, Wwvb, Jjy}
-use Rattle.signal_base.specs.Waveform.{symbol_count}
 use Rattle.definitions.specs.declared.sequence.Sequence.{Sequence}
-use Rattle.definitions.specs.codes.Allowed.{allowed}
-use Rattle.definitions.specs.sequences.Walks.{place_at, set_at}
-use Rattle.definitions.specs.heard.Costs.{cost_outside_dut1, dut1_cost, least, least_dut1_cost, lies_in_one_day, sum_below}
-use Rattle.definitions.specs.heard.Dut1.{dut1_symbol, dut1_values, has_dut1, is_dut1_second}
+use Rattle.definitions.specs.time.Calendar.{minute_length}
+use Rattle.definitions.specs.sequences.Walks.{set_at}
+use Rattle.definitions.specs.heard.Costs.{sum_below}
 use Rattle.definitions.proofs.CostLaws.{sum_below_bound, sum_below_same}
-use Rattle.definitions.proofs.Dut1Laws.{dut1_sets}
 use Rattle.symbol_cost.specs.Grid.{Grid, cost_at}
-use Rattle.symbol_cost.specs.declared.limits.TheConstants.{RECEIVER_COST}
 use Rattle.minute_parts.specs.Overlay.{is_time_second, overlay}
-use Rattle.minute_parts.specs.Parts.{local_time, part_where, times_at}
+use Rattle.minute_parts.specs.Parts.{IsInRun, part_where, times_at}
 use Rattle.minute_parts.specs.Runs.{run_at}
 use Rattle.slot_columns.specs.Parts.{minute_cost, most_cost, walk_cost, walk_set}
-use Rattle.slot_columns.proofs.SetLaws.{none_chosen, only_costs}
-use Rattle.walk_costs.specs.Dates.{IsAdded, date_cost, free_part, free_set, given_up, given_up_set, is_given_up, least_told, minutes_to_call, part_cost, told_part, told_set}
-use Rattle.walk_costs.specs.Walks.{ArePriced, IsPlainIn, PricedParts, cost_of, last_minute}
-use Rattle.walk_costs.proofs.SumLaws.{at_second, cost_in, made_part, most_of_few, part_by_second, sum_le, sum_of_two, sums_of_two}
-use Rattle.walk_costs.proofs.ToldLaws.{bit_below}
-use Rattle.walk_costs.proofs.PlaceLaws.{one_day}
-use Rattle.walk_costs.proofs.SlotLaws.{place_in, set_in}
+use Rattle.slot_columns.proofs.SetLaws.{none_chosen}
+use Rattle.walk_costs.specs.Dates.{IsAdded, date_cost, given_up, given_up_set, is_given_up, minutes_to_call, part_cost}
+use Rattle.walk_costs.specs.Walks.{ArePriced, IsPlainIn, PricedParts, last_minute, later_minutes}
+use Rattle.walk_costs.proofs.SumLaws.{at_second, cost_in, most_of_few, part_by_second, sum_le, sums_of_two}
+use Rattle.walk_costs.proofs.SlotLaws.{set_in}
 use Rattle.walk_costs.proofs.SplitLaws.{call_minute, calls, parts_of_second, tells_by}
+use Rattle.walk_costs.proofs.TotalLaws.{IsTotal, all_sets, total}
 
 -- what the part costs in the seconds that are given up, in slot k
 abbrev pub lost : Grid → ℕ → ℕ → List ℕ → ℕ → ℕ
@@ -38,17 +33,19 @@ lost_sum grid p m part =
     (at_second (given_up_set grid.station part) (given_up grid.station part) ((p + k) % 60) refl (omega arith)))
 
 -- that is part of what the part costs
+pub lost_in_slot : (grid : Grid) (p m : ℕ) (part : List ℕ) (k : ℕ) → lost grid p m part k ≤ cost_in grid k (get_or part ((p + k) % 60) 0)
+lost_in_slot grid p m part k = by_tests ((p + k) % 60) ((p + k) / 60 == m) (is_given_up grid.station ((p + k) % 60))
+  where
+    by_tests : (s : ℕ) (here gives : Bool) → (if here then cost_in grid k (if gives then get_or part s 0 else 0) else 0) ≤ cost_in grid k (get_or part s 0)
+    by_tests s true true = omega arith
+    by_tests s true false = omega (arith, none_chosen grid.station (cost_at grid.rows k))
+    by_tests s false gives = omega arith
+
 pub lost_le : (grid : Grid) (p m : ℕ) (part : List ℕ)
     → minute_cost grid.station (cost_at grid.rows) (length grid.rows) p m (given_up grid.station part) ≤ part_cost grid p part
 lost_le grid p m part =
-    let less = sum_le (length grid.rows) (lost grid p m part) (λ k. cost_in grid k (get_or part ((p + k) % 60) 0))
-    (λ k within. slot k ((p + k) % 60) ((p + k) / 60 == m) (is_given_up grid.station ((p + k) % 60))) in
+    let less = sum_le (length grid.rows) (lost grid p m part) (λ k. cost_in grid k (get_or part ((p + k) % 60) 0)) (λ k within. lost_in_slot grid p m part k) in
     omega (arith, less, lost_sum grid p m part, part_by_second grid p part)
-  where
-    slot : (k s : ℕ) (here gives : Bool) → (if here then cost_in grid k (if gives then get_or part s 0 else 0) else 0) ≤ cost_in grid k (get_or part s 0)
-    slot k s true true = omega arith
-    slot k s true false = omega (arith, none_chosen grid.station (cost_at grid.rows k))
-    slot k s false gives = omega arith
 
 -- no other station than JJY gives up seconds
 pub none_lost : (grid : Grid) (p m : ℕ) (part : List ℕ) → ((s : ℕ) → is_given_up grid.station s ≡ false)
@@ -61,63 +58,59 @@ none_lost grid p m part keeps =
     slot k s true = rw (keeps s) (omega (arith, none_chosen grid.station (cost_at grid.rows k)))
     slot k s false = omega arith
 
-two_symbols : (station : Station) → 2 ≤ symbol_count station
-two_symbols Dcf77 = omega arith
-two_symbols Msf = omega arith
-two_symbols Wwvb = omega arith
-two_symbols Jjy = omega arith
-
--- the least of costs that are the same
-map_same : (f g : ℤ → ℕ) (ds : List ℤ) → ((d : ℤ) → f d ≡ g d) → map f ds ≡ map g ds
-map_same f g [] same = refl
-map_same f g (d ∷ ds) same = ap (λ c. c ∷ map f ds) (same d) ∙ ap (λ cs. g d ∷ cs) (map_same f g ds same)
-
-fold_le : (b : ℕ) (cs : List ℕ) → fold min b cs ≤ b
-fold_le b [] = omega arith
-fold_le b (c ∷ cs) = omega (arith, fold_le (min b c) cs)
-
-some_of : (ds : List ℤ) (cost : ℤ → ℕ) → 0 < length ds → (d : ℤ) × (unwrap_or (least (map cost ds)) 0 ≤ cost d)
-some_of [] cost some = absurd (omega arith)
-some_of (d ∷ ds) cost some = (d, fold_le (cost d) (map cost ds))
-
-some_value : (station : Station) → has_dut1 station ≡ true → 0 < length (dut1_values station)
-some_value Dcf77 has = absurd cc
-some_value Msf has = omega arith
-some_value Wwvb has = omega arith
-some_value Jjy has = absurd cc
+-- the walk from second p of the minute t0 has 60 seconds in each minute, and its minutes lie in runs that encode the local
+-- time so far ahead of UTC
+pub record AreRunsOf (w : PricedParts) (announced : Bool) (p t0 shift : ℕ) (run_by : ℕ → ℕ) : Type 0 where
+  pub second : p < 60
+  pub short : (t : ℕ) → t0 ≤ t → t ≤ last_minute w p t0 → minute_length announced t ≡ 60
+  pub each : (m : ℕ) → m ≤ later_minutes (length w.grid.rows) p → IsInRun w.parts (t0 + m) (run_by m)
+  pub shifts : (m : ℕ) → m ≤ later_minutes (length w.grid.rows) p → (run_at w.parts.runs (run_by m)).shift ≡ shift
 
 module _ (w : PricedParts) (costs : List (List ℕ)) (more : List ℕ) (priced : ArePriced w.parts w.grid costs more)
-    (announced : Bool) (p t0 i : ℕ) (plain : IsPlainIn w announced p t0 i) where
-  abbrev pub n : ℕ
+    (announced : Bool) (p t0 shift : ℕ) (run_by : ℕ → ℕ) (are : AreRunsOf w announced p t0 shift run_by) where
+  abbrev n : ℕ
   n = length w.grid.rows
 
-  abbrev pub q : Sequence
+  abbrev q : Sequence
   q = record { first = t0; second = p; announced = announced }
 
-  abbrev pub part : List ℕ
-  part = part_where announced (run_at w.parts.runs i)
+  -- what the date tells in walk minute m
+  abbrev pub part_by : ℕ → List ℕ
+  part_by m = part_where announced (run_at w.parts.runs (run_by m))
 
   abbrev pub time_of : ℕ → ℕ
-  time_of t = local_time (run_at w.parts.runs i) t
+  time_of t = (t + shift) % 1440
 
-  -- what the sets cost
-  abbrev pub all_sets : ℕ
-  all_sets = sum_below n (λ k. cost_in w.grid k (set_at w.grid.station q k))
+  -- what the sets cost, and what the dates do
+  abbrev pub sets : ℕ
+  sets = all_sets w priced.small announced p t0 are.second are.short
 
-  place_is : (k : ℕ) → k < n → place_at q k ≡ (t0 + (p + k) / 60, (p + k) % 60)
-  place_is k within = place_in w priced.station priced.table announced p t0 plain.second plain.short k within
+  abbrev pub date_in : ℕ → ℕ
+  date_in k = cost_in w.grid k (get_or (part_by ((p + k) / 60)) ((p + k) % 60) 0)
 
   -- the set of a slot, by the two parts
-  pub set_is : (k t s : ℕ) → k < n → t ≡ t0 + (p + k) / 60 → s ≡ (p + k) % 60
-      → set_at w.grid.station q k ≡ overlay (get_or (times_at w.parts (time_of t)) s 0) (get_or part s 0)
-  set_is k t s within minute of_minute =
-      set_in w priced.station priced.table announced p t0 plain.second plain.short i k t s within minute of_minute
-      (record { is_run = plain.begins.is_run; begun = omega (arith, plain.begins.begun); not_over = omega (arith, plain.ends) })
+  set_is : (k : ℕ) → k < n
+      → set_at w.grid.station q k ≡ overlay (get_or (times_at w.parts (time_of (t0 + (p + k) / 60))) ((p + k) % 60) 0) (get_or (part_by ((p + k) / 60)) ((p + k) % 60) 0)
+  set_is k within =
+      let m : ℕ = (p + k) / 60 in
+      let few : m ≤ later_minutes n p = omega arith in
+      set_in w priced.station priced.table announced p t0 are.second are.short (run_by m) k (t0 + m) ((p + k) % 60) within refl refl (are.each m few)
+      ∙ ap (λ x. overlay (get_or (times_at w.parts ((t0 + m + x) % 1440)) ((p + k) % 60) 0) (get_or (part_by m) ((p + k) % 60) 0)) (are.shifts m few)
+
+  -- the date of the minute that the call sign takes is that of each slot which it takes
+  lost_here : (m k : ℕ) → lost w.grid p m (part_by m) k ≡ lost w.grid p m (part_by ((p + k) / 60)) k
+  lost_here m k = elim (cases_eq ((p + k) / 60) m) [
+    | inl here ↦ ap (λ x. lost w.grid p m (part_by x) k) (sym here)
+    | inr other ↦ nothing (part_by m) other ∙ sym (nothing (part_by ((p + k) / 60)) other)
+  ]
+    where
+      nothing : (part : List ℕ) → ((p + k) / 60 ≡ m → ⊥) → lost w.grid p m part k ≡ 0
+      nothing part other = ap (λ (b : Bool). if b then cost_in w.grid k (given_up_set w.grid.station part ((p + k) % 60)) else 0) (ne_eqb ((p + k) / 60) m other)
 
   -- what it costs
   in_slot : (k : ℕ) → k < n
-      → cost_in w.grid k (set_at w.grid.station q k) + lost w.grid p (minutes_to_call (time_of t0)) part k
-      ≡ cost_in w.grid k (walk_set w.parts.times (time_of t0) p k) + cost_in w.grid k (get_or part ((p + k) % 60) 0)
+      → cost_in w.grid k (set_at w.grid.station q k) + lost w.grid p (minutes_to_call (time_of t0)) (part_by (minutes_to_call (time_of t0))) k
+      ≡ cost_in w.grid k (walk_set w.parts.times (time_of t0) p k) + date_in k
   in_slot k within =
       let st = w.parts.station in
       let same = priced.station in
@@ -128,184 +121,84 @@ module _ (w : PricedParts) (costs : List (List ℕ)) (more : List ℕ) (priced :
       let v : ℕ = time_of (t0 + j) in
       let day : v < 1440 = omega arith in
       let second : s < 60 = omega arith in
-      let few : j < 30 = omega (arith, plain.second, priced.short) in
+      let few : j < 30 = omega (arith, are.second, priced.short) in
+      let here : j ≤ later_minutes n p = omega arith in
       let later : v ≡ (u + j) % 1440 = omega arith in
       let time : ℕ = get_or (times_at w.parts v) s 0 in
-      let date : ℕ = get_or part s 0 in
+      let date : ℕ = get_or (part_by j) s 0 in
       let told = λ (e : (is_time_second st s || (calls st v && is_given_up st s)) ≡ true). table.time_told v s day second (tells_by st v s ∙ e) in
       let untold = λ (e : (is_time_second st s || (calls st v && is_given_up st s)) ≡ false). table.time_alone v s day second (tells_by st v s ∙ e) in
-      let alone = λ (e : is_time_second st s ≡ true). table.date_alone announced i s plain.begins.is_run second e in
-      let here = λ (e : is_given_up st s ≡ true). call_minute st u j s few e ∙ ap (calls st) (sym later) in
+      let alone = λ (e : is_time_second st s ≡ true). table.date_alone announced (run_by j) s (are.each j here).is_run second e in
+      let called = λ (e : is_given_up st s ≡ true). call_minute st u j s few e ∙ ap (calls st) (sym later) in
       let parts = parts_of_second (cost_in w.grid k) time date (is_time_second st s) (calls st v) (is_given_up st s) (j == minutes_to_call u)
-      (none_chosen w.grid.station (cost_at w.grid.rows k)) told untold alone here in
-      ap (λ x. cost_in w.grid k x + lost w.grid p (minutes_to_call u) part k) (set_is k (t0 + j) s within refl refl)
+      (none_chosen w.grid.station (cost_at w.grid.rows k)) told untold alone called in
+      ap (λ x. cost_in w.grid k (set_at w.grid.station q k) + x) (lost_here (minutes_to_call u) k)
+      ∙ ap (λ x. cost_in w.grid k x + lost w.grid p (minutes_to_call u) (part_by j) k) (set_is k within)
       ∙ ap (λ (x : Station). cost_in w.grid k (overlay time date)
       + (if j == minutes_to_call u then cost_in w.grid k (if is_given_up x s then date else 0) else 0)) (sym same)
       ∙ parts
       ∙ ap (λ x. cost_in w.grid k (get_or (slice_index_or w.parts.times x []) s 0) + cost_in w.grid k date) later
 
   -- the sum of the parts is that of the sets and of what is lost
-  pub split : all_sets + minute_cost w.grid.station (cost_at w.grid.rows) (length w.grid.rows) p (minutes_to_call (time_of t0)) (given_up w.grid.station part)
-      ≡ walk_cost w.grid.station (cost_at w.grid.rows) (length w.grid.rows) p w.parts.times (time_of t0) + part_cost w.grid p part
+  split : sets + minute_cost w.grid.station (cost_at w.grid.rows) n p (minutes_to_call (time_of t0)) (given_up w.grid.station (part_by (minutes_to_call (time_of t0))))
+      ≡ walk_cost w.grid.station (cost_at w.grid.rows) n p w.parts.times (time_of t0) + sum_below n date_in
   split =
       let m : ℕ = minutes_to_call (time_of t0) in
-      let sums = sums_of_two n (λ k. cost_in w.grid k (set_at w.grid.station q k)) (lost w.grid p m part)
-      (λ k. cost_in w.grid k (walk_set w.parts.times (time_of t0) p k)) (λ k. cost_in w.grid k (get_or part ((p + k) % 60) 0)) in_slot in
-      omega (arith, sums, lost_sum w.grid p m part, part_by_second w.grid p part)
+      let sums = sums_of_two n (λ k. cost_in w.grid k (set_at w.grid.station q k)) (lost w.grid p m (part_by m))
+      (λ k. cost_in w.grid k (walk_set w.parts.times (time_of t0) p k)) date_in in_slot in
+      omega (arith, sums, lost_sum w.grid p m (part_by m))
 
-  -- in a second of DUT1 each set is free, so they cost what the free ones do, and the others what they do
-  outside_slot : (k : ℕ) → k < n
-      → (if is_dut1_second w.grid.station (place_at q k).1 then 0 else cost_in w.grid k (set_at w.grid.station q k)) + cost_in w.grid k (free_set w.grid.station ((p + k) % 60))
-      ≡ cost_in w.grid k (set_at w.grid.station q k) + 0
-  outside_slot k within =
-      let st = w.grid.station in
-      let s : ℕ = (p + k) % 60 in
-      let set : ℕ = set_at st q k in
-      let is : set ≡ allowed st announced (t0 + (p + k) / 60, s) = ap (allowed st announced) (place_is k within) in
-      ap (λ (place : ℕ × ℕ). (if is_dut1_second st place.1 then 0 else cost_in w.grid k set) + cost_in w.grid k (free_set st s)) (place_is k within)
-      ∙ by_test (is_dut1_second st s) refl set is
-    where
-      by_test : (t : Bool) → is_dut1_second w.grid.station ((p + k) % 60) ≡ t → (set : ℕ) → set ≡ allowed w.grid.station announced (t0 + (p + k) / 60, (p + k) % 60)
-          → (if t then 0 else cost_in w.grid k set) + cost_in w.grid k (if t then 3 else 0) ≡ cost_in w.grid k set + 0
-      by_test true e set is = omega (arith, ap (cost_in w.grid k) (is ∙ dut1_sets w.grid.station announced (t0 + (p + k) / 60) ((p + k) % 60) e))
-      by_test false e set is = omega (arith, none_chosen w.grid.station (cost_at w.grid.rows k))
+  -- what is lost is part of what the dates cost
+  lost_of_dates : (m : ℕ) → minute_cost w.grid.station (cost_at w.grid.rows) n p m (given_up w.grid.station (part_by m)) ≤ sum_below n date_in
+  lost_of_dates m =
+      let less = sum_le n (lost w.grid p m (part_by m)) date_in
+      (λ k within. omega (arith, lost_here m k, lost_in_slot w.grid p m (part_by ((p + k) / 60)) k)) in
+      omega (arith, less, lost_sum w.grid p m (part_by m))
 
-  zeros : sum_below n (λ k. 0) ≡ 0
-  zeros = omega (arith, sum_below_bound n 0 (λ k. 0) (λ k within. omega arith))
-
-  pub outside : cost_outside_dut1 w.grid.station (cost_at w.grid.rows) n q + part_cost w.grid p (free_part w.grid.station) ≡ all_sets
-  unfolding free_part
-  outside =
-      let st = w.grid.station in
-      let sums = sums_of_two n (λ k. if is_dut1_second st (place_at q k).1 then 0 else cost_in w.grid k (set_at st q k)) (λ k. cost_in w.grid k (free_set st ((p + k) % 60)))
-      (λ k. cost_in w.grid k (set_at st q k)) (λ k. 0) outside_slot in
-      omega (arith, sums, zeros, made_part w.grid p (free_set st) (free_part st) refl)
-
-  -- where a value is told
-  told_slot : (d : ℤ) (k : ℕ) → k < n
-      → (let s = (place_at q k).1 in if is_dut1_second w.grid.station s then cost_at w.grid.rows k (dut1_symbol w.grid.station d s) else 0)
-      ≡ cost_in w.grid k (told_set w.grid.station d ((p + k) % 60))
-  told_slot d k within =
-      let st = w.grid.station in
-      ap (λ (place : ℕ × ℕ). if is_dut1_second st place.1 then cost_at w.grid.rows k (dut1_symbol st d place.1) else 0) (place_is k within)
-      ∙ by_test (is_dut1_second st ((p + k) % 60))
-    where
-      by_test : (t : Bool) → (if t then cost_at w.grid.rows k (dut1_symbol w.grid.station d ((p + k) % 60)) else 0)
-          ≡ cost_in w.grid k (if t then 2 ^ dut1_symbol w.grid.station d ((p + k) % 60) else 0)
-      by_test true =
-          sym (only_costs w.grid.station (cost_at w.grid.rows k) (dut1_symbol w.grid.station d ((p + k) % 60))
-          (omega (arith, bit_below w.grid.station d ((p + k) % 60), two_symbols w.grid.station)))
-      by_test false = sym (none_chosen w.grid.station (cost_at w.grid.rows k))
-
-  told : (d : ℤ) → dut1_cost w.grid.station (cost_at w.grid.rows) n q d ≡ part_cost w.grid p (told_part w.grid.station d)
-  unfolding told_part
-  told d =
-      let st = w.grid.station in
-      sum_below_same n (λ k. let s = (place_at q k).1 in if is_dut1_second st s then cost_at w.grid.rows k (dut1_symbol st d s) else 0)
-      (λ k. cost_in w.grid k (told_set st d ((p + k) % 60))) (told_slot d)
-      ∙ sym (made_part w.grid p (told_set st d) (told_part st d) refl)
-
-  least_is : least_dut1_cost w.grid.station (cost_at w.grid.rows) n q ≡ least_told w.grid p
-  least_is =
-      ap (λ cs. unwrap_or (least cs) 0)
-      (map_same (dut1_cost w.grid.station (cost_at w.grid.rows) n q) (λ d. part_cost w.grid p (told_part w.grid.station d)) (dut1_values w.grid.station) told)
-
-  -- no slot costs more than a set can
-  slot_bound : (d : ℤ) (k : ℕ) → k < n
-      → (if is_dut1_second w.grid.station (place_at q k).1 then 0 else cost_in w.grid k (set_at w.grid.station q k))
-      + (let s = (place_at q k).1 in if is_dut1_second w.grid.station s then cost_at w.grid.rows k (dut1_symbol w.grid.station d s) else 0)
-      ≤ w.grid.receivers * RECEIVER_COST
-  slot_bound d k within = by_test (is_dut1_second w.grid.station (place_at q k).1)
-    where
-      by_test : (t : Bool) → (if t then 0 else cost_in w.grid k (set_at w.grid.station q k))
-          + (if t then cost_at w.grid.rows k (dut1_symbol w.grid.station d (place_at q k).1) else 0) ≤ w.grid.receivers * RECEIVER_COST
-      by_test true =
-          let x : ℕ = dut1_symbol w.grid.station d (place_at q k).1 in
-          omega (
-            arith,
-            priced.small k (2 ^ x) within,
-            only_costs w.grid.station (cost_at w.grid.rows k) x (omega (arith, bit_below w.grid.station d (place_at q k).1, two_symbols w.grid.station)),
-          )
-      by_test false = omega (arith, priced.small k (set_at w.grid.station q k) within)
-
-  sets_bound : all_sets ≤ most_cost w.grid
-  sets_bound = sum_below_bound n (w.grid.receivers * RECEIVER_COST) (λ k. cost_in w.grid k (set_at w.grid.station q k)) (λ k within. priced.small k (set_at w.grid.station q k) within)
-
-  told_bound : has_dut1 w.grid.station ≡ true
-      → cost_outside_dut1 w.grid.station (cost_at w.grid.rows) n q + least_dut1_cost w.grid.station (cost_at w.grid.rows) n q ≤ most_cost w.grid
-  told_bound has =
-      let st = w.grid.station in
-      let value = some_of (dut1_values st) (dut1_cost st (cost_at w.grid.rows) n q) (some_value st has) in
-      let f = λ (k : ℕ). if is_dut1_second st (place_at q k).1 then 0 else cost_in w.grid k (set_at st q k) in
-      let g = λ (k : ℕ). (let s = (place_at q k).1 in if is_dut1_second st s then cost_at w.grid.rows k (dut1_symbol st value.0 s) else 0) in
-      omega (arith, value.1, sum_of_two n f g, sum_below_bound n (w.grid.receivers * RECEIVER_COST) (λ k. f k + g k) (slot_bound value.0))
-
-  pub most_fits : most_cost w.grid ≤ 1_920_000_000
-  most_fits = most_of_few w.grid priced.few priced.short
-
-  -- the cost of the sequence, from the sum of its sets
-  pub record IsTotal (sets added : ℕ) : Type 0 where
-    pub cost : sets + added ≡ cost_of w announced p t0
-    pub bound : sets + added ≤ most_cost w.grid
-
-  total_by : (has one : Bool) (added : ℕ) → has_dut1 w.grid.station ≡ has → lies_in_one_day n q ≡ one
-      → (one ≡ true → IsAdded w.grid p added) → (one ≡ false → added ≡ 0) → IsTotal all_sets added
-  total_by true true added has one more none =
-      let sum : all_sets + added ≡ cost_outside_dut1 w.grid.station (cost_at w.grid.rows) n q + least_dut1_cost w.grid.station (cost_at w.grid.rows) n q =
-      omega (arith, outside, (more refl).some has, least_is) in
-      record {
-        cost = sum ∙ rw (has, one) refl;
-        bound = omega (arith, sum, told_bound has);
-      }
-  total_by true false added has one more none =
-      let nothing = none refl in
-      record { cost = ap (λ a. all_sets + a) nothing ∙ rw (has, one) (omega arith); bound = omega (arith, nothing, sets_bound) }
-  total_by false true added has one more none =
-      let nothing = (more refl).none has in
-      record { cost = ap (λ a. all_sets + a) nothing ∙ rw has (omega arith); bound = omega (arith, nothing, sets_bound) }
-  total_by false false added has one more none =
-      let nothing = none refl in
-      record { cost = ap (λ a. all_sets + a) nothing ∙ rw has (omega arith); bound = omega (arith, nothing, sets_bound) }
-
-  -- three numbers that were made before
-  pub record IsSum (walk date added : ℕ) : Type 0 where
-    pub cost : walk + date + added ≡ cost_of w announced p t0
-    pub bound : walk + date + added ≤ most_cost w.grid
-
-  pub total : (walk date added : ℕ) → walk ≡ walk_cost w.grid.station (cost_at w.grid.rows) (length w.grid.rows) p w.parts.times (time_of t0)
-      → date ≡ date_cost w.grid p (minutes_to_call (time_of t0)) part
+  -- the cost of the sequence, from three numbers that were made before, by the local time and the minutes to the call sign
+  -- that are computed
+  pub total_by_runs : (u m walk dates loss added : ℕ) → u ≡ time_of t0 → m ≡ minutes_to_call u
+      → walk ≡ walk_cost w.grid.station (cost_at w.grid.rows) n p w.parts.times u → dates ≡ sum_below n date_in
+      → loss ≡ minute_cost w.grid.station (cost_at w.grid.rows) n p m (given_up w.grid.station (part_by m))
       → ((last_minute w p t0 / 1440 == t0 / 1440) ≡ true → IsAdded w.grid p added)
       → ((last_minute w p t0 / 1440 == t0 / 1440) ≡ false → added ≡ 0)
-      → IsSum walk date added
-  total walk date added by_time by_date more none =
-      let day = one_day q n plain.second plain.short in
-      let is = total_by (has_dut1 w.grid.station) (last_minute w p t0 / 1440 == t0 / 1440) added refl day more none in
-      let sum : walk + date ≡ all_sets = omega (arith, split, by_time, by_date, lost_le w.grid p (minutes_to_call (time_of t0)) part) in
-      record { cost = omega (arith, sum, is.cost); bound = omega (arith, sum, is.bound) }
+      → IsTotal w announced p t0 (walk + (dates - loss)) added × (loss ≤ dates)
+  total_by_runs u m walk dates loss added time call by_time by_date by_call one two =
+      let walk_is = by_time ∙ ap (walk_cost w.grid.station (cost_at w.grid.rows) n p w.parts.times) time in
+      let m_is : m ≡ minutes_to_call (time_of t0) = call ∙ ap minutes_to_call time in
+      let loss_is = by_call ∙ ap (λ x. minute_cost w.grid.station (cost_at w.grid.rows) n p x (given_up w.grid.station (part_by x))) m_is in
+      let less : loss ≤ dates = omega (arith, by_call, by_date, lost_of_dates m) in
+      let sum : sets ≡ walk + (dates - loss) = omega (arith, split, walk_is, by_date, loss_is, less) in
+      (subst (λ x. IsTotal w announced p t0 x added) sum (total w priced.small announced p t0 are.second are.short added one two), less)
 
-  -- the first two of them, by the local time and the minutes to the call sign that are computed
-  sets_by : (u m walk date : ℕ) → u ≡ time_of t0 → m ≡ minutes_to_call u
-      → walk ≡ walk_cost w.grid.station (cost_at w.grid.rows) (length w.grid.rows) p w.parts.times u → date ≡ date_cost w.grid p m part
-      → (walk ≡ walk_cost w.grid.station (cost_at w.grid.rows) (length w.grid.rows) p w.parts.times (time_of t0))
-      × (date ≡ date_cost w.grid p (minutes_to_call (time_of t0)) part)
-  sets_by u m walk date is call by_time by_date = (
-    by_time ∙ ap (walk_cost w.grid.station (cost_at w.grid.rows) (length w.grid.rows) p w.parts.times) is,
-    by_date ∙ ap (λ x. date_cost w.grid p x part) (call ∙ ap minutes_to_call is),
-  )
+-- a walk in one run
+module _ (w : PricedParts) (costs : List (List ℕ)) (more : List ℕ) (priced : ArePriced w.parts w.grid costs more)
+    (announced : Bool) (p t0 i : ℕ) (plain : IsPlainIn w announced p t0 i) where
+  pub one_run : AreRunsOf w announced p t0 (run_at w.parts.runs i).shift (λ m. i)
+  one_run = record {
+    second = plain.second;
+    short = plain.short;
+    each = λ m le. record {
+      is_run = plain.begins.is_run;
+      begun = omega (arith, plain.begins.begun);
+      not_over = omega (arith, plain.ends, le);
+    };
+    shifts = λ m le. refl;
+  }
 
-  pub sets_fit : (u m walk date : ℕ) → u ≡ time_of t0 → m ≡ minutes_to_call u
-      → walk ≡ walk_cost w.grid.station (cost_at w.grid.rows) (length w.grid.rows) p w.parts.times u → date ≡ date_cost w.grid p m part
-      → walk + date ≤ 1_920_000_000
-  sets_fit u m walk date is call by_time by_date =
-      let both = sets_by u m walk date is call by_time by_date in
-      let sum : walk + date ≡ all_sets = omega (arith, split, both.0, both.1, lost_le w.grid p (minutes_to_call (time_of t0)) part) in
-      omega (arith, sum, sets_bound, most_fits)
-
-  pub total_at : (u m walk date added : ℕ) → u ≡ time_of t0 → m ≡ minutes_to_call u
-      → walk ≡ walk_cost w.grid.station (cost_at w.grid.rows) (length w.grid.rows) p w.parts.times u → date ≡ date_cost w.grid p m part
+  pub total_at : (u m walk date added : ℕ) → u ≡ (t0 + (run_at w.parts.runs i).shift) % 1440 → m ≡ minutes_to_call u
+      → walk ≡ walk_cost w.grid.station (cost_at w.grid.rows) (length w.grid.rows) p w.parts.times u
+      → date ≡ date_cost w.grid p m (part_where announced (run_at w.parts.runs i))
       → ((last_minute w p t0 / 1440 == t0 / 1440) ≡ true → IsAdded w.grid p added)
       → ((last_minute w p t0 / 1440 == t0 / 1440) ≡ false → added ≡ 0)
-      → IsSum walk date added
-  total_at u m walk date added is call by_time by_date more none =
-      let both = sets_by u m walk date is call by_time by_date in
-      total walk date added both.0 both.1 more none
+      → IsTotal w announced p t0 (walk + date) added
+  total_at u m walk date added time call by_time by_date one two =
+      let part = part_where announced (run_at w.parts.runs i) in
+      let all = total_by_runs w costs more priced announced p t0 (run_at w.parts.runs i).shift (λ m. i) one_run u m walk (part_cost w.grid p part)
+      (minute_cost w.grid.station (cost_at w.grid.rows) (length w.grid.rows) p m (given_up w.grid.station part)) added time call by_time
+      (part_by_second w.grid p part) refl one two in
+      subst (λ x. IsTotal w announced p t0 (walk + x) added) (sym by_date) all.0
+
+-- the most that a walk costs is a number of 32 bits
+pub most_fits : (w : PricedParts) (costs : List (List ℕ)) (more : List ℕ) → ArePriced w.parts w.grid costs more → most_cost w.grid ≤ 1_920_000_000
+most_fits w costs more priced = most_of_few w.grid priced.few priced.short

@@ -10,6 +10,8 @@ use Rattle.symbol_cost.specs.Grid.{Grid, cost_at}
 use Rattle.slot_columns.specs.Parts.{layered_cost, minute_cost}
 use Rattle.slot_columns.specs.declared.limits.TheConstants.{SECONDS_PER_MINUTE}
 use Rattle.walk_costs.specs.declared.call.TheConstants.{CALL_BEGIN, CALL_END}
+use Rattle.walk_costs.specs.declared.date.ByCall.{ByCall}
+use Rattle.walk_costs.specs.declared.date.ByCall.TheVariants.{Never, Each}
 
 -- what a part costs over the slots of a grid where each minute of the walk carries it
 abbrev pub part_cost : Grid → ℕ → List ℕ → ℕ
@@ -47,6 +49,11 @@ minutes_to_call v = (75 - v % 60) % 30
 abbrev pub date_cost : Grid → ℕ → ℕ → List ℕ → ℕ
 date_cost grid p m part =
     part_cost grid p part - minute_cost grid.station (cost_at grid.rows) (length grid.rows) p m (given_up grid.station part)
+
+-- what is told of a date's cost, where the call sign comes after so many minutes
+abbrev pub cost_at_call : ByCall → ℕ → ℕ
+cost_at_call (Never cost) m = cost
+cost_at_call (Each costs) m = slice_index costs m
 
 -- In the seconds that tell DUT1 each minute has the set of both symbols, or, where d tenths are told, one of them.
 abbrev pub free_set : Station → ℕ → ℕ

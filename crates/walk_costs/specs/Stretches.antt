@@ -1,16 +1,28 @@
--- The sequences that begin in minutes one after the other, and what they cost.
-use Rattle.std.specs.Prelude.{ℕ, ◌≡◌, ◌+◌, ◌<◌, ◌≤◌, List, slice_index}
+-- The sequences that begin in minutes one after the other, and what they add to the costs of an hour's minutes.
+use Rattle.std.specs.Prelude.{ℕ, ◌≡◌, ◌+◌, ◌^◌, ◌<◌, ◌≤◌, Bool, List, slice_index}
 use Rattle.slot_columns.specs.Parts.{most_cost}
+use Rattle.walk_costs.specs.declared.crossing.Crossing.{Crossing}
 use Rattle.walk_costs.specs.declared.date.DateCost.{DateCost}
 use Rattle.walk_costs.specs.declared.stretch.TheConstants.{STRETCH}
+use Rattle.walk_costs.specs.Crossings.{IsAcross}
 use Rattle.walk_costs.specs.Walks.{IsPlainIn, PricedParts, cost_of}
 
 -- the walks that begin in the minutes from lo up to, and without, hi lie in the run of the date
 abbrev pub ArePlainFrom : PricedParts → DateCost → ℕ → ℕ → Type 0
 ArePlainFrom w date lo hi = (t0 : ℕ) → lo ≤ t0 → t0 < hi → IsPlainIn w date.announced date.second t0 date.run
 
--- the first n entries are what the sequences cost that begin in the minutes from lo on, and none is above what the slots of
--- the grid can cost
-pub record AreCosts (w : PricedParts) (date : DateCost) (lo n : ℕ) (costs : List ℕ) : Type 0 where
-  pub each : (i : ℕ) → i < n → slice_index costs i ≡ cost_of w date.announced date.second (lo + i)
-  pub bound : (i : ℕ) → i < STRETCH → slice_index costs i ≤ most_cost w.grid
+-- and these go from the run of a crossing to the next
+abbrev pub AreAcrossFrom : PricedParts → Crossing → ℕ → ℕ → Type 0
+AreAcrossFrom w crossing lo hi = (t0 : ℕ) → lo ≤ t0 → t0 < hi → IsAcross w crossing.announced crossing.second t0 crossing.run
+
+-- entry i of some costs is that of the minute lo + i: to those of the minutes from `from` up to, and without, `to` was added
+-- what the sequences cost that begin there in second p, and the others stayed as they were
+pub record AreAddedCosts (w : PricedParts) (announced : Bool) (p lo from to : ℕ) (old new : List ℕ) : Type 0 where
+  pub each : (i : ℕ) → i < STRETCH → from ≤ lo + i → lo + i < to → slice_index new i ≡ slice_index old i + cost_of w announced p (lo + i)
+  pub before : (i : ℕ) → i < STRETCH → lo + i < from → slice_index new i ≡ slice_index old i
+  pub after : (i : ℕ) → i < STRETCH → to ≤ lo + i → slice_index new i ≡ slice_index old i
+  pub bound : (i : ℕ) → i < STRETCH → slice_index new i ≤ slice_index old i + most_cost w.grid
+
+-- what a walk costs can be added to the entries of these minutes
+abbrev pub HaveRoom : PricedParts → ℕ → ℕ → List ℕ → Type 0
+HaveRoom w lo from costs = (i : ℕ) → i < STRETCH → from ≤ lo + i → slice_index costs i + most_cost w.grid < 2 ^ 32

@@ -1,5 +1,5 @@
 -- Walks with 60 seconds in each minute that lie in one run of a station's minutes, and what they cost.
-use Rattle.std.specs.Prelude.{ℕ, ◌≡◌, ◌≢◌, ◌+◌, ◌-◌, ◌*◌, ◌/◌, ◌<◌, ◌≤◌, Bool, true, List, length, slice_index}
+use Rattle.std.specs.Prelude.{ℕ, ◌≡◌, ◌≢◌, ◌+◌, ◌-◌, ◌*◌, ◌/◌, ◌<◌, ◌≤◌, Bool, true, List, length}
 use Rattle.signal_base.specs.declared.limits.TheConstants.{MOST_RECEIVERS, MOST_SECONDS}
 use Rattle.definitions.specs.declared.sequence.Sequence.{Sequence}
 use Rattle.definitions.specs.time.Calendar.{minute_length}
@@ -16,7 +16,7 @@ use Rattle.slot_columns.specs.declared.limits.TheConstants.{SECONDS_PER_MINUTE}
 use Rattle.walk_costs.specs.declared.date.DateCost.{DateCost}
 use Rattle.walk_costs.specs.declared.shown.Shown.{Shown}
 use Rattle.walk_costs.specs.declared.shown.Shown.TheVariants.{Never, Always, Sometimes}
-use Rattle.walk_costs.specs.Dates.{AreAdded, date_cost, kept, part_cost}
+use Rattle.walk_costs.specs.Dates.{AreAdded, cost_at_call, date_cost, kept, part_cost}
 
 -- the parts of a station's telegrams, and what its symbols cost in the slots of a window
 pub record PricedParts : Type 0 where
@@ -84,10 +84,8 @@ IsShown w announced p i Always =
     (t0 : ℕ) → IsPlainIn w announced p t0 i → ShowsAnnouncement w (record { first = t0; second = p; announced = announced })
 IsShown w announced p i Sometimes = Unit {0}
 
--- what the date of a run costs where a walk begins in this second, for each walk minute that the call sign may take, and
--- whether these walks show an announcement
+-- what the date of a run costs where a walk begins in this second, for each walk minute that the call sign may take
 pub record IsDateCost (w : PricedParts) (date : DateCost) : Type 0 where
   pub shift : date.shift ≡ (run_at w.parts.runs date.run).shift
-  pub by_minute : (m : ℕ) → m < 30
-      → slice_index date.by_minute m ≡ date_cost w.grid date.second m (part_where date.announced (run_at w.parts.runs date.run))
-  pub shown : IsShown w date.announced date.second date.run date.shown
+  pub by_call : (m : ℕ) → m < 30
+      → cost_at_call date.by_call m ≡ date_cost w.grid date.second m (part_where date.announced (run_at w.parts.runs date.run))

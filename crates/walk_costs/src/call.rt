@@ -1,6 +1,6 @@
 //! The seconds that JJY gives up for its call sign, and what the date tells in them.
 
-ghost use Rattle.std.specs.Prelude.{◌≡◌, ◌<◌, length};
+ghost use Rattle.std.specs.Prelude.{◌≡◌, ◌<◌, ℕ, false, length};
 ghost use Rattle.symbol_cost.specs.Grid.{cost_at};
 ghost use Rattle.slot_columns.specs.Parts.{minute_cost};
 ghost use Rattle.walk_costs.specs.Dates.{given_up, given_up_set, is_given_up};
@@ -19,9 +19,12 @@ pub fn call_cost(columns: &SlotColumns, p: u8, m: u8, part: &Part) -> u32
     requires { p < SECONDS_PER_MINUTE }
     ensures { result ≡ minute_cost columns.now.station (cost_at columns.now.rows) (length columns.now.rows) p m (given_up columns.now.station part.now) }
 {
+    let station = columns.station();
+    if !gives_up(station) {
+        return 0;
+    }
     // The receivers are few, so that the sum fits.
     columns.receivers();
-    let station = columns.station();
     let p = p as usize;
     let minute = SECONDS_PER_MINUTE * m as usize;
     let from = (minute + CALL_BEGIN).saturating_sub(p);
@@ -32,6 +35,16 @@ pub fn call_cost(columns: &SlotColumns, p: u8, m: u8, part: &Part) -> u32
         cost += columns.cost(k as u16, given_up_set(station, part, p + k - minute));
     }
     cost
+}
+
+/// Whether the station gives up seconds for its call sign.
+pub fn gives_up(station: Station) -> bool
+    ensures { result ≡ false → (s : ℕ) → is_given_up station s ≡ false }
+{
+    match station {
+        Station::Jjy => true,
+        Station::Dcf77 | Station::Msf | Station::Wwvb => false,
+    }
 }
 
 // What the date tells of a second that the call sign takes.

@@ -1,11 +1,10 @@
 //! What the date of a run costs in a walk.
 
-ghost use Rattle.std.specs.Prelude.{◌≡◌, ◌+◌, ◌-◌, ◌^◌, ◌<◌, ◌≤◌, ℕ, false, length, slice_index};
-ghost use Rattle.walk_costs.specs.Dates.{date_cost, is_given_up, kept, kept_set, part_cost};
+ghost use Rattle.std.specs.Prelude.{◌≡◌, ◌+◌, ◌-◌, ◌^◌, ◌<◌, ◌≤◌, ℕ, length, slice_index};
+ghost use Rattle.walk_costs.specs.Dates.{cost_at_call, date_cost, kept, kept_set, part_cost};
 ghost use Rattle.walk_costs.specs.Walks.{later_minutes};
 
-use crate::call::{call_cost, is_given_up};
-use crate::shown::Shown;
+use crate::call::{call_cost, gives_up, is_given_up};
 use signal_base::Station;
 use slot_columns::{Part, SECONDS_PER_MINUTE, SlotColumns};
 use std::array;
@@ -15,6 +14,28 @@ pub const CALL_MINUTES: usize = 30;
 
 /// A cost for each minute up to the next call sign.
 pub type ByMinute = [u32; CALL_MINUTES];
+
+/// What a date costs in walks, by how many minutes after a walk's first one the call sign of JJY comes.
+#[derive(Clone, Copy, Debug, PartialEq, Eq)]
+pub enum ByCall {
+    /// It costs this in all of them, since the station sends no call sign.
+    Never(u32),
+    /// It costs less where the call sign takes some of its seconds.
+    Each(ByMinute),
+}
+
+impl ByCall {
+    /// What it costs in a walk whose call sign comes so many minutes after its first.
+    pub fn at(&self, minutes: u8) -> u32
+        requires { minutes < CALL_MINUTES }
+        ensures { result ≡ cost_at_call self.now minutes }
+    {
+        match self {
+            ByCall::Never(cost) => *cost,
+            ByCall::Each(costs) => costs[minutes as usize],
+        }
+    }
+}
 
 /// What the date of a run costs in the walks that lie in the run and begin in one second.
 #[derive(Clone, Copy, Debug, PartialEq, Eq)]
@@ -27,41 +48,39 @@ pub struct DateCost {
     pub run: usize,
     /// By how many minutes the local time that is encoded is ahead of the sent minute in UTC.
     pub shift: u16,
-    /// What the date costs, by how many minutes after the walk's first one the call sign of JJY comes.
-    pub by_minute: ByMinute,
-    /// Whether the walks show that a leap second is announced.
-    pub shown: Shown,
+    /// What the date costs.
+    pub by_call: ByCall,
 }
 
 /// What a part by the date costs in the walks from second `p`, for each walk minute that the call sign of JJY may take. A
 /// walk has no minute after its 21st.
-pub fn by_minute(columns: &SlotColumns, p: u8, part: &Part) -> ByMinute
+pub fn by_call(columns: &SlotColumns, p: u8, part: &Part) -> ByCall
     requires second { p < SECONDS_PER_MINUTE }
     requires fits { part_cost columns.now p part.now < 2 ^ 32 }
-    ensures { (m : ℕ) → m < CALL_MINUTES → slice_index result m ≡ date_cost columns.now p m part.now }
+    ensures { (m : ℕ) → m < CALL_MINUTES → cost_at_call result m ≡ date_cost columns.now p m part.now }
 {
     let rest = columns.part_cost(p, &kept(columns.station(), part));
-    by_minute_with(columns, p, part, rest)
+    by_call_with(columns, p, part, rest)
 }
 
 /// The same where it is known what the seconds cost that aren't given up.
-pub fn by_minute_with(columns: &SlotColumns, p: u8, part: &Part, rest: u32) -> ByMinute
+pub fn by_call_with(columns: &SlotColumns, p: u8, part: &Part, rest: u32) -> ByCall
     requires second { p < SECONDS_PER_MINUTE }
     requires fits { part_cost columns.now p part.now < 2 ^ 32 }
     requires rest { rest ≡ part_cost columns.now p (kept columns.now.station part.now) }
-    ensures { (m : ℕ) → m < CALL_MINUTES → slice_index result m ≡ date_cost columns.now p m part.now }
+    ensures { (m : ℕ) → m < CALL_MINUTES → cost_at_call result m ≡ date_cost columns.now p m part.now }
 {
     let station = columns.station();
     if !gives_up(station) {
-        return alike(rest);
+        return ByCall::Never(rest);
     }
-    let mut lost = alike(0);
+    let mut lost = no_losses();
     let mut whole = rest;
     for m in 0..walk_minutes(columns, p) {
         lost[m] = call_cost(columns, p, m as u8, part);
         whole += lost[m];
     }
-    all_but(whole, &lost)
+    ByCall::Each(all_but(whole, &lost))
 }
 
 // How many minutes a walk goes through.
@@ -86,21 +105,10 @@ fn all_but(whole: u32, lost: &ByMinute) -> ByMinute
     costs
 }
 
-// The same cost for each minute.
-fn alike(cost: u32) -> ByMinute
-    ensures { (m : ℕ) → m < CALL_MINUTES → slice_index result m ≡ cost }
+fn no_losses() -> ByMinute
+    ensures { (m : ℕ) → m < CALL_MINUTES → slice_index result m ≡ 0 }
 {
-    [cost; CALL_MINUTES]
-}
-
-// Whether the station gives up seconds for its call sign.
-fn gives_up(station: Station) -> bool
-    ensures { result ≡ false → (s : ℕ) → is_given_up station s ≡ false }
-{
-    match station {
-        Station::Jjy => true,
-        Station::Dcf77 | Station::Msf | Station::Wwvb => false,
-    }
+    [0; CALL_MINUTES]
 }
 
 /// What the date tells of the other seconds.

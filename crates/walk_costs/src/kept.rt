@@ -1,12 +1,12 @@
 //! What the dates of all runs cost, which is kept in a table.
 
-ghost use Rattle.std.specs.Prelude.{◌≡◌, ◌<◌, ℕ, [], IfOk, length, slice_index, slice_index_or, vec_len};
+ghost use Rattle.std.specs.Prelude.{◌≡◌, ◌<◌, ℕ, [], IfOk, length, slice_index_or, vec_len};
 ghost use Rattle.minute_parts.specs.Parts.{part_where};
 ghost use Rattle.minute_parts.specs.Runs.{run_at};
-ghost use Rattle.walk_costs.specs.Dates.{date_cost, kept, part_cost};
+ghost use Rattle.walk_costs.specs.Dates.{cost_at_call, date_cost, kept, part_cost};
 ghost use Rattle.walk_costs.specs.Walks.{AreDateCosts};
 
-use crate::date::{ByMinute, CALL_MINUTES, by_minute, by_minute_with, kept};
+use crate::date::{ByCall, CALL_MINUTES, by_call, by_call_with, kept};
 use crate::shown::is_told_alike;
 use crate::walks::{StationWalks, WalksFault};
 use minute_parts::{Part, Parts};
@@ -27,16 +27,16 @@ impl StationWalks {
 
     // What the date of a run costs, for each walk minute that the call sign may take: by the table where a leap second isn't
     // announced, or the announcement changes nothing.
-    pub(crate) fn by_minute(&self, announced: bool, p: u8, run: usize) -> ByMinute
+    pub(crate) fn by_call(&self, announced: bool, p: u8, run: usize) -> ByCall
         requires second { p < SECONDS_PER_MINUTE }
         requires run { run < length self.now.parts.runs }
-        ensures { (m : ℕ) → m < CALL_MINUTES → slice_index result m ≡ date_cost self.now.grid p m (part_where announced (run_at self.now.parts.runs run)) }
+        ensures { (m : ℕ) → m < CALL_MINUTES → cost_at_call result m ≡ date_cost self.now.grid p m (part_where announced (run_at self.now.parts.runs run)) }
     {
         let at = self.unions.parts().run(run);
         if announced && !is_told_alike(at) {
-            return by_minute(&self.columns, p, &at.announced);
+            return by_call(&self.columns, p, &at.announced);
         }
-        by_minute_with(&self.columns, p, &at.plain, self.kept_date_cost(p, run))
+        by_call_with(&self.columns, p, &at.plain, self.kept_date_cost(p, run))
     }
 }
 

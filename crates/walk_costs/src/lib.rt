@@ -4,6 +4,7 @@
 
 mod announced;
 mod call;
+mod crossing;
 mod date;
 mod dut;
 mod kept;
@@ -15,7 +16,8 @@ mod tenths;
 mod tests;
 mod walks;
 
-pub use date::{ByMinute, CALL_MINUTES, DateCost};
+pub use crossing::Crossing;
+pub use date::{ByCall, ByMinute, CALL_MINUTES, DateCost};
 pub use shown::Shown;
 pub use stretch::{MinuteCosts, STRETCH};
 pub use walks::{StationWalks, WalksFault};

@@ -1,15 +1,16 @@
 //! What the sequences cost that begin in the minutes of a stretch, one after the other.
 
-ghost use Rattle.std.specs.Prelude.{◌≡◌, ◌+◌, ◌-◌, ◌/◌, ◌%◌, ◌<◌, ◌≤◌, ℕ, slice_index};
-ghost use Rattle.definitions.specs.time.Calendar.{minutes_per_day};
-ghost use Rattle.slot_columns.specs.Parts.{most_cost};
-ghost use Rattle.walk_costs.specs.Dates.{minutes_to_call};
-ghost use Rattle.walk_costs.specs.Stretches.{AreCosts, ArePlainFrom};
-ghost use Rattle.walk_costs.specs.Walks.{IsDateCost, cost_of, last_minute};
+ghost use Rattle.std.specs.Prelude.{◌≡◌, ◌≢◌, ◌+◌, ◌-◌, ◌/◌, ◌^◌, ◌<◌, ◌≤◌, ℕ, slice_index};
+ghost use Rattle.definitions.specs.time.Calendar.{century_minutes, minutes_per_day};
+ghost use Rattle.walk_costs.specs.Crossings.{IsCrossing};
+ghost use Rattle.walk_costs.specs.Stretches.{AreAcrossFrom, AreAddedCosts, ArePlainFrom, HaveRoom};
+ghost use Rattle.walk_costs.specs.Walks.{IsDateCost};
 
-use crate::date::{CALL_MINUTES, DateCost};
+use crate::crossing::Crossing;
+use crate::date::{ByCall, ByMinute, CALL_MINUTES, DateCost};
 use crate::walks::{StationWalks, local_time, minutes_to_call};
 use definitions::MINUTES_PER_DAY;
+use slot_columns::WalkRow;
 
 /// A stretch has at most so many minutes: those of an hour.
 pub const STRETCH: usize = 60;
@@ -18,93 +19,151 @@ pub const STRETCH: usize = 60;
 pub type MinuteCosts = [u32; STRETCH];
 
 impl StationWalks {
-    /// What the sequences cost that begin in the minutes from `lo` up to, and without, `hi`, at most 60 of them, whose walks
-    /// lie in the run of the date: entry `i` is that of the minute `lo + i`.
-    pub fn costs_in_run(&self, date: &DateCost, lo: u32, hi: u32) -> MinuteCosts
+    /// Adds what the sequences cost that begin in the minutes from `from` up to, and without, `to`, whose walks lie in the run
+    /// of the date: to entry `i` what that of the minute `lo + i` costs.
+    pub fn add_costs_in_run(
+        &self,
+        date: &DateCost,
+        lo: u32,
+        from: u32,
+        to: u32,
+        costs: &mut MinuteCosts,
+    )
         requires date { IsDateCost self.now date.now }
-        requires order { lo ≤ hi }
-        requires few { hi ≤ lo + STRETCH }
-        requires walks { ArePlainFrom self.now date.now lo hi }
-        ensures costs { (i : ℕ) → i < STRETCH → lo + i < hi → slice_index result i ≡ cost_of self.now date.now.announced date.now.second (lo + i) }
-        ensures bound { (i : ℕ) → i < STRETCH → slice_index result i ≤ most_cost self.now.grid }
+        requires begun { lo ≤ from }
+        requires order { from ≤ to }
+        requires few { to ≤ lo + STRETCH }
+        requires walks { ArePlainFrom self.now date.now from to }
+        requires room { HaveRoom self.now lo from costs.old }
+        ensures { AreAddedCosts self.now date.now.announced date.now.second lo from to costs.old costs.new }
     {
-        if lo == hi {
-            return no_costs();
-        }
-        let reached = lo % MINUTES_PER_DAY + (hi - 1 - lo) + self.later_minutes(date.second);
-        if reached < MINUTES_PER_DAY {
-            self.costs_in_day(date, lo, hi)
-        } else {
-            self.costs_one_by_one(date, lo, hi)
+        let mut t = from;
+        while t < to {
+            t = self.add_piece(date, lo, t, to, costs);
         }
     }
 
-    // The same where all walks lie in one UTC day: what DUT1 adds is one number, and the local time and the minutes to the
-    // call sign are carried from minute to minute.
-    fn costs_in_day(&self, date: &DateCost, lo: u32, hi: u32) -> MinuteCosts
+    /// The same of sequences whose walks go from the run of the crossing to the next.
+    pub fn add_costs_across(
+        &self,
+        crossing: &Crossing,
+        lo: u32,
+        from: u32,
+        to: u32,
+        costs: &mut MinuteCosts,
+    )
+        requires crossing { IsCrossing self.now crossing.now }
+        requires begun { lo ≤ from }
+        requires order { from ≤ to }
+        requires few { to ≤ lo + STRETCH }
+        requires walks { AreAcrossFrom self.now crossing.now from to }
+        requires room { HaveRoom self.now lo from costs.old }
+        ensures { AreAddedCosts self.now crossing.now.announced crossing.now.second lo from to costs.old costs.new }
+    {
+        for t in from..to {
+            costs[(t - lo) as usize] += self.cost_across(crossing, t);
+        }
+    }
+
+    // Adds those of the minute `t`, and of as many minutes after it as add up by the same numbers. Tells the next minute.
+    fn add_piece(&self, date: &DateCost, lo: u32, t: u32, to: u32, costs: &mut MinuteCosts) -> u32
         requires date { IsDateCost self.now date.now }
-        requires order { lo < hi }
-        requires few { hi ≤ lo + STRETCH }
-        requires walks { ArePlainFrom self.now date.now lo hi }
-        requires day { last_minute self.now date.now.second (hi - 1) / minutes_per_day ≡ lo / minutes_per_day }
-        ensures { AreCosts self.now date.now lo (hi - lo) result }
+        requires begun { lo ≤ t }
+        requires some { t < to }
+        requires few { to ≤ lo + STRETCH }
+        requires walks { ArePlainFrom self.now date.now t to }
+        requires room { HaveRoom self.now lo t costs.old }
+        ensures more { t < result }
+        ensures within { result ≤ to }
+        ensures added { AreAddedCosts self.now date.now.announced date.now.second lo t result costs.old costs.new }
     {
         let p = date.second;
-        let added = self.added[p as usize];
-        let mut costs = no_costs();
-        let mut u = local_time(date.shift, lo);
-        let mut to_call = minutes_to_call(u) as usize;
-        for i in 0..(hi - lo) as usize {
-            costs[i] = self.walks.cost(p, u) + date.by_minute[to_call] + added;
-            u = next_local_time(u);
-            to_call = next_to_call(to_call);
+        let row = self.walks.row(p);
+        let u = local_time(date.shift, t);
+        let added = self.added_from(p, t);
+        let later = self.later_minutes(p);
+        let alike = minutes_alike(t, u, later).min(to - t);
+        let at = (t - lo) as usize;
+        match &date.by_call {
+            ByCall::Never(cost) => {
+                add_row(costs, at, alike as usize, row, u as usize, *cost + added);
+                t + alike
+            }
+            ByCall::Each(by_minute) => {
+                let to_call = minutes_to_call(u);
+                let count = alike.min(to_call as u32 + 1);
+                add_row_to_call(
+                    costs,
+                    at,
+                    count as usize,
+                    row,
+                    u as usize,
+                    by_minute,
+                    to_call as usize,
+                    added,
+                );
+                t + count
+            }
         }
-        costs
-    }
-
-    // The same minute by minute.
-    fn costs_one_by_one(&self, date: &DateCost, lo: u32, hi: u32) -> MinuteCosts
-        requires date { IsDateCost self.now date.now }
-        requires order { lo ≤ hi }
-        requires few { hi ≤ lo + STRETCH }
-        requires walks { ArePlainFrom self.now date.now lo hi }
-        ensures { AreCosts self.now date.now lo (hi - lo) result }
-    {
-        let mut costs = no_costs();
-        for i in 0..(hi - lo) as usize {
-            costs[i] = self.cost_by(date, lo + i as u32);
-        }
-        costs
     }
 }
 
-fn no_costs() -> MinuteCosts
-    ensures { (i : ℕ) → slice_index result i ≡ 0 }
+// For how many minutes from `t` on, which encodes the minute `u` of the local day, the local day goes on, and walks that go on
+// for so many minutes all end in the UTC day in which they begin, or none of them does.
+fn minutes_alike(t: u32, u: u16, later: u32) -> u32
+    requires minute { t < century_minutes }
+    requires local { u < minutes_per_day }
+    requires later { later ≤ 20 }
+    ensures some { 1 ≤ result }
+    ensures local { u + result ≤ minutes_per_day }
+    ensures one_day { (t + later) / minutes_per_day ≡ t / minutes_per_day → (j : ℕ) → j < result → (t + j + later) / minutes_per_day ≡ (t + j) / minutes_per_day }
+    ensures two_days { (t + later) / minutes_per_day ≢ t / minutes_per_day → (j : ℕ) → j < result → (t + j + later) / minutes_per_day ≢ (t + j) / minutes_per_day }
 {
-    [0; STRETCH]
-}
-
-// The minute of the local day after this one.
-fn next_local_time(u: u16) -> u16
-    requires { u < minutes_per_day }
-    ensures { result ≡ (u + 1) % minutes_per_day }
-{
-    if u + 1 < MINUTES_PER_DAY as u16 {
-        u + 1
+    let of_day = t % MINUTES_PER_DAY;
+    let end = if of_day + later < MINUTES_PER_DAY {
+        MINUTES_PER_DAY - later
     } else {
-        0
+        MINUTES_PER_DAY
+    };
+    (end - of_day).min(MINUTES_PER_DAY - u as u32)
+}
+
+// Adds to the entries from `at` on what the row has from `u` on, and another number to each.
+fn add_row(costs: &mut MinuteCosts, at: usize, count: usize, row: &WalkRow, u: usize, more: u32)
+    requires entries { at + count ≤ STRETCH }
+    requires minutes { u + count ≤ minutes_per_day }
+    requires room { (j : ℕ) → j < count → slice_index costs.old (at + j) + (slice_index row.now (u + j) + more) < 2 ^ 32 }
+    ensures before { (i : ℕ) → i < at → slice_index costs.new i ≡ slice_index costs.old i }
+    ensures each { (j : ℕ) → j < count → slice_index costs.new (at + j) ≡ slice_index costs.old (at + j) + (slice_index row.now (u + j) + more) }
+    ensures after { (i : ℕ) → at + count ≤ i → slice_index costs.new i ≡ slice_index costs.old i }
+{
+    for j in 0..count {
+        costs[at + j] += row[u + j] + more;
     }
 }
 
-// The minutes to the call sign, a minute later.
-fn next_to_call(minutes: usize) -> usize
-    requires { minutes < CALL_MINUTES }
-    ensures bound { result < CALL_MINUTES }
-    ensures minutes { (u : ℕ) → minutes ≡ minutes_to_call u → result ≡ minutes_to_call ((u + 1) % minutes_per_day) }
+// The same with a number by the minutes to the call sign, which is no more than so many minutes away.
+fn add_row_to_call(
+    costs: &mut MinuteCosts,
+    at: usize,
+    count: usize,
+    row: &WalkRow,
+    u: usize,
+    by_minute: &ByMinute,
+    to_call: usize,
+    more: u32,
+)
+    requires entries { at + count ≤ STRETCH }
+    requires minutes { u + count ≤ minutes_per_day }
+    requires call { to_call < CALL_MINUTES }
+    requires before_call { count ≤ to_call + 1 }
+    requires room { (j : ℕ) → j < count → slice_index costs.old (at + j) + (slice_index row.now (u + j) + (slice_index by_minute.now (to_call - j) + more)) < 2 ^ 32 }
+    ensures before { (i : ℕ) → i < at → slice_index costs.new i ≡ slice_index costs.old i }
+    ensures each { (j : ℕ) → j < count
+        → slice_index costs.new (at + j) ≡ slice_index costs.old (at + j) + (slice_index row.now (u + j) + (slice_index by_minute.now (to_call - j) + more)) }
+    ensures after { (i : ℕ) → at + count ≤ i → slice_index costs.new i ≡ slice_index costs.old i }
 {
-    if minutes > 0 {
-        minutes - 1
-    } else {
-        CALL_MINUTES - 1
+    for j in 0..count {
+        costs[at + j] += row[u + j] + (by_minute[to_call - j] + more);
     }
 }

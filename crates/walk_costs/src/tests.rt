@@ -7,7 +7,7 @@ ghost use Rattle.definitions.specs.time.Calendar.{century_minutes};
 ghost use Rattle.walk_costs.specs.Walks.{IsPlainIn};
 
 use crate::walks::meets_leap_end;
-use crate::{MinuteCosts, StationWalks};
+use crate::{MinuteCosts, STRETCH, StationWalks};
 use civil::Civil;
 use definitions::CENTURY_MINUTES;
 use minute_parts::Parts;
@@ -247,6 +247,10 @@ fn costs_in_run(walks: &StationWalks, p: u8, lo: u32, run: usize) -> MinuteCosts
     requires first { IsPlainIn walks.now false p lo run }
     requires last { IsPlainIn walks.now false p (lo + 2) run }
 {
+    // What a walk costs fits.
+    walks.columns();
     let date = walks.date_cost(false, p, run);
-    walks.costs_in_run(&date, lo, lo + 3)
+    let mut costs = [0; STRETCH];
+    walks.add_costs_in_run(&date, lo, lo, lo + 3, &mut costs);
+    costs
 }

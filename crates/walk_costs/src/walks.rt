@@ -1,6 +1,7 @@
 //! What sequences cost a station, by tables that were made for a window.
 
 ghost use Rattle.std.specs.Prelude.{◌≡◌, ◌==◌, ◌+◌, ◌/◌, ◌%◌, ◌<◌, ◌≤◌, ◌↔◌, ℕ, IfOk, IfSome, IsNone, IsTrue, false, length, true};
+ghost use Rattle.signal_base.specs.declared.limits.TheConstants.{GREATEST_COST};
 ghost use Rattle.definitions.specs.time.Calendar.{century_minutes, is_leap_end, minutes_per_day};
 ghost use Rattle.symbol_cost.specs.Grid.{HasCosts, cost_at};
 ghost use Rattle.minute_parts.specs.Parts.{IsPartTable};
@@ -106,6 +107,7 @@ impl StationWalks {
     pub fn columns(&self) -> &SlotColumns
         ensures columns { result.now ≡ self.now.grid }
         ensures small { AreSmall self.now.grid }
+        ensures fits { most_cost self.now.grid ≤ GREATEST_COST }
     {
         &self.columns
     }
@@ -167,8 +169,7 @@ impl StationWalks {
             second: p,
             run,
             shift: at.shift,
-            by_minute: self.by_minute(announced, p, run),
-            shown: self.shown(announced, p, run),
+            by_call: self.by_call(announced, p, run),
         }
     }
 
@@ -228,7 +229,8 @@ impl StationWalks {
         let walks = &self.walks;
         let u = local_time(date.shift, t0);
         let p = date.second;
-        walks.cost(p, u) + date.by_minute[minutes_to_call(u) as usize] + self.added_from(p, t0)
+        let added = self.added_from(p, t0);
+        walks.cost(p, u) + date.by_call.at(minutes_to_call(u)) + added
     }
 
     /// How many minutes a walk from second `p` goes on after its first.

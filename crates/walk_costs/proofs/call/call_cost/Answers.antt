@@ -3,10 +3,16 @@ use Rattle.signal_base.specs.declared.station.Station.{Station}
 use Rattle.definitions.proofs.CostLaws.{sum_below_more}
 use Rattle.slot_columns.proofs.MinuteLaws.{in_minute, inside, same_sum}
 use Rattle.slot_columns.proofs.SumLaws.{sum_of_none}
-use Rattle.walk_costs.specs.Dates.{given_up, given_up_set}
+use Rattle.walk_costs.specs.Dates.{given_up, given_up_set, is_given_up}
 use Rattle.walk_costs.proofs.CallLaws.{beside_call, given_at, tells_of_call}
 use Rattle.walk_costs.proofs.SumLaws.{cost_in}
+use Rattle.walk_costs.proofs.WalkLaws.{none_lost}
 use Rattle.walk_costs.proofs.call.call_cost.Goals as goal
+
+pub returns-then-not-gives_up : goal.returns-then-not-gives_up
+returns-then-not-gives_up c =
+    let keeps = λ (s : ℕ). ap (λ (t : Station). is_given_up t s) (sym c.station-station.ensures) ∙ c.gives_up.ensures c.if-not-gives_up.true s in
+    sym (none_lost c.args.columns.now c.args.p c.args.m c.args.part.now keeps)
 
 pub loop-k-init : goal.loop-k-init
 loop-k-init c =

@@ -2,7 +2,7 @@ use Rattle.std.proofs.Common.{◌+◌, ◌%◌, ap, ◌∙◌, subst, arith}
 use Rattle.minute_parts.specs.Parts.{IsPartTable}
 use Rattle.walk_costs.specs.Walks.{ArePriced, PricedParts}
 use Rattle.walk_costs.proofs.RunLaws.{ends, in_century}
-use Rattle.walk_costs.proofs.WalkLaws.{most_fits, sets_fit, total_at}
+use Rattle.walk_costs.proofs.WalkLaws.{most_fits, total_at}
 use Rattle.walk_costs.proofs.walks.StationWalks.cost_by.Goals as goal
 
 pub local_time-u-requires : goal.local_time-u-requires
@@ -12,8 +12,8 @@ local_time-u-requires c =
     let begins = c.requires.walk.begins in
     omega (arith, begins.not_over, ends w.parts table c.args.date.now.run begins.is_run, in_century w.parts table)
 
-pub added_from-requires-clause-minute : goal.added_from-requires-clause-minute
-added_from-requires-clause-minute c =
+pub added_from-added-requires-clause-minute : goal.added_from-added-requires-clause-minute
+added_from-added-requires-clause-minute c =
     let w = c.args.self.now in
     let table = subst (λ (v : PricedParts). IsPartTable v.parts) c.self.view_is c.self.invariant.priced.table in
     let begins = c.requires.walk.begins in
@@ -22,53 +22,59 @@ added_from-requires-clause-minute c =
 pub overflow_add-result : goal.overflow_add-result
 overflow_add-result c =
     let own = c.self.inside in
+    let w = c.args.self.now in
     let date = c.args.date.now in
     let priced = subst (λ (v : PricedParts). ArePriced v.parts v.grid c.self.inside.walks c.self.inside.added) c.self.view_is c.self.invariant.priced in
     let u = c.local_time-u.result in
     let m = c.minutes_to_call.result in
-    let fit = sets_fit c.args.self.now own.walks own.added priced date.announced date.second c.args.t0 date.run c.requires.walk u m c.cost.result _
+    let sum = total_at w own.walks own.added priced date.announced date.second c.args.t0 date.run c.requires.walk u m c.cost.result c.at.result c.added_from-added.result
     (c.local_time-u.ensures.time ∙ ap (λ s. (c.args.t0 + s) % 1440) c.requires.date.shift) c.minutes_to_call.ensures.minutes
     (c.cost.ensures ∙ priced.walks.each date.second u c.requires.walk.second c.local_time-u.ensures.bound)
-    (c.requires.date.by_minute m c.minutes_to_call.ensures.bound) in
-    omega (arith, fit)
+    (c.at.ensures ∙ c.requires.date.by_call m c.minutes_to_call.ensures.bound) c.added_from-added.ensures.one_day c.added_from-added.ensures.two_days in
+    let fits = most_fits w own.walks own.added priced in
+    let bound = sum.bound in
+    omega (arith, bound, fits)
 
 pub overflow_add-result-2 : goal.overflow_add-result-2
 overflow_add-result-2 c =
     let own = c.self.inside in
+    let w = c.args.self.now in
     let date = c.args.date.now in
     let priced = subst (λ (v : PricedParts). ArePriced v.parts v.grid c.self.inside.walks c.self.inside.added) c.self.view_is c.self.invariant.priced in
     let u = c.local_time-u.result in
     let m = c.minutes_to_call.result in
-    let sum = total_at c.args.self.now own.walks own.added priced date.announced date.second c.args.t0 date.run c.requires.walk u m c.cost.result _ c.added_from.result
+    let sum = total_at w own.walks own.added priced date.announced date.second c.args.t0 date.run c.requires.walk u m c.cost.result c.at.result c.added_from-added.result
     (c.local_time-u.ensures.time ∙ ap (λ s. (c.args.t0 + s) % 1440) c.requires.date.shift) c.minutes_to_call.ensures.minutes
     (c.cost.ensures ∙ priced.walks.each date.second u c.requires.walk.second c.local_time-u.ensures.bound)
-    (c.requires.date.by_minute m c.minutes_to_call.ensures.bound) c.added_from.ensures.one_day c.added_from.ensures.two_days in
-    let fits = most_fits c.args.self.now own.walks own.added priced date.announced date.second c.args.t0 date.run c.requires.walk in
+    (c.at.ensures ∙ c.requires.date.by_call m c.minutes_to_call.ensures.bound) c.added_from-added.ensures.one_day c.added_from-added.ensures.two_days in
+    let fits = most_fits w own.walks own.added priced in
     let bound = sum.bound in
     omega (arith, bound, fits)
 
 pub returns-clause-cost : goal.returns-clause-cost
 returns-clause-cost c =
     let own = c.self.inside in
+    let w = c.args.self.now in
     let date = c.args.date.now in
     let priced = subst (λ (v : PricedParts). ArePriced v.parts v.grid c.self.inside.walks c.self.inside.added) c.self.view_is c.self.invariant.priced in
     let u = c.local_time-u.result in
     let m = c.minutes_to_call.result in
-    let sum = total_at c.args.self.now own.walks own.added priced date.announced date.second c.args.t0 date.run c.requires.walk u m c.cost.result _ c.added_from.result
+    let sum = total_at w own.walks own.added priced date.announced date.second c.args.t0 date.run c.requires.walk u m c.cost.result c.at.result c.added_from-added.result
     (c.local_time-u.ensures.time ∙ ap (λ s. (c.args.t0 + s) % 1440) c.requires.date.shift) c.minutes_to_call.ensures.minutes
     (c.cost.ensures ∙ priced.walks.each date.second u c.requires.walk.second c.local_time-u.ensures.bound)
-    (c.requires.date.by_minute m c.minutes_to_call.ensures.bound) c.added_from.ensures.one_day c.added_from.ensures.two_days in
+    (c.at.ensures ∙ c.requires.date.by_call m c.minutes_to_call.ensures.bound) c.added_from-added.ensures.one_day c.added_from-added.ensures.two_days in
     sum.cost
 
 pub returns-clause-bound : goal.returns-clause-bound
 returns-clause-bound c =
     let own = c.self.inside in
+    let w = c.args.self.now in
     let date = c.args.date.now in
     let priced = subst (λ (v : PricedParts). ArePriced v.parts v.grid c.self.inside.walks c.self.inside.added) c.self.view_is c.self.invariant.priced in
     let u = c.local_time-u.result in
     let m = c.minutes_to_call.result in
-    let sum = total_at c.args.self.now own.walks own.added priced date.announced date.second c.args.t0 date.run c.requires.walk u m c.cost.result _ c.added_from.result
+    let sum = total_at w own.walks own.added priced date.announced date.second c.args.t0 date.run c.requires.walk u m c.cost.result c.at.result c.added_from-added.result
     (c.local_time-u.ensures.time ∙ ap (λ s. (c.args.t0 + s) % 1440) c.requires.date.shift) c.minutes_to_call.ensures.minutes
     (c.cost.ensures ∙ priced.walks.each date.second u c.requires.walk.second c.local_time-u.ensures.bound)
-    (c.requires.date.by_minute m c.minutes_to_call.ensures.bound) c.added_from.ensures.one_day c.added_from.ensures.two_days in
+    (c.at.ensures ∙ c.requires.date.by_call m c.minutes_to_call.ensures.bound) c.added_from-added.ensures.one_day c.added_from-added.ensures.two_days in
     sum.bound
