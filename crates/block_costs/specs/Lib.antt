@@ -2,3 +2,4 @@ pub mod Blocks
 pub mod Keeping
 pub mod Minutes
 pub mod Hours
+pub mod Days

@@ -4,6 +4,8 @@
 
 mod asked;
 mod blocks;
+mod dated;
+mod day;
 mod hours;
 mod kept;
 mod minutes;
@@ -11,4 +13,6 @@ mod minutes;
 mod tests;
 
 pub use blocks::{BlocksFault, StationBlocks};
+pub use day::HourCosts;
+pub use hours::DAY_HOURS;
 pub use minutes::{HOUR_MINUTES, MinuteCosts};

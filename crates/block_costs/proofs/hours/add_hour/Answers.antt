@@ -1,4 +1,4 @@
-use Rattle.std.proofs.Common.{◌≡◌, ◌+◌, ◌*◌, ◌<◌, ℕ, [], ◌∷◌, ◌++◌, List, length, sym, ap, ◌∙◌, subst, arith}
+use Rattle.std.proofs.Common.{◌≡◌, ◌+◌, ◌*◌, ℕ, [], ◌∷◌, ◌++◌, List, length, sym, subst, arith}
 use Rattle.span_unions.specs.Hours.{AreTimeLayers}
 use Rattle.minute_parts.specs.Parts.{PartTable}
 use Rattle.walk_costs.specs.Walks.{later_minutes}

@@ -1,4 +1,4 @@
-use Rattle.std.proofs.Common.{◌≡◌, ◌+◌, ◌-◌, ◌<◌, ◌≤◌, ℕ, Bool, false, true, length, sym, ap, ◌∙◌, subst, arith}
+use Rattle.std.proofs.Common.{◌≡◌, ◌+◌, ◌-◌, ◌<◌, ◌≤◌, ℕ, false, true, length, ap, ◌∙◌, subst, arith}
 use Rattle.definitions.specs.codes.Allowed.{allowed}
 use Rattle.definitions.specs.time.Calendar.{minute_length}
 use Rattle.walk_costs.specs.Walks.{PricedParts, later_minutes}
