@@ -2,7 +2,7 @@
 use Rattle.std.proofs.Common.{◌≡◌, ℕ, ◌+◌, ◌-◌, ◌*◌, ◌/◌, ◌%◌, ◌<◌, ◌≤◌, inl, inr, Bool, true, false, nat_lt, if◌then◌else◌, List, [], ◌∷◌, ◌++◌, length, get_or, bit_or, refl, sym, ap, ◌∙◌, subst, arith}
 use Rattle.std.specs.Int.Bits.{or_zero_l, or_zero_r}
 use Rattle.std.proofs.Math.ListN.{get_or-append}
-use Rattle.std.proofs.lemmas.Bool.{and_parts, cases_Bool, cases_lt, ltb-false, ltb-true, or_cases}
+use Rattle.std.proofs.lemmas.Bool.{and_parts, cases_Bool, cases_lt, lt-ltb, ltb-false, ltb-true, or_cases}
 use Rattle.std.proofs.lemmas.List.{get_or_push, length_push}
 use Rattle.std.proofs.lemmas.Nat.{or_lt}
 use Rattle.signal_base.specs.Mask.{has_bit}
@@ -17,7 +17,7 @@ use Rattle.minute_parts.specs.Overlay.{is_call_second, is_time_second, tells_tim
 use Rattle.minute_parts.specs.Parts.{IsPartTable, PartTable, part_where}
 use Rattle.minute_parts.specs.Runs.{end_of_run, first_of, run_at}
 use Rattle.symbol_cost.specs.declared.limits.TheConstants.{RECEIVER_COST}
-use Rattle.slot_columns.specs.Layered.{LayerSums, layer_cost, part_at}
+use Rattle.slot_columns.specs.Layered.{part_at}
 use Rattle.slot_columns.specs.Parts.{layered_cost, layered_set, most_cost}
 use Rattle.slot_columns.proofs.SetLaws.{none_chosen}
 use Rattle.span_unions.specs.Hours.{AreTimeLayers}
@@ -179,7 +179,7 @@ module _ (w : PricedParts) (table : IsPartTable w.parts) (own : w.parts.station 
         omega (arith, sum_of_two (length w.grid.rows) of_time of_date, bound)
 
 -- an hour that is kept, with the date of its run
-pub kept_hour : (w : PricedParts) (begin : ℕ) (firsts rests : List (List ℕ)) (costs : LayerSums) → AreHours w begin firsts rests costs
+pub kept_hour : (w : PricedParts) (begin : ℕ) (firsts rests : List (List ℕ)) (costs : List ℕ) → AreHours w begin firsts rests costs
     → IsPartTable w.parts → w.parts.station ≡ w.grid.station → (i p lo hour cost : ℕ) → i < length w.parts.runs → p < 60 → hour < length firsts
     → 60 * hour + begin ≡ (lo + (run_at w.parts.runs i).shift) % 1440 → first_of w.parts.runs i ≤ lo
     → lo + 60 + later_minutes (length w.grid.rows) p ≤ end_of_run w.parts.runs w.parts.end i
@@ -192,15 +192,18 @@ pub kept_hour : (w : PricedParts) (begin : ℕ) (firsts rests : List (List ℕ))
     → s < 60 → v ≡ (from + (run_at q.runs j).shift) % 1440 → IsUnionOf (time_at q.times s) (v + m) (v + m + 60) time
     → bit_or time (get_or (part_where a (run_at q.runs j)) s 0) < 256
     → IsUnionOver q.station a (from + m) (from + m + 60) s (bit_or time (get_or (part_where a (run_at q.runs j)) s 0)))
-    → AreSmall w.grid → cost ≡ layer_cost costs hour p + part_cost w.grid p (kept w.grid.station (run_at w.parts.runs i).plain)
-    → IsHourCost w p lo cost
+    → AreSmall w.grid → cost ≡ get_or costs (p * 24 + hour) 0 + part_cost w.grid p (kept w.grid.station (run_at w.parts.runs i).plain)
+    → IsHourCost w false p lo cost
 kept_hour w begin firsts rests costs hours table own i p lo hour cost is second within minute begun ends bytes covered law small total =
     let reach = later_minutes (length w.grid.rows) 59 in
     let u : ℕ = 60 * hour + begin in
     let reached : later_minutes (length w.grid.rows) p ≤ reach = omega (arith, second) in
     let first = part_at firsts hour in
     let rest = part_at rests hour in
-    let priced = hours.priced.each hour p within second in
+    let in_day : hour < 24 = omega (arith, minute) in
+    let priced : get_or costs (p * 24 + hour) 0 ≡ layered_cost w.grid.station (cost_at w.grid.rows) (length w.grid.rows) p first rest =
+    hours.priced.each p hour second in_day
+    ∙ ap (λ (b : Bool). if b then layered_cost w.grid.station (cost_at w.grid.rows) (length w.grid.rows) p first rest else 0) (lt-ltb hour (length firsts) within) in
     record {
       cost_is = λ sets unions.
           omega (

@@ -3,3 +3,4 @@ pub mod SumLaws
 pub mod TotalLaws
 pub mod UnionLaws
 pub mod HourLaws
+mod DayLaws

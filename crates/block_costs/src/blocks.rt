@@ -1,15 +1,17 @@
 //! The tables of a station's blocks.
 
-ghost use Rattle.std.specs.Prelude.{ℕ, ◌≡◌, ◌+◌, ◌<◌, ◌≤◌, IfOk, IfSome, false, length};
+ghost use Rattle.std.specs.Prelude.{ℕ, ◌≡◌, ◌+◌, ◌<◌, ◌≤◌, IfOk, false, length};
 ghost use Rattle.span_unions.specs.Unions.{AreRegular};
 ghost use Rattle.slot_columns.specs.Parts.{most_cost};
 ghost use Rattle.slot_columns.specs.declared.limits.TheConstants.{SECONDS_PER_MINUTE};
 ghost use Rattle.walk_costs.specs.Walks.{later_minutes};
 ghost use Rattle.block_costs.specs.Blocks.{AreUnionsOfWalks, unions_cost};
-ghost use Rattle.block_costs.specs.Hours.{IsHourCost};
+ghost use Rattle.block_costs.specs.Hours.{IsDateOf, IsHourCost};
+ghost use Rattle.minute_parts.specs.Parts.{IsInRun};
 ghost use Rattle.block_costs.specs.declared.minutes.TheConstants.{HOUR_MINUTES};
 
 use crate::asked::cost_as_asked;
+use crate::dated::{Dated, dated_at};
 use crate::hours::{Hours, hours_of};
 use crate::kept::{Kept, YEAR_DAYS, is_kept, kept_days, kept_years};
 use crate::minutes::HOUR_MINUTES;
@@ -59,7 +61,7 @@ impl Model for StationBlocks {
     ghost view = { λ b. b.walks };
 
     ghost invariant = { λ b. AreKept b.walks b.days.ranges.items b.days.costs × AreKept b.walks b.years.ranges.items b.years.costs
-        × AreHours b.walks b.hours.begin b.hours.firsts.items b.hours.rests.items b.hours.costs };
+        × AreHours b.walks b.hours.begin b.hours.firsts.items b.hours.rests.items b.hours.costs.items };
 }
 
 impl StationBlocks {
@@ -119,9 +121,8 @@ impl StationBlocks {
             return self.days.costs.cost(day, p);
         }
         if hi - lo == HOUR_MINUTES as u32 {
-            if let Some(cost) = self.hour_cost(p, lo) {
-                return cost;
-            }
+            let date = dated_at(&self.walks, p, lo);
+            return self.hour_cost(p, lo, &date);
         }
         let year = day / YEAR_DAYS as usize;
         if is_kept(&self.years, year, lo, hi) {
@@ -130,18 +131,25 @@ impl StationBlocks {
         cost_as_asked(&self.walks, false, p, lo, hi)
     }
 
-    // The same of an hour whose walks lie in one run.
-    fn hour_cost(&self, p: u8, lo: u32) -> Option<u32>
+    // The same of the hour that begins in the minute `lo`, in the run of this date.
+    pub(crate) fn hour_cost(&self, p: u8, lo: u32, date: &Dated) -> u32
         requires second { p < SECONDS_PER_MINUTE }
         requires encoded { lo + HOUR_MINUTES + later_minutes (length self.now.grid.rows) p ≤ self.now.parts.end }
-        ensures { IfSome result (IsHourCost self.now p lo) }
+        requires date { IsDateOf self.now p date.now }
+        requires run { IsInRun self.now.parts lo date.now.run }
+        ensures { IsHourCost self.now false p lo result }
     {
         let parts = self.walks.parts();
-        let run = parts.run_of(lo);
+        // What ends before the parts' end fits.
+        parts.end();
         let later = self.walks.later_minutes(p);
-        if parts.run_end(run) - lo < HOUR_MINUTES as u32 + later {
-            return None;
+        let hi = lo + HOUR_MINUTES as u32;
+        if parts.run_end(date.run) - lo < HOUR_MINUTES as u32 + later {
+            return cost_as_asked(&self.walks, false, p, lo, hi);
         }
-        self.hours.cost(&self.walks, p, lo, run)
+        match self.hours.cost(&self.walks, p, lo, date) {
+            Some(cost) => cost,
+            None => cost_as_asked(&self.walks, false, p, lo, hi),
+        }
     }
 }

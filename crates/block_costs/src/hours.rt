@@ -7,12 +7,13 @@ ghost use Rattle.block_costs.specs.declared.minutes.TheConstants.{HOUR_MINUTES};
 ghost use Rattle.slot_columns.specs.declared.limits.TheConstants.{SECONDS_PER_MINUTE};
 ghost use Rattle.walk_costs.specs.Dates.{is_given_up};
 ghost use Rattle.walk_costs.specs.Walks.{later_minutes};
-ghost use Rattle.block_costs.specs.Hours.{AreHourLayers, AreHours, IsHourCost};
+ghost use Rattle.block_costs.specs.Hours.{AreHourCosts, AreHourLayers, AreHours, IsDateOf, IsHourCost, hour_at};
 
+use crate::dated::Dated;
 use crate::kept::LAST_SECOND;
 use definitions::{MINUTES_PER_DAY, MINUTES_PER_HOUR};
 use signal_base::Station;
-use slot_columns::{ColumnsFault, LayerTable, Part, SECONDS_PER_MINUTE};
+use slot_columns::{Part, SECONDS_PER_MINUTE};
 use span_unions::hours_tell_time_and_date;
 use std::alloc::{AllocError, Global};
 use walk_costs::StationWalks;
@@ -24,29 +25,65 @@ pub struct Hours {
     pub begin: u16,
     pub firsts: Vec<Part>,
     pub rests: Vec<Part>,
-    pub costs: LayerTable,
+    // A row of hours for each second in which a walk may begin.
+    pub costs: Vec<u32>,
 }
 
-// How many hours there are.
-const DAY_HOURS: u16 = (MINUTES_PER_DAY / MINUTES_PER_HOUR) as u16;
+/// How many hours there are.
+pub const DAY_HOURS: usize = (MINUTES_PER_DAY / MINUTES_PER_HOUR) as usize;
+
+// How many entries the rows have together.
+const ENTRIES: usize = SECONDS_PER_MINUTE * DAY_HOURS;
 
 /// The hours of a station's local day, as far as the time of day tells the same in all later minutes of their walks.
-pub fn hours_of(alloc: Global, walks: &StationWalks) -> Result<Hours, ColumnsFault>
-    ensures { IfOk result (λ hours. AreHours walks.now hours.begin hours.firsts.items hours.rests.items hours.costs) }
+pub fn hours_of(alloc: Global, walks: &StationWalks) -> Result<Hours, AllocError>
+    ensures { IfOk result (λ hours. AreHours walks.now hours.begin hours.firsts.items hours.rests.items hours.costs.items) }
 {
     let begin = first_shift(walks) % MINUTES_PER_HOUR as u16;
-    let mut firsts = Vec::with_capacity(alloc, DAY_HOURS as usize)?;
-    let mut rests = Vec::with_capacity(alloc, DAY_HOURS as usize)?;
+    let mut firsts = Vec::with_capacity(alloc, DAY_HOURS)?;
+    let mut rests = Vec::with_capacity(alloc, DAY_HOURS)?;
     for _ in 0..DAY_HOURS {
         add_hour(&mut firsts, &mut rests, walks, begin)?;
     }
-    let costs = LayerTable::make(alloc, walks.columns(), &firsts, &rests)?;
+    let costs = costs_of(alloc, walks, &firsts, &rests)?;
     Ok(Hours {
         begin,
         firsts,
         rests,
         costs,
     })
+}
+
+// What the hours' layers cost.
+fn costs_of(
+    alloc: Global,
+    walks: &StationWalks,
+    firsts: &[Part],
+    rests: &[Part],
+) -> Result<Vec<u32>, AllocError>
+    requires { length firsts.now ≡ length rests.now }
+    ensures { IfOk result (λ costs. AreHourCosts walks.now.grid firsts.now rests.now costs.items) }
+{
+    let mut costs = Vec::with_capacity(alloc, ENTRIES)?;
+    for i in 0..ENTRIES {
+        costs.push(cost_at(walks, firsts, rests, i / DAY_HOURS, i % DAY_HOURS))?;
+    }
+    Ok(costs)
+}
+
+// What the layers of one hour cost in walks from second `p`, and 0 where there is no such hour.
+fn cost_at(walks: &StationWalks, firsts: &[Part], rests: &[Part], p: usize, hour: usize) -> u32
+    requires count { length firsts.now ≡ length rests.now }
+    requires second { p < SECONDS_PER_MINUTE }
+    ensures { result ≡ hour_at walks.now.grid firsts.now rests.now p hour }
+{
+    if hour < firsts.len() {
+        walks
+            .columns()
+            .layered_cost(p as u8, &firsts[hour], &rests[hour])
+    } else {
+        0
+    }
 }
 
 // By how many minutes the local time is ahead of UTC in the first run.
@@ -85,21 +122,21 @@ fn add_hour(
 
 impl Hours {
     /// What the unions cost over the walks from second `p` of the hour that begins in the minute `lo`, all of which lie in the
-    /// run of this number and announce no leap second. None where this hour isn't kept.
-    pub fn cost(&self, walks: &StationWalks, p: u8, lo: u32, run: usize) -> Option<u32>
-        requires hours { AreHours walks.now self.now.begin self.now.firsts.items self.now.rests.items self.now.costs }
+    /// run of this date and announce no leap second. None where this hour isn't kept.
+    pub fn cost(&self, walks: &StationWalks, p: u8, lo: u32, date: &Dated) -> Option<u32>
+        requires hours { AreHours walks.now self.now.begin self.now.firsts.items self.now.rests.items self.now.costs.items }
         requires second { p < SECONDS_PER_MINUTE }
-        requires run { run < length walks.now.parts.runs }
-        requires begun { first_of walks.now.parts.runs run ≤ lo }
-        requires ends { lo + HOUR_MINUTES + later_minutes (length walks.now.grid.rows) p ≤ end_of_run walks.now.parts.runs walks.now.parts.end run }
-        ensures { IfSome result (IsHourCost walks.now p lo) }
+        requires date { IsDateOf walks.now p date.now }
+        requires begun { first_of walks.now.parts.runs date.now.run ≤ lo }
+        requires ends { lo + HOUR_MINUTES + later_minutes (length walks.now.grid.rows) p ≤ end_of_run walks.now.parts.runs walks.now.parts.end date.now.run }
+        ensures { IfSome result (IsHourCost walks.now false p lo) }
     {
         hours_tell_time_and_date();
         let unions = walks.unions();
         let parts = unions.parts();
         // They are a table, as their end is one.
         parts.end();
-        let at = parts.run(run);
+        let at = parts.run(date.run);
         let u = lo % MINUTES_PER_DAY + at.shift as u32;
         if u % MINUTES_PER_HOUR != self.begin as u32 {
             return None;
@@ -121,9 +158,8 @@ impl Hours {
             return None;
         }
         bytes_of(&at.plain);
-        let of_time = self.costs.cost(hour, p);
-        let of_date = walks.kept_date_cost(p, run);
-        Some(of_time + of_date)
+        let of_time = self.costs[p as usize * DAY_HOURS + hour];
+        Some(of_time + date.cost)
     }
 }
 

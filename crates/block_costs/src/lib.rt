@@ -6,6 +6,8 @@ mod asked;
 mod blocks;
 #[cfg(test)]
 mod crossing_tests;
+mod dated;
+mod day;
 mod hours;
 mod kept;
 mod minutes;
@@ -13,4 +15,6 @@ mod minutes;
 mod tests;
 
 pub use blocks::{BlocksFault, StationBlocks};
+pub use day::HourCosts;
+pub use hours::DAY_HOURS;
 pub use minutes::{HOUR_MINUTES, MinuteCosts};

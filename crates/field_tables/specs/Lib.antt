@@ -4,3 +4,4 @@ pub mod Scored
 pub mod Sums
 pub mod Blocks
 pub mod Hours
+pub mod Days

@@ -9,6 +9,7 @@ ghost use Rattle.definitions.specs.answers.Blocks.{HasWalk, IsBlock, IsUnion, Is
 ghost use Rattle.field_tables.specs.Grids.{AreGrids};
 ghost use Rattle.field_tables.specs.Scored.{costs_of};
 
+use crate::day::DayCosts;
 use crate::hour::HourCosts;
 use crate::station::SumsFault;
 use crate::sums::WindowSums;
@@ -164,6 +165,22 @@ impl<'a> Tables<'a> {
             grids: self.grids,
             sums: &self.sums,
             hour: *block,
+            row,
+        })
+    }
+
+    /// What the hours of a day cost at the least, where it is a whole UTC day whose walks have 60 seconds in each minute, and
+    /// each station can encode them. Of other days each hour is asked for by itself.
+    pub fn day(&'a self, block: &Block) -> Option<DayCosts<'a>>
+        requires { IsBlock self.now.window block.now }
+        ensures tables { IfSome result (λ day. day.tables ≡ self.now) }
+        ensures block { IfSome result (λ day. day.block ≡ block.now) }
+    {
+        let row = self.sums.hours(self.civil, block)?;
+        Some(DayCosts {
+            grids: self.grids,
+            sums: &self.sums,
+            day: *block,
             row,
         })
     }

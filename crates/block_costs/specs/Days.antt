@@ -1,0 +1,13 @@
+-- The hours of a UTC day, and what their unions cost.
+use Rattle.std.specs.Prelude.{ℕ, ◌≡◌, ◌+◌, ◌*◌, Bool}
+use Rattle.definitions.specs.time.Calendar.{minutes_per_day, minutes_per_hour}
+use Rattle.walk_costs.specs.Walks.{PricedParts}
+use Rattle.block_costs.specs.Hours.{IsHourCost}
+
+-- the first minute of an hour of the day
+abbrev pub hour_begin : ℕ → ℕ → ℕ
+hour_begin day h = day * minutes_per_day + minutes_per_hour * h
+
+-- what the hour costs that begins in the minute lo was added to a number
+abbrev pub IsHourAdded : PricedParts → Bool → ℕ → ℕ → ℕ → ℕ → Type 0
+IsHourAdded w announced p lo before after = (cost : ℕ) × IsHourCost w announced p lo cost × (after ≡ before + cost)
