@@ -1,4 +1,4 @@
-use Rattle.std.proofs.Common.{◌≡◌, ◌+◌, ◌<◌, ◌≤◌, List, length, get_or, slice_index, sym, ap, ◌∙◌, subst, arith}
+use Rattle.std.proofs.Common.{◌+◌, ◌<◌, ◌≤◌, List, length, get_or, ap, ◌∙◌, subst, arith}
 use Rattle.definitions.specs.heard.Costs.{station_cost}
 use Rattle.symbol_cost.specs.Grid.{Grid, cost_at}
 use Rattle.slot_columns.specs.Parts.{most_cost}
@@ -6,7 +6,7 @@ use Rattle.walk_costs.specs.Walks.{PricedParts}
 use Rattle.field_tables.specs.Hours.{sequence_at}
 use Rattle.field_tables.specs.Sums.{AreSums, Sums}
 use Rattle.field_tables.proofs.MinuteLaws.{regular_walks}
-use Rattle.field_tables.proofs.SumLaws.{IsWithin, next, next_within, regular, slots, small, whole, within_less}
+use Rattle.field_tables.proofs.SumLaws.{next, next_within, regular, slots, small, whole, within_less}
 use Rattle.field_tables.proofs.sums.WindowSums.minute_costs.Goals as goal
 
 pub add_minute_costs-requires-clause-regular : goal.add_minute_costs-requires-clause-regular
