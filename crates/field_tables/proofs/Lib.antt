@@ -4,3 +4,4 @@ pub mod SumLaws
 pub mod BlockLaws
 pub mod UnionBoundLaws
 pub mod MinuteLaws
+pub mod RowLaws
