@@ -1,4 +1,4 @@
 pub mod BlockLists
 pub mod RankLaws
 pub mod OneRanking
-pub mod HourLaws
+pub mod MinuteLists

@@ -1,9 +1,8 @@
 -- The children of a block, as contracts see those that are left.
-use Rattle.std.specs.Prelude.{◌≡◌, List}
-use Rattle.std.specs.List.{AllByRecursion}
-use Rattle.definitions.specs.declared.block.Span.TheVariants.{Minute}
+use Rattle.std.specs.Prelude.{ℕ, ◌≡◌, ◌+◌, ◌-◌, ◌≤◌, List}
+use Rattle.definitions.specs.declared.block.Span.TheVariants.{Hour, Minute}
 use Rattle.definitions.specs.declared.block.Block.{Block}
-use Rattle.field_tables.specs.Hours.{IsMinuteOf, ScoredHour}
+use Rattle.definitions.specs.answers.Blocks.{blocks}
 use Rattle.field_tables.specs.Scored.{Scored}
 
 -- blocks of a window, which are bounded by its tables
@@ -11,12 +10,12 @@ pub record Row : Type 0 where
   pub tables : Scored
   pub left : List Block
 
--- the block is a minute of the hour
-pub record IsMinuteIn (hour : ScoredHour) (b : Block) : Type 0 where
-  pub span : b.span ≡ Minute
-  pub minute : IsMinuteOf hour.block b
+-- the minutes of an hour but for its first ones
+abbrev pub minutes_after : Block → ℕ → List Block
+minutes_after hour given = blocks hour.announced hour.second Minute (60 - given) (hour.lo + given) hour.hi
 
--- the tables bound the hour's minutes, and the blocks are some of them
-pub record IsHourOf (tables : Scored) (left : List Block) (hour : ScoredHour) : Type 0 where
-  pub same : hour.tables ≡ tables
-  pub minutes : AllByRecursion (IsMinuteIn hour) left
+-- so many of the hour's minutes were given
+pub record HasGiven (hour : Block) (given : ℕ) : Type 0 where
+  pub span : hour.span ≡ Hour
+  pub few : hour.hi ≤ hour.lo + 60
+  pub within : hour.lo + given ≤ hour.hi

@@ -1,12 +1,11 @@
 //! The bound of a block: the least that a sequence of it can cost.
 
 ghost use Rattle.std.specs.Prelude.{◌≤◌, IfSome};
-ghost use Rattle.definitions.specs.answers.Blocks.{IsBlock, IsBound, IsMinuteBound};
+ghost use Rattle.definitions.specs.answers.Blocks.{IsBlock, IsBound};
 ghost use Rattle.definitions.specs.sequences.Windows.{IsWindow};
 ghost use Rattle.field_tables.specs.Scored.{costs_of};
 ghost use Rattle.signal_base.specs.declared.limits.TheConstants.{GREATEST_COST};
 
-use crate::keyed::first_of;
 use definitions::{Block, Span};
 use field_tables::Tables;
 
@@ -19,38 +18,9 @@ pub fn bound(tables: &Tables, block: &Block) -> Option<u32>
     ensures small { IfSome result (λ n. n ≤ GREATEST_COST) }
 {
     match block.span {
-        Span::Minute => minute_bound(tables, block),
+        Span::Minute => tables.minute_bound(block),
         _ => tables.union_bound(block),
     }
-}
-
-// The same of a minute. Where it is announced, whether that shows is known from the date in most minutes.
-fn minute_bound(tables: &Tables, block: &Block) -> Option<u32>
-    requires { IsBlock tables.now.window block.now }
-    ensures bound { IsMinuteBound (costs_of tables.now) tables.now.window block.now result }
-    ensures small { IfSome result (λ n. n ≤ GREATEST_COST) }
-{
-    if !block.announced {
-        return sequence_bound(tables, block);
-    }
-    match tables.hour(block) {
-        Some(minute) => minute.bound(block),
-        None => sequence_bound(tables, block),
-    }
-}
-
-// The same by the minute's sequence.
-fn sequence_bound(tables: &Tables, block: &Block) -> Option<u32>
-    requires { IsBlock tables.now.window block.now }
-    ensures bound { IsMinuteBound (costs_of tables.now) tables.now.window block.now result }
-    ensures small { IfSome result (λ n. n ≤ GREATEST_COST) }
-{
-    know_the_window(tables);
-    let q = first_of(block);
-    if !tables.legal(&q) {
-        return None;
-    }
-    Some(tables.cost(&q))
 }
 
 // The numbers of the tables' window are in their ranges: this says so, and does nothing.

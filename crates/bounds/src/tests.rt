@@ -5,7 +5,8 @@ ghost use Rattle.signal_base.specs.Limits.{IsPriced};
 ghost use Rattle.signal_base.specs.declared.station.Station.TheVariants.{Dcf77};
 
 use crate::{
-    Block, Bounded, BoundedChildren, Span, announced_last, bounded_children, items, ranked,
+    Block, BoundedChildren, BoundedMinutes, Span, announced_last, bounded_children,
+    bounded_minutes, items, ranked,
 };
 use civil::Civil;
 use field_tables::Tables;
@@ -135,6 +136,17 @@ fn assert_children(
     assert_eq!(rt; row.next(), None);
 }
 
+// The same of the minutes of an hour.
+fn assert_minutes(rt: &impl Abort, mut row: BoundedMinutes, minutes: &[(u32, u32, Option<u32>)]) {
+    for (lo, hi, bound) in minutes {
+        let found = row
+            .next()
+            .map(|minute| (minute.block.lo, minute.block.hi, minute.bound));
+        assert_eq!(rt; found, Some((*lo, *hi, *bound)));
+    }
+    assert_eq!(rt; row.next(), None);
+}
+
 #[test]
 fn bounds_the_parts_of_the_last_minutes(rt: HostRuntime) -> Result<(), Fail> {
     let civil = Civil::make(rt.alloc())?;
@@ -164,6 +176,12 @@ fn bounds_the_parts_of_the_last_minutes(rt: HostRuntime) -> Result<(), Fail> {
     assert_children(
         &rt,
         bounded_children(&tables, &hour.block),
+        &[(FROM, FROM + 1, Some(0)), (FROM + 1, FROM + 2, None)],
+    );
+    assert_eq!(rt; hour.block.span, Span::Hour);
+    assert_minutes(
+        &rt,
+        bounded_minutes(&tables, &hour.block),
         &[(FROM, FROM + 1, Some(0)), (FROM + 1, FROM + 2, None)],
     );
     Ok(())

@@ -5,3 +5,4 @@ pub mod BlockLaws
 pub mod UnionBoundLaws
 pub mod MinuteLaws
 pub mod DayLaws
+pub mod RowLaws

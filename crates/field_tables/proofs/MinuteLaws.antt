@@ -1,14 +1,17 @@
 -- The sequences of a block whose walks have 60 seconds in each minute: which are legal.
-use Rattle.std.proofs.Common.{◌≡◌, ◌≢◌, ℕ, ◌+◌, ◌-◌, ◌/◌, ◌<◌, ◌≤◌, ◌↔◌, inl, inr, refl, Bool, true, false, length, get_or, sym, ap, ◌∙◌, subst, arith}
+use Rattle.std.proofs.Common.{◌≡◌, ◌≢◌, ℕ, ◌+◌, ◌-◌, ◌/◌, ◌<◌, ◌≤◌, ◌↔◌, if◌then◌else◌, inl, inr, refl, Bool, true, false, length, get_or, sym, ap, ◌∙◌, subst, arith}
 use Rattle.std.proofs.Math.ListN.{get_or-map}
+use Rattle.std.proofs.Math.Nat.{min-eq_left}
 use Rattle.std.proofs.lemmas.List.{get_or_default, length-map}
 use Rattle.signal_base.specs.declared.station.Station.{Station}
+use Rattle.signal_base.specs.declared.window.Window.{Window}
 use Rattle.definitions.specs.declared.block.Block.{Block}
 use Rattle.definitions.specs.declared.sequence.Sequence.{Sequence}
 use Rattle.definitions.specs.time.Calendar.{minute_length}
 use Rattle.definitions.specs.codes.Allowed.{CanBeEncoded}
 use Rattle.definitions.specs.answers.Blocks.{IsBlock, first_of, span_end}
-use Rattle.definitions.specs.sequences.Walks.{IsLegal, IsWalkable, ShowsLeap, set_at, unannounced}
+use Rattle.definitions.specs.sequences.Walks.{IsLegal, IsSequence, IsWalkable, ShowsLeap, set_at, unannounced}
+use Rattle.definitions.specs.sequences.Windows.{IsWindow}
 use Rattle.symbol_cost.specs.Grid.{Grid}
 use Rattle.span_unions.specs.Unions.{AreRegular}
 use Rattle.span_unions.specs.Walks.{reach}
@@ -16,7 +19,7 @@ use Rattle.walk_costs.specs.Walks.{PricedParts, ShowsAnnouncement}
 use Rattle.walk_costs.proofs.PlaceLaws.{nominal}
 use Rattle.plain_costs.proofs.GridLaws.{place}
 use Rattle.field_tables.specs.Blocks.{HasShortWalks}
-use Rattle.field_tables.specs.Hours.{IsMinuteOf, no_walks, sequence_at}
+use Rattle.field_tables.specs.Hours.{minute_at, no_walks, sequence_at}
 use Rattle.field_tables.specs.Sums.{AreSums, Sums, grids_of}
 use Rattle.field_tables.proofs.BlockLaws.{ends_no_later}
 use Rattle.field_tables.proofs.SumLaws.{heard, slots}
@@ -88,16 +91,27 @@ module _ (sums : Sums) (are : AreSums sums) where
       λ shows. (walkable, λ _. inr (inr shows)),
     )
 
--- a minute of an hour is its sequence's, which stands in its entry of the row
-pub entry_of : (hour b : Block) → IsMinuteOf hour b → hour.lo + (b.lo - hour.lo) < hour.hi
-entry_of hour b is = omega (arith, is.not_before, is.before_end)
+-- the minutes of a block are blocks of its window
+pub minute_is_block : (window : Window) (b : Block) (i : ℕ) → IsBlock window b → b.lo + i < b.hi → IsBlock window (minute_at b i)
+minute_is_block window b i block less =
+    let within = ends_no_later b.hi (span_end b.span b.lo) window.to block.ends in
+    let le : b.lo + i + 1 ≤ window.to = omega (arith, less, within.1) in record {
+      second = block.second;
+      not_empty = omega arith;
+      not_before = omega (arith, block.not_before);
+      begins = λ t ge lt. omega (arith, lt);
+      ends = sym (min-eq_left le);
+    }
 
-pub same_minute : (hour b : Block) → IsMinuteOf hour b → sequence_at hour (hour.lo + (b.lo - hour.lo)) ≡ first_of b
-same_minute hour b is =
-    let at : hour.lo + (b.lo - hour.lo) ≡ b.lo = omega (arith, is.not_before) in
-    ap (sequence_at hour) at
-    ∙ ap (λ a. record { first = b.lo; second = hour.second; announced = a }) (sym is.announced)
-    ∙ ap (λ s. record { first = b.lo; second = s; announced = b.announced }) (sym is.second)
+-- and their sequences may be asked for
+pub is_sequence : (window : Window) (b : Block) → IsWindow window → IsBlock window b → IsSequence (first_of b)
+is_sequence window b is block =
+    let within = ends_no_later b.hi (span_end b.span b.lo) window.to block.ends in
+    record { first_minute = omega (arith, is.century, within.1, block.not_empty); first_second = by_announced b.announced block.second }
+  where
+    by_announced : (a : Bool) → b.second < (if a then 61 else 60) → b.second ≤ 60
+    by_announced true lt = omega (arith, lt)
+    by_announced false lt = omega (arith, lt)
 
 -- the walks of a stretch are regular, and so is each of them
 pub one_regular : (announced : Bool) (lo hi later end j : ℕ) → AreRegular announced lo (hi + later) end → lo + j < hi → AreRegular announced (lo + j) (lo + j + 1 + later) end

@@ -1,14 +1,13 @@
-//! What the minutes of an hour cost, all of them at once.
+//! The bounds of an hour's minutes, all of them at once.
 
-ghost use Rattle.std.specs.Prelude.{◌≡◌, ◌≢◌, ◌+◌, ◌<◌, ◌≤◌, ◌↔◌, ℕ, IfSome, IsTrue, false, length, slice_index, slice_index_or, true};
+ghost use Rattle.std.specs.Prelude.{◌≡◌, ◌+◌, ◌<◌, ◌≤◌, ◌↔◌, ℕ, IfSome, false, if◌then◌else◌, slice_index, slice_index_or, true};
 ghost use Rattle.signal_base.specs.declared.limits.TheConstants.{GREATEST_COST};
 ghost use Rattle.definitions.specs.answers.Blocks.{IsBlock};
 ghost use Rattle.definitions.specs.heard.Costs.{sequence_cost};
-ghost use Rattle.definitions.specs.sequences.Walks.{IsLegal, ShowsLeap};
+ghost use Rattle.definitions.specs.sequences.Walks.{ShowsLeap};
 ghost use Rattle.span_unions.specs.Walks.{reach};
-ghost use Rattle.walk_costs.specs.Walks.{ShowsAnnouncement};
 ghost use Rattle.field_tables.specs.Blocks.{HasShortWalks};
-ghost use Rattle.field_tables.specs.Hours.{IsRowOf, sequence_at};
+ghost use Rattle.field_tables.specs.Hours.{IsRowOf, bound_of, sequence_at};
 ghost use Rattle.field_tables.specs.Sums.{costs_by};
 
 use crate::sums::WindowSums;
@@ -20,38 +19,81 @@ use definitions::Block;
 /// first.
 pub type Flags = [bool; HOUR_MINUTES];
 
-/// The minutes of an hour: which of their sequences are legal, and what these cost.
+/// What a row has where a minute's sequence isn't legal. It is above every cost.
+pub const NOT_LEGAL: u32 = u32::MAX;
+
+/// The bounds of the minutes of an hour: entry `i` is that of the block's minute that comes `i` minutes after its first.
 #[derive(Clone, Copy, Debug, PartialEq, Eq)]
 pub struct MinuteRow {
-    /// Where the sequence is legal, what it costs.
-    pub costs: MinuteCosts,
-    /// Whether the minute's sequence is legal.
-    pub legal: Flags,
+    /// What the minute's sequence costs, or `NOT_LEGAL`.
+    pub entries: MinuteCosts,
+}
+
+impl MinuteRow {
+    /// The bound of an entry.
+    #[inline(always)]
+    pub fn bound(&self, i: usize) -> Option<u32>
+        requires { i < HOUR_MINUTES }
+        ensures { result ≡ bound_of (slice_index self.now.entries i) }
+    {
+        let entry = self.entries[i];
+        if entry == NOT_LEGAL {
+            None
+        } else {
+            Some(entry)
+        }
+    }
 }
 
 impl WindowSums {
-    /// The minutes of an hour whose walks have 60 seconds in each minute and can be encoded by each station. Of other blocks
-    /// None.
-    pub fn minutes(&self, civil: &Civil, block: &Block) -> Option<MinuteRow>
+    /// Whether it is known that the walks of a block have 60 seconds in each minute and can be encoded by each station.
+    pub fn has_regular_walks(&self, civil: &Civil, block: &Block) -> bool
         requires { IsBlock self.now.window block.now }
-        ensures { IfSome result (IsRowOf self.now block.now) }
+        ensures short { result ≡ true → HasShortWalks self.now.window block.now }
+        ensures encoded { result ≡ true → block.now.hi + reach self.now.window block.now ≤ self.now.end }
     {
-        if block.hi - block.lo > HOUR_MINUTES as u32 {
-            return None;
-        }
         if !self.has_short_walks(civil, block) {
-            return None;
+            return false;
         }
-        if block.hi + self.later_minutes(block.second) > self.end {
-            return None;
+        block.hi + self.later_minutes(block.second) <= self.end
+    }
+
+    /// The bounds of the minutes of a block whose walks have 60 seconds in each minute and can be encoded by each station.
+    pub fn minutes(&self, block: &Block) -> MinuteRow
+        requires block { IsBlock self.now.window block.now }
+        requires few { block.now.hi ≤ block.now.lo + HOUR_MINUTES }
+        requires walks { HasShortWalks self.now.window block.now }
+        requires encoded { block.now.hi + reach self.now.window block.now ≤ self.now.end }
+        ensures { IsRowOf (costs_by self.now) self.now.window block.now result }
+    {
+        if block.announced {
+            return self.announced_minutes(block);
         }
-        let legal = self.legal_minutes(block);
-        let costs = if some(&legal) {
-            self.minute_costs(block)
-        } else {
-            no_costs()
-        };
-        Some(MinuteRow { costs, legal })
+        // The sums are those of a window, as their end says.
+        self.end();
+        MinuteRow {
+            entries: self.minute_costs(block),
+        }
+    }
+
+    // The same of an announced block: its sequences are legal that show the announcement at some station. In most hours
+    // none does, and nothing need be costed.
+    fn announced_minutes(&self, block: &Block) -> MinuteRow
+        requires announced { block.now.announced ≡ true }
+        requires block { IsBlock self.now.window block.now }
+        requires few { block.now.hi ≤ block.now.lo + HOUR_MINUTES }
+        requires walks { HasShortWalks self.now.window block.now }
+        requires encoded { block.now.hi + reach self.now.window block.now ≤ self.now.end }
+        ensures { IsRowOf (costs_by self.now) self.now.window block.now result }
+    {
+        self.end();
+        let shown = self.shown_minutes(block);
+        if !some(&shown) {
+            return none_legal();
+        }
+        let mut entries = self.minute_costs(block);
+        leave_out(&mut entries, &shown);
+        MinuteRow { entries }
     }
 
     // What the sequences cost.
@@ -68,22 +110,6 @@ impl WindowSums {
             station.add_minute_costs(block, &mut costs);
         }
         costs
-    }
-
-    // Which sequences are legal: all of them, or, where they announce a leap second, those that show it at some station.
-    fn legal_minutes(&self, block: &Block) -> Flags
-        requires block { IsBlock self.now.window block.now }
-        requires few { block.now.hi ≤ block.now.lo + HOUR_MINUTES }
-        requires walks { HasShortWalks self.now.window block.now }
-        requires encoded { block.now.hi + reach self.now.window block.now ≤ self.now.end }
-        ensures { (i : ℕ) → block.now.lo + i < block.now.hi → slice_index_or result i false ≡ true ↔ IsLegal self.now.window (sequence_at block.now (block.now.lo + i)) }
-    {
-        // The sums are those of a window, as their end says.
-        self.end();
-        if !block.announced {
-            return all();
-        }
-        self.shown_minutes(block)
     }
 
     // Which sequences show that a leap second is announced.
@@ -110,11 +136,13 @@ fn no_costs() -> MinuteCosts
     [0; HOUR_MINUTES]
 }
 
-// Every minute.
-fn all() -> Flags
-    ensures { (i : ℕ) → i < HOUR_MINUTES → slice_index_or result i false ≡ true }
+// A row without a legal sequence.
+fn none_legal() -> MinuteRow
+    ensures { (i : ℕ) → i < HOUR_MINUTES → slice_index result.entries i ≡ NOT_LEGAL }
 {
-    [true; HOUR_MINUTES]
+    MinuteRow {
+        entries: [NOT_LEGAL; HOUR_MINUTES],
+    }
 }
 
 // No minute.
@@ -124,9 +152,37 @@ fn none() -> Flags
     [false; HOUR_MINUTES]
 }
 
-// Whether there is one.
+// Whether there is one. Mostly there is none, so that it doesn't stop at the first, and looks at many at a time.
 fn some(flags: &Flags) -> bool
     ensures { result ≡ false → (i : ℕ) → slice_index_or flags.now i false ≡ false }
 {
-    flags.iter().any(|flag| *flag)
+    let mut found = false;
+    for flag in flags {
+        found |= *flag;
+    }
+    found
+}
+
+// Leaves the entries of these minutes alone, and makes those of all others `NOT_LEGAL`.
+fn leave_out(entries: &mut MinuteCosts, legal: &Flags)
+    ensures { (i : ℕ) → i < HOUR_MINUTES → slice_index entries.new i ≡ (if slice_index_or legal.now i false then slice_index entries.old i else NOT_LEGAL) }
+{
+    for i in 0..HOUR_MINUTES {
+        entries[i] = entry(legal[i], entries[i]);
+    }
+}
+
+/// The entry of a minute that has this bound.
+pub fn entry_of(bound: Option<u32>) -> u32
+    requires { IfSome bound (λ n. n ≤ GREATEST_COST) }
+    ensures { bound_of result ≡ bound }
+{
+    bound.unwrap_or(NOT_LEGAL)
+}
+
+// The entry of a minute.
+fn entry(legal: bool, cost: u32) -> u32
+    ensures { result ≡ (if legal then cost else NOT_LEGAL) }
+{
+    if legal { cost } else { NOT_LEGAL }
 }

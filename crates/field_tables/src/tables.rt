@@ -1,20 +1,24 @@
 //! What a search asks of a window's sequences and blocks.
 
-ghost use Rattle.std.specs.Prelude.{◌≡◌, ◌<◌, ◌≤◌, ◌↔◌, IfOk, IfSome, IsTrue, MatchOption, true};
+ghost use Rattle.std.specs.Prelude.{◌≡◌, ◌+◌, ◌<◌, ◌≤◌, ◌↔◌, IfOk, IfSome, IsTrue, MatchOption, true};
 ghost use Rattle.definitions.specs.codes.Allowed.{has_station};
 ghost use Rattle.definitions.specs.sequences.Walks.{IsLegal, IsSequence, IsWalkable};
 ghost use Rattle.definitions.specs.sequences.Windows.{IsWindow};
 ghost use Rattle.definitions.specs.heard.Costs.{sequence_cost, set_cost};
-ghost use Rattle.definitions.specs.answers.Blocks.{HasWalk, IsBlock, IsUnion, IsUnionBound};
+ghost use Rattle.definitions.specs.answers.Blocks.{HasWalk, IsBlock, IsMinuteBound, IsUnion, IsUnionBound};
+ghost use Rattle.block_costs.specs.declared.minutes.TheConstants.{HOUR_MINUTES};
 ghost use Rattle.field_tables.specs.Grids.{AreGrids};
+ghost use Rattle.field_tables.specs.Hours.{IsRowOf, bound_of, minute_at};
 ghost use Rattle.field_tables.specs.Scored.{costs_of};
 
 use crate::day::DayCosts;
 use crate::hour::HourCosts;
+use crate::minutes::{MinuteRow, NOT_LEGAL, entry_of};
 use crate::station::SumsFault;
 use crate::sums::WindowSums;
+use block_costs::HOUR_MINUTES;
 use civil::Civil;
-use definitions::{Block, Sequence};
+use definitions::{Block, Sequence, Span};
 use plain_costs::{grid_of, has_walk, plain_cost, unions_of};
 use signal_base::{GREATEST_COST, Station, Window};
 use slot_columns::SECONDS_PER_MINUTE;
@@ -153,20 +157,85 @@ impl<'a> Tables<'a> {
         self.sums.leap_bound(self.civil, block)
     }
 
-    /// What the minutes of an hour cost, where their walks have 60 seconds in each minute and each station can encode them. Of
-    /// other hours each minute is asked for by itself.
-    pub fn hour(&'a self, block: &Block) -> Option<HourCosts<'a>>
-        requires { IsBlock self.now.window block.now }
-        ensures tables { IfSome result (λ hour. hour.tables ≡ self.now) }
-        ensures block { IfSome result (λ hour. hour.block ≡ block.now) }
+    /// The bound of a minute of the window: what its sequence costs, at most 1,920,000,000. None exactly where that isn't legal.
+    pub fn minute_bound(&self, minute: &Block) -> Option<u32>
+        requires block { IsBlock self.now.window minute.now }
+        requires few { minute.now.hi ≤ minute.now.lo + HOUR_MINUTES }
+        ensures bound { IsMinuteBound (costs_of self.now) self.now.window minute.now result }
+        ensures small { IfSome result (λ n. n ≤ GREATEST_COST) }
     {
-        let row = self.sums.minutes(self.civil, block)?;
-        Some(HourCosts {
-            grids: self.grids,
-            sums: &self.sums,
+        // Where a leap second is announced, whether the minute shows that is known from the date in most minutes.
+        if minute.announced && self.sums.has_regular_walks(self.civil, minute) {
+            return self.sums.minutes(minute).bound(0);
+        }
+        let q = Sequence {
+            first: minute.lo,
+            second: minute.second,
+            announced: minute.announced,
+        };
+        if self.legal(&q) {
+            Some(self.cost(&q))
+        } else {
+            None
+        }
+    }
+
+    /// The bounds of the minutes of an hour, or of any other block of at most 60 minutes.
+    pub fn hour(&'a self, block: &Block) -> HourCosts<'a>
+        requires block { IsBlock self.now.window block.now }
+        requires few { block.now.hi ≤ block.now.lo + HOUR_MINUTES }
+        ensures tables { result.tables ≡ self.now }
+        ensures block { result.block ≡ block.now }
+    {
+        let _window = self.window();
+        HourCosts {
+            tables: self,
             hour: *block,
-            row,
-        })
+            row: self.row(block),
+        }
+    }
+
+    // The bounds of the minutes of a block, all at once where that can be.
+    fn row(&self, block: &Block) -> MinuteRow
+        requires block { IsBlock self.now.window block.now }
+        requires few { block.now.hi ≤ block.now.lo + HOUR_MINUTES }
+        ensures { IsRowOf (costs_of self.now) self.now.window block.now result }
+    {
+        if self.sums.has_regular_walks(self.civil, block) {
+            return self.sums.minutes(block);
+        }
+        self.row_by_minutes(block)
+    }
+
+    // The same, one by one.
+    fn row_by_minutes(&self, block: &Block) -> MinuteRow
+        requires block { IsBlock self.now.window block.now }
+        requires few { block.now.hi ≤ block.now.lo + HOUR_MINUTES }
+        ensures { IsRowOf (costs_of self.now) self.now.window block.now result }
+    {
+        let mut entries = [NOT_LEGAL; HOUR_MINUTES];
+        for i in 0..(block.hi - block.lo) as usize {
+            entries[i] = self.entry_at(block, i as u32);
+        }
+        MinuteRow { entries }
+    }
+
+    // The entry of the minute that comes `i` minutes after the block's first.
+    fn entry_at(&self, block: &Block, i: u32) -> u32
+        requires block { IsBlock self.now.window block.now }
+        requires within { block.now.lo + i < block.now.hi }
+        ensures bound { IsMinuteBound (costs_of self.now) self.now.window (minute_at block.now i) (bound_of result) }
+        ensures small { IfSome (bound_of result) (λ n. n ≤ GREATEST_COST) }
+    {
+        let lo = block.lo + i;
+        let minute = Block {
+            announced: block.announced,
+            second: block.second,
+            span: Span::Minute,
+            lo,
+            hi: lo + 1,
+        };
+        entry_of(self.minute_bound(&minute))
     }
 
     /// What the hours of a day cost at the least, where it is a whole UTC day whose walks have 60 seconds in each minute, and

@@ -12,7 +12,7 @@ use Rattle.definitions.specs.answers.Blocks.{block_key, children, children_by, s
 use Rattle.race_words.specs.declared.view.View.{View}
 use Rattle.race_words.specs.Views.{after_limit, after_offer}
 use Rattle.workers.specs.Visits.{limit_at, offered_by, offered_under, opened_under}
-use Rattle.workers.specs.Steps.{Step, depth, AreFirstSteps, AreSteps, HasStopped, HasWalked, Offers, Takes}
+use Rattle.workers.specs.Steps.{Step, depth, AreFirstSteps, AreSteps, HasOpened, HasStopped, HasWalked, HaveStopped, HaveWalked, Offers, Takes}
 use Rattle.workers.proofs.Taking.{gained_steps}
 
 pub folds_then : {P X : Type 0} (R : P → X → P → Type 0) (xs ys : List X) (p q r : P) → FoldsTo R p xs q → FoldsTo R q ys r → FoldsTo R p (xs ++ ys) r
@@ -74,13 +74,16 @@ module _ {P : Type 0} (told : P → Step → P → Type 0) (costs : Costs) (wind
         subst (λ bs. AreFirstSteps costs window ceiling bs ss) (append_assoc opened bs cs) (first_further ss (opened ++ bs) cs a.2),
       )
 
-  -- a visit under way: the steps done, after which those of the blocks that are left make it whole
-  pub record IsWalking (b : Block) (v : View) (p : P) (left : List Block) (w : View) (q : P) : Type 0 where
+  -- a visit of blocks under way: the steps done, after which those of the blocks that are left make it whole
+  pub record IsWalking (bs : List Block) (v : View) (p : P) (left : List Block) (w : View) (q : P) : Type 0 where
     pub done : List Step
-    pub goes : (more : List Step) → AreSteps costs window ceiling left more → AreSteps costs window ceiling (b ∷ []) (done ++ more)
-    pub first : (more : List Step) → AreFirstSteps costs window ceiling left more → AreFirstSteps costs window ceiling (b ∷ []) (done ++ more)
+    pub goes : (more : List Step) → AreSteps costs window ceiling left more → AreSteps costs window ceiling bs (done ++ more)
+    pub first : (more : List Step) → AreFirstSteps costs window ceiling left more → AreFirstSteps costs window ceiling bs (done ++ more)
     pub view : FoldsTo (Takes ceiling) v done w
     pub kept : FoldsTo told p done q
+
+  pub not_begun : (bs : List Block) (v : View) (p : P) → IsWalking bs v p bs v p
+  not_begun bs v p = record { done = []; goes = λ more steps. steps; first = λ more steps. steps; view = refl; kept = refl }
 
   module _ (b : Block) (v w : View) (p q : P) (bound : Option ℕ) (seen : ℕ) (is_bound : IsBound costs window b bound) (low : seen ≤ v.floor)
       (was_told : told p (record { block = b; bound = bound; seen = seen }) q) where
@@ -89,7 +92,7 @@ module _ {P : Type 0} (told : P → Step → P → Type 0) (costs : Costs) (wind
 
     -- the block's own step, of which these keys are offered and these blocks opened
     begun : (keys : List ℕ) (opened : List Block) → offered_under (limit_at ceiling seen) b bound ≡ keys → opened_under (limit_at ceiling seen) b bound ≡ opened
-        → Offers keys (after_limit seen v) w → IsWalking b v p opened w q
+        → Offers keys (after_limit seen v) w → IsWalking (b ∷ []) v p opened w q
     begun keys opened offers opens after = record {
       done = own ∷ [];
       goes = λ more steps. (refl, is_bound, subst (λ bs. AreSteps costs window ceiling bs more) (sym (append-nil _ ∙ opens)) steps);
@@ -98,39 +101,56 @@ module _ {P : Type 0} (told : P → Step → P → Type 0) (costs : Costs) (wind
       kept = (q, was_told, refl);
     }
 
-  pub ended : (b : Block) (v w : View) (p q : P) → IsWalking b v p [] w q → HasWalked told costs window ceiling b v w p q
-  ended b v w p q walking = record {
-    steps = walking.done;
-    are = subst (AreSteps costs window ceiling (b ∷ [])) (append-nil walking.done) (walking.goes [] tt);
-    view = walking.view;
-    kept = walking.kept;
+  -- the blocks that were left are walked too
+  pub all_walked : (bs left : List Block) (v w u : View) (p q r : P) → IsWalking bs v p left w q → HaveWalked told costs window ceiling left w u q r
+      → HaveWalked told costs window ceiling bs v u p r
+  all_walked bs left v w u p q r walking rest = record {
+    steps = walking.done ++ rest.steps;
+    are = walking.goes rest.steps rest.are;
+    view = folds_then (Takes ceiling) walking.done rest.steps v w u walking.view rest.view;
+    kept = folds_then told walking.done rest.steps p q r walking.kept rest.kept;
   }
 
-  pub one_more : (b c : Block) (rest : List Block) (v w u : View) (p q r : P) → IsWalking b v p (c ∷ rest) w q → HasWalked told costs window ceiling c w u q r
-      → IsWalking b v p rest u r
-  one_more b c rest v w u p q r walking child = record {
+  pub ended : (bs : List Block) (v w : View) (p q : P) → IsWalking bs v p [] w q → HaveWalked told costs window ceiling bs v w p q
+  ended bs v w p q walking = all_walked bs [] v w w p q q walking (record { steps = []; are = tt; view = refl; kept = refl })
+
+  pub one_more : (bs : List Block) (c : Block) (rest : List Block) (v w u : View) (p q r : P) → IsWalking bs v p (c ∷ rest) w q
+      → HasWalked told costs window ceiling c w u q r → IsWalking bs v p rest u r
+  one_more bs c rest v w u p q r walking child = record {
     done = walking.done ++ child.steps;
     goes = λ more steps.
-        subst (AreSteps costs window ceiling (b ∷ [])) (sym (append_assoc walking.done child.steps more))
+        subst (AreSteps costs window ceiling bs) (sym (append_assoc walking.done child.steps more))
         (walking.goes (child.steps ++ more) (steps_then child.steps more (c ∷ []) rest child.are steps));
     first = λ more steps.
-        subst (AreFirstSteps costs window ceiling (b ∷ [])) (sym (append_assoc walking.done child.steps more))
+        subst (AreFirstSteps costs window ceiling bs) (sym (append_assoc walking.done child.steps more))
         (walking.first (child.steps ++ more) (first_then child.steps more (c ∷ []) rest child.are steps));
     view = folds_then (Takes ceiling) walking.done child.steps v w u walking.view child.view;
     kept = folds_then told walking.done child.steps p q r walking.kept child.kept;
   }
 
-  -- a step of a child couldn't be kept
-  pub stopped_below : (fails : P → P → Type 0) (b c : Block) (rest : List Block) (v w u : View) (p q r : P) → IsWalking b v p (c ∷ rest) w q
-      → HasStopped told fails costs window ceiling c w u q r → HasStopped told fails costs window ceiling b v u p r
-  stopped_below fails b c rest v w u p q r walking child =
+  -- a step of the blocks that were left couldn't be kept
+  pub rest_stopped : (fails : P → P → Type 0) (bs left : List Block) (v w u : View) (p q r : P) → IsWalking bs v p left w q
+      → HaveStopped told fails costs window ceiling left w u q r → HaveStopped told fails costs window ceiling bs v u p r
+  rest_stopped fails bs left v w u p q r walking rest =
       let gained = gained_steps ceiling walking.done v w walking.view in record {
-        steps = walking.done ++ child.steps;
-        are = walking.first child.steps (first_further child.steps (c ∷ []) rest child.are);
-        kept = (child.kept.0, folds_then told walking.done child.steps p q child.kept.0 walking.kept child.kept.1, child.kept.2);
-        share = child.share ∙ gained.share;
-        drawn = child.drawn ∙ gained.drawn;
+        steps = walking.done ++ rest.steps;
+        are = walking.first rest.steps rest.are;
+        kept = (rest.kept.0, folds_then told walking.done rest.steps p q rest.kept.0 walking.kept rest.kept.1, rest.kept.2);
+        share = rest.share ∙ gained.share;
+        drawn = rest.drawn ∙ gained.drawn;
       }
+
+  -- a step of the next block couldn't be kept
+  pub next_stopped : (fails : P → P → Type 0) (bs : List Block) (c : Block) (rest : List Block) (v w u : View) (p q r : P) → IsWalking bs v p (c ∷ rest) w q
+      → HasStopped told fails costs window ceiling c w u q r → HaveStopped told fails costs window ceiling bs v u p r
+  next_stopped fails bs c rest v w u p q r walking child =
+      rest_stopped fails bs (c ∷ rest) v w u p q r walking (record {
+        steps = child.steps;
+        are = first_further child.steps (c ∷ []) rest child.are;
+        kept = child.kept;
+        share = child.share;
+        drawn = child.drawn;
+      })
 
   module _ (b : Block) (v w : View) (p q : P) (seen : ℕ) (low : seen ≤ v.floor) where
     abbrev step : Option ℕ → Step
@@ -139,29 +159,39 @@ module _ {P : Type 0} (told : P → Step → P → Type 0) (costs : Costs) (wind
     pub passed_none : (bound : Option ℕ) → bound ≡ None → IsBound costs window b bound → told p (step bound) q → w ≡ after_limit seen v
         → HasWalked told costs window ceiling b v w p q
     passed_none bound none is_bound was_told is =
-        ended b v w p q (begun b v w p q bound seen is_bound low was_told [] []
+        ended (b ∷ []) v w p q (begun b v w p q bound seen is_bound low was_told [] []
         (ap (offered_under (limit_at ceiling seen) b) none) (ap (opened_under (limit_at ceiling seen) b) none) is)
 
-    module _ (bound : Option ℕ) (n : ℕ) (some : bound ≡ Some n) (is_bound : IsBound costs window b bound) (was_told : told p (step bound) q) where
-      pub passed_above : limit_at ceiling seen < block_key n b → w ≡ after_limit seen v → HasWalked told costs window ceiling b v w p q
-      passed_above over is =
-          ended b v w p q (begun b v w p q bound seen is_bound low was_told [] []
-          (ap (offered_under (limit_at ceiling seen) b) some ∙ offered_none (limit_at ceiling seen) n b over)
-          (ap (opened_under (limit_at ceiling seen) b) some ∙ opened_none (limit_at ceiling seen) n b over) is)
+    pub passed_above : (bound : Option ℕ) (n : ℕ) → bound ≡ Some n → IsBound costs window b bound → told p (step bound) q → limit_at ceiling seen < block_key n b
+        → w ≡ after_limit seen v → HasWalked told costs window ceiling b v w p q
+    passed_above bound n some is_bound was_told over is =
+        ended (b ∷ []) v w p q (begun b v w p q bound seen is_bound low was_told [] []
+        (ap (offered_under (limit_at ceiling seen) b) some ∙ offered_none (limit_at ceiling seen) n b over)
+        (ap (opened_under (limit_at ceiling seen) b) some ∙ opened_none (limit_at ceiling seen) n b over) is)
 
-      pub offered_minute : (key least : ℕ) (u : View) → key ≡ block_key n b → block_key n b ≤ limit_at ceiling seen → b.span ≡ Minute
-          → u ≡ after_limit seen v → least ≤ u.low → w ≡ after_offer key least u → HasWalked told costs window ceiling b v w p q
-      offered_minute key least u same le span read under is =
-          ended b v w p q (begun b v w p q bound seen is_bound low was_told (block_key n b ∷ []) []
-          (ap (offered_under (limit_at ceiling seen) b) some ∙ (offered_is (limit_at ceiling seen) n b le ∙ ap (λ s. offered_by s (block_key n b)) span))
-          (ap (opened_under (limit_at ceiling seen) b) some ∙ (opened_is (limit_at ceiling seen) n b le ∙ ap (λ s. children_by s b) span))
-          (least, subst (λ u. least ≤ u.low) read under, is ∙ (ap (λ k. after_offer k least u) same ∙ ap (after_offer (block_key n b) least) read)))
+  module _ (b : Block) (v u : View) (p q : P) (bound : Option ℕ) (key : ℕ) (is_bound : IsBound costs window b bound) (opened : HasOpened told ceiling b bound key v u p q) where
+    its_key : block_key opened.least b ≤ limit_at ceiling opened.seen
+    its_key = subst (λ k. k ≤ limit_at ceiling opened.seen) opened.key_is opened.within
 
-      pub opened_block : block_key n b ≤ limit_at ceiling seen → b.span ≢ Minute → w ≡ after_limit seen v → IsWalking b v p (children b) w q
-      opened_block le long is =
-          begun b v w p q bound seen is_bound low was_told [] (children b)
-          (ap (offered_under (limit_at ceiling seen) b) some ∙ (offered_is (limit_at ceiling seen) n b le ∙ offers_nothing b.span (block_key n b) long))
-          (ap (opened_under (limit_at ceiling seen) b) some ∙ opened_is (limit_at ceiling seen) n b le) is
+    -- a minute that isn't passed over offers its key
+    pub offered_minute : (least : ℕ) (w : View) → b.span ≡ Minute → least ≤ u.low → w ≡ after_offer key least u → HasWalked told costs window ceiling b v w p q
+    offered_minute least w span under is =
+        ended (b ∷ []) v w p q (begun b v w p q bound opened.seen is_bound opened.low opened.kept (block_key opened.least b ∷ []) []
+        (ap (offered_under (limit_at ceiling opened.seen) b) opened.has
+        ∙ (offered_is (limit_at ceiling opened.seen) opened.least b its_key ∙ ap (λ s. offered_by s (block_key opened.least b)) span))
+        (ap (opened_under (limit_at ceiling opened.seen) b) opened.has ∙ (opened_is (limit_at ceiling opened.seen) opened.least b its_key ∙ ap (λ s. children_by s b) span)) (
+          least,
+          subst (λ (u : View). least ≤ u.low) opened.view under,
+          is ∙ (ap (λ k. after_offer k least u) opened.key_is ∙ ap (after_offer (block_key opened.least b) least) opened.view),
+        ))
+
+    -- and a longer block opens its children
+    pub opened_block : b.span ≢ Minute → IsWalking (b ∷ []) v p (children b) u q
+    opened_block long =
+        begun b v u p q bound opened.seen is_bound opened.low opened.kept [] (children b)
+        (ap (offered_under (limit_at ceiling opened.seen) b) opened.has
+        ∙ (offered_is (limit_at ceiling opened.seen) opened.least b its_key ∙ offers_nothing b.span (block_key opened.least b) long))
+        (ap (opened_under (limit_at ceiling opened.seen) b) opened.has ∙ opened_is (limit_at ceiling opened.seen) opened.least b its_key) opened.view
 
 -- each child is of a shorter span
 shorter_is_less : (s : Span) → s ≢ Minute → depth (shorter s) < depth s

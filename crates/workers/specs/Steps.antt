@@ -1,12 +1,12 @@
 -- The steps of visits, one for each block that they come to.
-use Rattle.std.specs.Prelude.{ℕ, ◌≡◌, ◌≤◌, List, [], ◌∷◌, ◌++◌, Option}
+use Rattle.std.specs.Prelude.{ℕ, ◌≡◌, ◌≤◌, List, [], ◌∷◌, ◌++◌, Option, Some}
 use Rattle.std.specs.List.{FoldsTo}
 use Rattle.signal_base.specs.declared.window.Window.{Window}
 use Rattle.definitions.specs.declared.block.Block.{Block}
 use Rattle.definitions.specs.declared.block.Span.{Span}
 use Rattle.definitions.specs.declared.block.Span.TheVariants.{Year, Day, Hour, Minute}
 use Rattle.definitions.specs.heard.Costs.{Costs}
-use Rattle.definitions.specs.answers.Blocks.{IsBound}
+use Rattle.definitions.specs.answers.Blocks.{IsBound, block_key}
 use Rattle.race_words.specs.declared.view.View.{View}
 use Rattle.race_words.specs.Views.{after_limit, after_offer}
 use Rattle.workers.specs.Visits.{limit_at, offered_under, opened_under}
@@ -48,21 +48,42 @@ Offers (key ∷ keys) v w = (least : ℕ) × (least ≤ v.low) × Offers keys (a
 abbrev pub Takes : ℕ → View → Step → View → Type 0
 Takes ceiling v s w = (s.seen ≤ v.floor) × Offers (offered_at ceiling s) (after_limit s.seen v) w
 
--- A block was visited by some steps. The view v became w by them, and what keeps them was told of each, which made p q.
-pub record HasWalked {P : Type 0} (told : P → Step → P → Type 0) (costs : Costs) (window : Window) (ceiling : ℕ) (b : Block) (v w : View) (p q : P) : Type 0 where
+-- Blocks were visited by some steps, one after the other. The view v became w by them, and what keeps them was told of each,
+-- which made p q.
+pub record HaveWalked {P : Type 0} (told : P → Step → P → Type 0) (costs : Costs) (window : Window) (ceiling : ℕ) (bs : List Block) (v w : View) (p q : P) : Type 0 where
   pub steps : List Step
-  pub are : AreSteps costs window ceiling (b ∷ []) steps
+  pub are : AreSteps costs window ceiling bs steps
   pub view : FoldsTo (Takes ceiling) v steps w
   pub kept : FoldsTo told p steps q
 
--- A visit of a block stopped, since a step couldn't be kept. What keeps them was told of the first ones, which made p some r,
+-- the same of one block
+abbrev pub HasWalked : {P : Type 0} → (P → Step → P → Type 0) → Costs → Window → ℕ → Block → View → View → P → P → Type 0
+HasWalked told costs window ceiling b = HaveWalked told costs window ceiling (b ∷ [])
+
+-- A visit of blocks stopped, since a step couldn't be kept. What keeps them was told of the first ones, which made p some r,
 -- and failed at the next, which made it q. The view's share and what it drew are as before.
-pub record HasStopped {P : Type 0} (told : P → Step → P → Type 0) (fails : P → P → Type 0) (costs : Costs) (window : Window) (ceiling : ℕ) (b : Block) (v w : View) (p q : P) : Type 0 where
+pub record HaveStopped {P : Type 0} (told : P → Step → P → Type 0) (fails : P → P → Type 0) (costs : Costs) (window : Window) (ceiling : ℕ) (bs : List Block) (v w : View) (p q : P) : Type 0 where
   pub steps : List Step
-  pub are : AreFirstSteps costs window ceiling (b ∷ []) steps
+  pub are : AreFirstSteps costs window ceiling bs steps
   pub kept : (r : P) × FoldsTo told p steps r × fails r q
   pub share : w.share ≡ v.share
   pub drawn : w.drawn ≡ v.drawn
+
+-- the same of one block
+abbrev pub HasStopped : {P : Type 0} → (P → Step → P → Type 0) → (P → P → Type 0) → Costs → Window → ℕ → Block → View → View → P → P → Type 0
+HasStopped told fails costs window ceiling b = HaveStopped told fails costs window ceiling (b ∷ [])
+
+-- A visit came to a block and doesn't pass it over: the block has a bound, and the key is its key by that bound and not above
+-- the limit. The view v became w by the one read, and what keeps the steps was told of it, which made p q.
+pub record HasOpened {P : Type 0} (told : P → Step → P → Type 0) (ceiling : ℕ) (b : Block) (bound : Option ℕ) (key : ℕ) (v w : View) (p q : P) : Type 0 where
+  pub least : ℕ
+  pub seen : ℕ
+  pub has : bound ≡ Some least
+  pub key_is : key ≡ block_key least b
+  pub within : key ≤ limit_at ceiling seen
+  pub low : seen ≤ v.floor
+  pub view : w ≡ after_limit seen v
+  pub kept : told p (record { block = b; bound = bound; seen = seen }) q
 
 -- how many spans are shorter
 abbrev pub depth : Span → ℕ

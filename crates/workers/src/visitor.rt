@@ -1,17 +1,18 @@
 //! Visits of blocks, down to the minutes.
 
-ghost use Rattle.std.specs.Prelude.{◌≡◌, ◌≤◌, OnOk, OnErr};
-ghost use Rattle.definitions.specs.declared.block.Span.TheVariants.{Minute};
+ghost use Rattle.std.specs.Prelude.{◌≡◌, ◌<◌, ◌≤◌, IfNone, IfOk, IfSome, OnOk, OnErr};
+ghost use Rattle.definitions.specs.declared.block.Span.TheVariants.{Hour, Minute};
 ghost use Rattle.std.specs.Option.{ForSome};
 ghost use Rattle.definitions.specs.sequences.Windows.{IsWindow};
-ghost use Rattle.definitions.specs.answers.Blocks.{IsBlock, IsBound};
+ghost use Rattle.definitions.specs.answers.Blocks.{IsBlock, IsBound, children};
 ghost use Rattle.field_tables.specs.Scored.{costs_of};
 ghost use Rattle.signal_base.specs.declared.limits.TheConstants.{GREATEST_COST};
+ghost use Rattle.race_words.specs.Keys.{no_key};
 ghost use Rattle.workers.specs.Visits.{limit_at};
-ghost use Rattle.workers.specs.Steps.{HasStopped, HasWalked};
+ghost use Rattle.workers.specs.Steps.{HasOpened, HasStopped, HasWalked, HaveStopped, HaveWalked};
 
 use crate::recorder::Recorder;
-use bounds::{Bounded, block_key, bound, bounded_children};
+use bounds::{Bounded, block_key, bound, bounded_children, bounded_minutes};
 use definitions::{Block, Span, children_share_the_sequences};
 use field_tables::Tables;
 use race_words::{Race, Seat};
@@ -50,8 +51,7 @@ impl Visitor<'_> {
         self.visit_block(seat, &found, recorder)
     }
 
-    // Visits a block whose bound is known. It reads the race's limit once, and then passes the block over, or visits its
-    // children; of a minute it offers the key.
+    // Visits a block whose bound is known: passes it over, or visits its children; of a minute it offers the key.
     fn visit_block<K: Recorder>(
         &self,
         seat: &mut Seat,
@@ -71,30 +71,47 @@ impl Visitor<'_> {
         if found.block.span == Span::Minute {
             return self.visit_minute(seat, found, recorder);
         }
-        children_share_the_sequences();
-        let seen = self.race.limit(seat);
-        recorder.record(&found.block, found.bound, seen)?;
-        let Some(bound) = found.bound else {
+        let opened = self.come_to(seat, found, recorder)?;
+        let Some(_key) = opened else {
             return Ok(());
         };
-        let key = block_key(bound, &found.block);
-        let limit = limit_at(self.ceiling, seen);
-        if key > limit {
+        if found.block.span == Span::Hour {
+            self.visit_minutes(seat, &found.block, recorder)?;
             return Ok(());
         }
+        children_share_the_sequences();
         let mut children = bounded_children(self.tables, &found.block);
         while let Some(child) = children.next() {
-            // Most visits are those of minutes, so that they are kept apart from the rest.
-            if child.block.span == Span::Minute {
-                self.visit_minute(seat, &child, recorder)?;
-                continue;
-            }
             self.visit_block(seat, &child, recorder)?;
         }
         Ok(())
     }
 
-    // Visits a minute whose bound is known. It reads the race's limit once, and then passes the minute over, or offers its key.
+    // Visits the minutes of an hour, one after the other. Over noise these are nearly all visits of a search.
+    fn visit_minutes<K: Recorder>(
+        &self,
+        seat: &mut Seat,
+        hour: &Block,
+        recorder: &mut K,
+    ) -> Result<(), K::Fault>
+        requires race { seat.old.race ≡ self.now.race.now.id }
+        requires block { IsBlock self.now.tables.now.window hour.now }
+        requires hour { hour.now.span ≡ Hour }
+        ensures race { seat.new.race ≡ seat.old.race }
+        ensures walked { let t = self.now.tables.now in
+            OnOk result (HaveWalked K.told (costs_of t) t.window self.now.ceiling (children hour.now) seat.old.view seat.new.view recorder.old recorder.new) }
+        ensures stopped { let t = self.now.tables.now in
+            OnErr result (HaveStopped K.told K.fails (costs_of t) t.window self.now.ceiling (children hour.now) seat.old.view seat.new.view recorder.old recorder.new) }
+    {
+        let mut minutes = bounded_minutes(self.tables, hour);
+        while let Some(minute) = minutes.next() {
+            self.visit_minute(seat, &minute, recorder)?;
+        }
+        Ok(())
+    }
+
+    // Visits a minute whose bound is known: passes it over, or offers its key.
+    #[inline(always)]
     fn visit_minute<K: Recorder>(
         &self,
         seat: &mut Seat,
@@ -112,19 +129,47 @@ impl Visitor<'_> {
         ensures stopped { let t = self.now.tables.now in
             OnErr result (HasStopped K.told K.fails (costs_of t) t.window self.now.ceiling found.now.block seat.old.view seat.new.view recorder.old recorder.new) }
     {
-        children_share_the_sequences();
-        let read = self.race.limit(seat);
-        recorder.record(&found.block, found.bound, read)?;
-        let Some(bound) = found.bound else {
+        let opened = self.come_to(seat, found, recorder)?;
+        let Some(key) = opened else {
             return Ok(());
         };
-        let key = block_key(bound, &found.block);
-        let most = limit_at(self.ceiling, read);
-        if key > most {
-            return Ok(());
-        }
         self.race.offer(seat, key);
         Ok(())
+    }
+
+    // Comes to a block whose bound is known: reads the race's limit, once. The block's key, or None where the block is passed
+    // over.
+    #[inline(always)]
+    fn come_to<K: Recorder>(
+        &self,
+        seat: &mut Seat,
+        found: &Bounded,
+        recorder: &mut K,
+    ) -> Result<Option<u64>, K::Fault>
+        requires race { seat.old.race ≡ self.now.race.now.id }
+        requires block { IsBlock self.now.tables.now.window found.now.block }
+        requires bound { let t = self.now.tables.now in IsBound (costs_of t) t.window found.now.block found.now.bound }
+        requires small { ForSome found.now.bound (λ n. n ≤ GREATEST_COST) }
+        ensures race { seat.new.race ≡ seat.old.race }
+        ensures passed { let t = self.now.tables.now in IfOk result (λ opened.
+            IfNone opened (HasWalked K.told (costs_of t) t.window self.now.ceiling found.now.block seat.old.view seat.new.view recorder.old recorder.new)) }
+        ensures opened { IfOk result (λ opened.
+            IfSome opened (λ key. HasOpened K.told self.now.ceiling found.now.block found.now.bound key seat.old.view seat.new.view recorder.old recorder.new)) }
+        ensures key { IfOk result (λ opened. IfSome opened (λ key. key < no_key)) }
+        ensures stopped { let t = self.now.tables.now in
+            OnErr result (HasStopped K.told K.fails (costs_of t) t.window self.now.ceiling found.now.block seat.old.view seat.new.view recorder.old recorder.new) }
+    {
+        let seen = self.race.limit(seat);
+        recorder.record(&found.block, found.bound, seen)?;
+        let Some(bound) = found.bound else {
+            return Ok(None);
+        };
+        let key = block_key(bound, &found.block);
+        let limit = limit_at(self.ceiling, seen);
+        if key > limit {
+            return Ok(None);
+        }
+        Ok(Some(key))
     }
 }
 

@@ -1,51 +1,40 @@
-use Rattle.std.proofs.Common.{◌≡◌, ◌+◌, ◌-◌, ◌<◌, ℕ, slice_index, sym, ap, ◌∙◌, subst, arith}
-use Rattle.signal_base.specs.declared.window.Window.{Window}
-use Rattle.definitions.specs.declared.block.Block.{Block}
-use Rattle.definitions.specs.declared.sequence.Sequence.{Sequence}
-use Rattle.definitions.specs.answers.Blocks.{first_of}
-use Rattle.definitions.specs.heard.Costs.{sequence_cost}
-use Rattle.definitions.specs.sequences.Walks.{IsLegal}
-use Rattle.plain_costs.specs.Grids.{grid_costs}
-use Rattle.plain_costs.proofs.AgreementLaws.{sequence_same}
-use Rattle.field_tables.specs.Hours.{IsMinuteOf, ScoredHour, sequence_at}
+-- What is known of the hour's fields holds of what contracts see.
+use Rattle.std.proofs.Common.{◌+◌, ◌<◌, sym, subst, arith}
+use Rattle.definitions.specs.answers.Blocks.{IsBlock, IsMinuteBound, first_of}
+use Rattle.definitions.specs.sequences.Walks.{IsSequence}
+use Rattle.field_tables.specs.Hours.{ScoredHour, minute_at}
 use Rattle.field_tables.specs.Scored.{costs_of}
-use Rattle.field_tables.specs.Sums.{costs_by}
-use Rattle.field_tables.proofs.MinuteLaws.{entry_of, same_minute}
+use Rattle.field_tables.proofs.MinuteLaws.{is_sequence, minute_is_block}
 use Rattle.field_tables.proofs.hour.HourCosts.bound.Goals as goal
 
-pub returns-then-not-self-i-clause-bound : goal.returns-then-not-self-i-clause-bound
-returns-then-not-self-i-clause-bound c = λ legal.
-    let sums = c.self.inside.sums.now in
-    let h = c.self.inside.hour in
-    let b = c.args.minute.now in
-    let minute = subst (λ (x : Block). IsMinuteOf x b) (sym (ap (λ (x : ScoredHour). x.block) c.self.view_is)) c.requires in
-    let here = c.self.invariant.1.legal (b.lo - h.lo) (entry_of h b minute) in
-    let told = here.1 (subst (IsLegal sums.window) (sym (same_minute h b minute))
-    (subst (λ (x : Window). IsLegal x (first_of b)) (sym (ap (λ (x : ScoredHour). x.tables.window) c.self.view_is)) legal)) in
-    let both = sym told ∙ c.if-not-self-i.true in
-    absurd cc
+pub bound-requires : goal.bound-requires
+bound-requires c =
+    let within = subst (λ (x : ScoredHour). x.block.lo + c.args.i < x.block.hi) (sym c.self.view_is) c.requires in
+    omega (arith, within, c.self.invariant.is_row.few)
+
+pub returns-clause-block : goal.returns-clause-block
+returns-clause-block c =
+    let h = c.self.inside in
+    let within = subst (λ (x : ScoredHour). x.block.lo + c.args.i < x.block.hi) (sym c.self.view_is) c.requires in
+    subst (λ (x : ScoredHour). IsBlock x.tables.window (minute_at x.block c.args.i)) c.self.view_is
+    (minute_is_block h.tables.now.window h.hour c.args.i c.self.invariant.block within)
+
+pub returns-clause-sequence : goal.returns-clause-sequence
+returns-clause-sequence c =
+    let h = c.self.inside in
+    let within = subst (λ (x : ScoredHour). x.block.lo + c.args.i < x.block.hi) (sym c.self.view_is) c.requires in
+    subst (λ (x : ScoredHour). IsSequence (first_of (minute_at x.block c.args.i))) c.self.view_is
+    (is_sequence h.tables.now.window (minute_at h.hour c.args.i) c.self.invariant.window
+    (minute_is_block h.tables.now.window h.hour c.args.i c.self.invariant.block within))
 
 pub returns-clause-bound : goal.returns-clause-bound
 returns-clause-bound c =
-    let sums = c.self.inside.sums.now in
-    let grids = c.self.inside.grids.now in
-    let h = c.self.inside.hour in
-    let b = c.args.minute.now in
-    let minute = subst (λ (x : Block). IsMinuteOf x b) (sym (ap (λ (x : ScoredHour). x.block) c.self.view_is)) c.requires in
-    let entry = entry_of h b minute in
-    let same = same_minute h b minute in
-    let row = c.self.invariant.1 in
-    let legal = (row.legal (b.lo - h.lo) entry).0 c.if-not-self-i.false in (
-      subst (λ (x : Window). IsLegal x (first_of b)) (ap (λ (x : ScoredHour). x.tables.window) c.self.view_is) (subst (IsLegal sums.window) same legal),
-      row.cost (b.lo - h.lo) entry c.if-not-self-i.false
-          ∙ ap (sequence_cost (costs_by sums) sums.window) same
-          ∙ sequence_same sums.window (costs_by sums) (grid_costs grids) (first_of b) c.self.invariant.0.agree
-          ∙ ap (λ (x : ScoredHour). sequence_cost (costs_of x.tables) x.tables.window (first_of b)) c.self.view_is,
-    )
+    let h = c.self.inside in
+    let within = subst (λ (x : ScoredHour). x.block.lo + c.args.i < x.block.hi) (sym c.self.view_is) c.requires in
+    subst (λ (x : ScoredHour). IsMinuteBound (costs_of x.tables) x.tables.window (minute_at x.block c.args.i) c.bound.result) c.self.view_is
+    (rw c.bound.ensures (c.self.invariant.is_row.bound c.args.i within))
 
 pub returns-clause-small : goal.returns-clause-small
 returns-clause-small c =
-    let h = c.self.inside.hour in
-    let b = c.args.minute.now in
-    let minute = subst (λ (x : Block). IsMinuteOf x b) (sym (ap (λ (x : ScoredHour). x.block) c.self.view_is)) c.requires in
-    c.self.invariant.1.small (b.lo - h.lo) (entry_of h b minute)
+    let within = subst (λ (x : ScoredHour). x.block.lo + c.args.i < x.block.hi) (sym c.self.view_is) c.requires in
+    rw c.bound.ensures (c.self.invariant.is_row.small c.args.i within)
