@@ -1,8 +1,10 @@
 -- The children of a block, as contracts see those that are left.
 use Rattle.std.specs.Prelude.{ℕ, ◌≡◌, ◌+◌, ◌-◌, ◌≤◌, List}
+use Rattle.std.specs.List.{AllByRecursion}
 use Rattle.definitions.specs.declared.block.Span.TheVariants.{Hour, Minute}
 use Rattle.definitions.specs.declared.block.Block.{Block}
 use Rattle.definitions.specs.answers.Blocks.{blocks}
+use Rattle.field_tables.specs.Days.{IsHourOf, ScoredDay}
 use Rattle.field_tables.specs.Scored.{Scored}
 
 -- blocks of a window, which are bounded by its tables
@@ -19,3 +21,8 @@ pub record HasGiven (hour : Block) (given : ℕ) : Type 0 where
   pub span : hour.span ≡ Hour
   pub few : hour.hi ≤ hour.lo + 60
   pub within : hour.lo + given ≤ hour.hi
+
+-- the tables bound the day's hours, and the blocks are some of them
+pub record AreHoursOf (tables : Scored) (left : List Block) (day : ScoredDay) : Type 0 where
+  pub same : day.tables ≡ tables
+  pub hours : AllByRecursion (IsHourOf day.block) left

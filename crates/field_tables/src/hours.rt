@@ -28,10 +28,7 @@ impl WindowSums {
         if block.hi - block.lo != MINUTES_PER_DAY || block.lo % MINUTES_PER_DAY != 0 {
             return None;
         }
-        if !self.has_short_walks(civil, block) {
-            return None;
-        }
-        if block.hi + self.later_minutes(block.second) > self.end {
+        if !self.has_regular_walks(civil, block) {
             return None;
         }
         Some(self.hour_costs(block))

@@ -1,4 +1,4 @@
-use Rattle.std.proofs.Common.{◌≡◌, ◌+◌, ◌≤◌, ◌∙◌, ap, subst, sym, arith}
+use Rattle.std.proofs.Common.{◌∙◌, ap, subst, sym, arith}
 use Rattle.definitions.specs.declared.block.Block.{Block}
 use Rattle.bounds.specs.Rows.{HasGiven, minutes_after}
 use Rattle.bounds.proofs.MinuteLists.{all_of, at_most_sixty}

@@ -1,5 +1,5 @@
 -- The next minute is the first of those that are left.
-use Rattle.std.proofs.Common.{◌≡◌, [], ◌∷◌, ◌+◌, ◌<◌, ◌≤◌, ◌∙◌, ap, sym, subst, arith}
+use Rattle.std.proofs.Common.{◌∷◌, ◌+◌, ◌<◌, ◌≤◌, ◌∙◌, ap, sym, subst, arith}
 use Rattle.definitions.specs.declared.block.Block.{Block}
 use Rattle.field_tables.specs.Hours.{minute_at}
 use Rattle.bounds.specs.Rows.{Row, minutes_after}
