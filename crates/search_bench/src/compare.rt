@@ -10,16 +10,16 @@ ghost use Rattle.search_bench.specs.declared.compare.TheConstants.{LONG_REACH};
 
 use crate::case::Case;
 use crate::chance::Chance;
-use crate::draw::{draw_block, draw_sequence};
+use crate::draw::{draw_block, draw_item, draw_sequence, draw_slot};
 use crate::fault::Fault;
 use crate::noise::noisy_bank;
 use crate::places::{PLACES, Place, minute_at};
-use crate::plain::plain_bound;
+use crate::plain::{plain_bound, plain_union};
 use crate::tally::Tally;
 use bank::{grids_of, window_of};
 use bounds::{Bounded, bound, items};
 use civil::Civil;
-use definitions::{Block, CENTURY_MINUTES, Sequence};
+use definitions::{Block, CENTURY_MINUTES, MINUTES_PER_DAY, Sequence};
 use field_tables::Tables;
 use formats::Asked;
 use plain_costs::plain_cost;
@@ -30,24 +30,43 @@ use std::alloc::Global;
 // Each station alone, and all four.
 const STATION_SETS: u8 = 5;
 
+const STATIONS_ALONE: u8 = 4;
+
 // Half of the windows are no longer than this.
 const FEW_SECONDS: u16 = 180;
 
-// How many minutes a range reaches at most to either side of its place: within an hour, over some hours, over some days.
+// How many minutes a range reaches at most to either side of its place: to the next minute, within an hour, over some hours,
+// over some days.
+const NEXT_MINUTE: u32 = 1;
+
 const SHORT_REACH: u32 = 20;
 
 const REACH: u32 = 300;
 
 const LONG_REACH: u32 = 4000;
 
+// A range of whole years.
+const LONGEST_YEAR: u32 = 366 * MINUTES_PER_DAY;
+
+const SHORTEST_YEAR: u32 = 365 * MINUTES_PER_DAY;
+
 // So many blocks are drawn for a window. Those are left out whose sequences have more slots together than are left of so
 // many.
 const DRAWS: u32 = 1000;
 
-const MOST_SLOTS: u64 = 3_000_000;
+const MOST_SLOTS: u64 = 2_000_000;
 
 // So many sequences are drawn for a window.
 const SEQUENCES: u32 = 200;
+
+// What is compared of a window.
+#[derive(Clone, Copy, PartialEq, Eq)]
+enum Extent {
+    // Blocks and sequences by chance.
+    Parts,
+    // One block that is a whole year.
+    Year,
+}
 
 /// Compares, and prints how much.
 pub fn compare<R: Print + AllocGlobal>(rt: &R, seed: u64) -> Result<(), Fault> {
@@ -58,18 +77,34 @@ pub fn compare<R: Print + AllocGlobal>(rt: &R, seed: u64) -> Result<(), Fault> {
         let mut tally = Tally::new();
         for set in 0..STATION_SETS {
             let t = minute_at(&civil, &mut chance, place);
-            let asked = asked_near(&mut chance, t);
+            let asked = asked_near(&mut chance, place, t);
             compare_window(
                 alloc,
                 &civil,
                 &mut chance,
                 stations(set),
                 &asked,
+                Extent::Parts,
                 &mut tally,
             )?;
         }
         println!(rt; "{place}: {tally}")?;
     }
+    let mut tally = Tally::new();
+    for set in 0..STATIONS_ALONE {
+        let t = minute_at(&civil, &mut chance, Place::YearEnd);
+        let asked = year_from(t);
+        compare_window(
+            alloc,
+            &civil,
+            &mut chance,
+            stations(set),
+            &asked,
+            Extent::Year,
+            &mut tally,
+        )?;
+    }
+    println!(rt; "whole years: {tally}")?;
     Ok(())
 }
 
@@ -97,11 +132,11 @@ fn stations(set: u8) -> &'static [Station]
 }
 
 // A window that may begin in some minutes around this one.
-fn asked_near(chance: &mut Chance, t: u32) -> Asked
+fn asked_near(chance: &mut Chance, place: Place, t: u32) -> Asked
     requires { t < century_minutes }
     ensures { IsAsked result }
 {
-    let reach = reach(chance);
+    let reach = reach(chance, place);
     let before = chance.between(0, reach);
     let after = chance.between(0, reach);
     let most = if chance.flip() {
@@ -117,10 +152,26 @@ fn asked_near(chance: &mut Chance, t: u32) -> Asked
     }
 }
 
+// A short window that may begin in each minute of the year that begins in this one.
+fn year_from(t: u32) -> Asked
+    requires { t < century_minutes }
+    ensures { IsAsked result }
+{
+    Asked {
+        start: Some(0),
+        seconds: LEAST_SECONDS,
+        from: t,
+        to: (t + LONGEST_YEAR).min(CENTURY_MINUTES),
+    }
+}
+
 // How far a range reaches at most.
-fn reach(chance: &mut Chance) -> u32
+fn reach(chance: &mut Chance, place: Place) -> u32
     ensures { result ≤ LONG_REACH }
 {
+    if place == Place::CallSigns {
+        return NEXT_MINUTE;
+    }
     match chance.below(3) {
         0 => SHORT_REACH,
         1 => REACH,
@@ -135,6 +186,7 @@ fn compare_window(
     chance: &mut Chance,
     stations: &[Station],
     asked: &Asked,
+    extent: Extent,
     tally: &mut Tally,
 ) -> Result<(), Fault>
     requires some { 1 ≤ length stations.now }
@@ -152,6 +204,9 @@ fn compare_window(
         window,
     };
     tally.count_window();
+    if extent == Extent::Year {
+        return compare_year(alloc, &case, chance, tally);
+    }
     compare_blocks(alloc, &case, chance, tally)?;
     for _ in 0..SEQUENCES {
         let q = draw_sequence(&case.window, chance);
@@ -177,6 +232,26 @@ fn compare_blocks(
         if slots <= slots_left {
             slots_left -= slots;
             compare_block(case, &found, tally)?;
+            compare_unions(case, &found.block, chance, tally)?;
+        }
+    }
+    Ok(())
+}
+
+// Compares the bound of one whole year, for some first second.
+fn compare_year(
+    alloc: Global,
+    case: &Case,
+    chance: &mut Chance,
+    tally: &mut Tally,
+) -> Result<(), Fault> {
+    let list = items(alloc, case.civil, &case.window)?;
+    for _ in 0..DRAWS {
+        let Some(found) = draw_item(case.tables, &list, chance) else {
+            return Ok(());
+        };
+        if found.block.hi.saturating_sub(found.block.lo) >= SHORTEST_YEAR {
+            return compare_block(case, &found, tally);
         }
     }
     Ok(())
@@ -205,6 +280,36 @@ fn compare_block(case: &Case, found: &Bounded, tally: &mut Tally) -> Result<(), 
             in_row: found.bound,
             plain,
         });
+    }
+    Ok(())
+}
+
+// Compares the unions of a block in one slot, for each station.
+fn compare_unions(
+    case: &Case,
+    block: &Block,
+    chance: &mut Chance,
+    tally: &mut Tally,
+) -> Result<(), Fault>
+    requires { IsBlock case.now.window block.now }
+{
+    let slot = draw_slot(&case.window, chance);
+    for grid in case.grids {
+        let station = grid.station();
+        if !case.window.stations.has(station) {
+            continue;
+        }
+        let quick = case.tables.union_at(station, block, slot);
+        let plain = plain_union(case, station, block, slot);
+        tally.count_union(plain);
+        if quick != plain {
+            return Err(Fault::Unions {
+                block: *block,
+                slot,
+                quick,
+                plain,
+            });
+        }
     }
     Ok(())
 }

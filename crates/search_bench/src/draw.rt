@@ -26,13 +26,29 @@ pub fn draw_block(tables: &Tables, items: &[Block], chance: &mut Chance) -> Opti
     requires { AllByRecursion (IsBlock tables.now.window) items.now }
     ensures { IfSome result (λ found. IsBlock tables.now.window found.block) }
 {
-    let count = items.len().min(u32::MAX as usize) as u32;
+    let item = draw_from(items, chance)?;
+    let depth = chance.below(DEPTH + 1);
+    Some(descendant(tables, item, depth, chance))
+}
+
+/// One of the items by chance, with its bound.
+pub fn draw_item(tables: &Tables, items: &[Block], chance: &mut Chance) -> Option<Bounded>
+    requires { AllByRecursion (IsBlock tables.now.window) items.now }
+    ensures { IfSome result (λ found. IsBlock tables.now.window found.block) }
+{
+    let item = draw_from(items, chance)?;
+    Some(descendant(tables, item, 0, chance))
+}
+
+// One of the blocks.
+fn draw_from<'a>(blocks: &'a [Block], chance: &mut Chance) -> Option<&'a Block>
+    ensures { IfSome result (λ block. IsMember blocks.now block.now) }
+{
+    let count = blocks.len().min(u32::MAX as usize) as u32;
     if count == 0 {
         return None;
     }
-    let item = &items[chance.below(count) as usize];
-    let depth = chance.below(DEPTH + 1);
-    Some(descendant(tables, item, depth, chance))
+    Some(&blocks[chance.below(count) as usize])
 }
 
 // A part of the item that is so many steps below it.
@@ -83,6 +99,14 @@ fn nth_child(tables: &Tables, block: &Block, number: u32) -> Option<Bounded>
         let _passed = row.next()?;
     }
     row.next()
+}
+
+/// A slot of the window by chance.
+pub fn draw_slot(window: &Window, chance: &mut Chance) -> u16
+    requires { IsWindow window.now }
+    ensures { result < window.now.seconds }
+{
+    chance.below(window.seconds as u32) as u16
 }
 
 /// A sequence by chance that begins in the window's range or beside it.

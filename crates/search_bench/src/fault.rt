@@ -32,6 +32,17 @@ pub enum Fault {
         /// The bound by a walk through each slot of its sequences.
         plain: Option<u32>,
     },
+    /// The unions of a block differ.
+    Unions {
+        /// The block.
+        block: Block,
+        /// The slot of the window.
+        slot: u16,
+        /// The union that the tables tell.
+        quick: Option<u8>,
+        /// The union by a walk to the slot of each of its sequences.
+        plain: Option<u8>,
+    },
     /// A sequence is legal by one way and not by the other, or costs another sum.
     Sequences(Sequence),
     /// Two searches of the same window found other keys.
@@ -55,6 +66,15 @@ impl fmt::Display for Fault {
             } => write!(
                 f,
                 "bounds differ: {alone:?} alone, {in_row:?} in its row, {plain:?} plainly, of {block:?}"
+            ),
+            Fault::Unions {
+                block,
+                slot,
+                quick,
+                plain,
+            } => write!(
+                f,
+                "unions differ in slot {slot}: {quick:?}, {plain:?} plainly, of {block:?}"
             ),
             Fault::Sequences(sequence) => write!(f, "legality or costs differ: {sequence:?}"),
             Fault::Searches => f.write_str("searches of one window found different keys"),

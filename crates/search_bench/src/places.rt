@@ -14,6 +14,11 @@ const HOURS_PER_YEAR: u32 = 366 * 24;
 // In the last so many hours of the century each station's own century ends.
 const LAST_HOURS: u32 = 12;
 
+// JJY sends its call sign in so manieth minute of each half hour.
+const HALF_HOUR: u32 = 30;
+
+const CALL_SIGN: u32 = 15;
+
 /// Where windows are compared.
 #[derive(Clone, Copy, Debug, PartialEq, Eq)]
 pub enum Place {
@@ -27,6 +32,8 @@ pub enum Place {
     AmericanSummer,
     /// Where a year ends.
     YearEnd,
+    /// In minutes in which JJY sends its call sign.
+    CallSigns,
     /// At the first minute of the century.
     FirstMinute,
     /// Where the century ends for the stations.
@@ -34,12 +41,13 @@ pub enum Place {
 }
 
 /// All places.
-pub const PLACES: [Place; 7] = [
+pub const PLACES: [Place; 8] = [
     Place::Anywhere,
     Place::LeapEnd,
     Place::EuropeanSummer,
     Place::AmericanSummer,
     Place::YearEnd,
+    Place::CallSigns,
     Place::FirstMinute,
     Place::LastMinutes,
 ];
@@ -52,6 +60,7 @@ impl fmt::Display for Place {
             Place::EuropeanSummer => "European summer time",
             Place::AmericanSummer => "American summer time",
             Place::YearEnd => "year ends",
+            Place::CallSigns => "call signs",
             Place::FirstMinute => "the first minute",
             Place::LastMinutes => "the last minutes",
         })
@@ -66,6 +75,7 @@ pub fn minute_at(civil: &Civil, chance: &mut Chance, place: Place) -> u32
         Place::FirstMinute => 0,
         Place::LastMinutes => { CENTURY_MINUTES - 1 - MINUTES_PER_HOUR * chance.below(LAST_HOURS) }
         Place::Anywhere => chance.below(CENTURY_MINUTES),
+        Place::CallSigns => { HALF_HOUR * chance.below(CENTURY_MINUTES / HALF_HOUR) + CALL_SIGN }
         _ => next_event(civil, place, MINUTES_PER_DAY * chance.below(CENTURY_DAYS)),
     }
 }
@@ -100,6 +110,6 @@ fn comes_at(civil: &Civil, place: Place, t: u32) -> bool
         Place::EuropeanSummer => civil.eu_summer(t) != civil.eu_summer(before),
         Place::AmericanSummer => civil.us_code(t) != civil.us_code(before),
         Place::YearEnd => civil.utc(t).year != civil.utc(before).year,
-        Place::Anywhere | Place::FirstMinute | Place::LastMinutes => true,
+        Place::Anywhere | Place::CallSigns | Place::FirstMinute | Place::LastMinutes => true,
     }
 }

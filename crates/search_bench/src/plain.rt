@@ -1,13 +1,15 @@
-//! Bounds as their definition says them: by a walk through each slot of each sequence.
+//! Bounds and unions as their definitions say them: by a walk through each slot of each sequence.
 
-ghost use Rattle.std.specs.Prelude.{◌≡◌};
+ghost use Rattle.std.specs.Prelude.{◌≡◌, ◌<◌, true};
 ghost use Rattle.definitions.specs.answers.Blocks.{IsBlock, IsBound, IsMinuteBound, first_of};
+ghost use Rattle.definitions.specs.codes.Allowed.{has_station};
 ghost use Rattle.field_tables.specs.Grids.{grid_costs};
 
 use crate::case::Case;
 use definitions::{Block, Sequence, Span};
 use plain_costs::{plain_cost, union_bound};
-use sequence::legal;
+use sequence::{allowed, legal, walkable};
+use signal_base::Station;
 
 /// The bound of a block, by walks.
 pub fn plain_bound(case: &Case, block: &Block) -> Option<u32>
@@ -30,6 +32,35 @@ fn minute_bound(case: &Case, block: &Block) -> Option<u32>
         return None;
     }
     Some(plain_cost(case.grids, case.civil, &case.window, &q))
+}
+
+/// The union of the sets that the block's walkable sequences allow the station in a slot of the window, by walks. None where
+/// none of them is walkable.
+pub fn plain_union(case: &Case, station: Station, block: &Block, slot: u16) -> Option<u8>
+    requires block { IsBlock case.now.window block.now }
+    requires station { has_station case.now.window.stations station ≡ true }
+    requires slot { slot < case.now.window.seconds }
+{
+    let mut union = None;
+    for first in block.lo..block.hi {
+        let q = sequence_from(block, first);
+        if walkable(case.civil, &case.window, &q) {
+            let set = allowed(case.civil, station, &q, slot);
+            union = Some(union.unwrap_or(0) | set);
+        }
+    }
+    union
+}
+
+// The block's sequence from minute `first` on.
+fn sequence_from(block: &Block, first: u32) -> Sequence
+    ensures { (result.first ≡ first) × (result.second ≡ block.now.second) }
+{
+    Sequence {
+        first,
+        second: block.second,
+        announced: block.announced,
+    }
 }
 
 /// The first sequence of a block.

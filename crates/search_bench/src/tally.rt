@@ -14,6 +14,8 @@ pub struct Tally {
     announced: u32,
     from_leap_seconds: u32,
     without_bound: u32,
+    unions: u32,
+    unscored: u32,
     sequences: u32,
     walkable: u32,
     legal: u32,
@@ -31,6 +33,8 @@ impl Tally {
             announced: 0,
             from_leap_seconds: 0,
             without_bound: 0,
+            unions: 0,
+            unscored: 0,
             sequences: 0,
             walkable: 0,
             legal: 0,
@@ -55,6 +59,12 @@ impl Tally {
         count_if(&mut self.without_bound, bound.is_none());
     }
 
+    /// Counts a union.
+    pub fn count_union(&mut self, union: Option<u8>) {
+        count_if(&mut self.unions, true);
+        count_if(&mut self.unscored, union == Some(UNSCORED));
+    }
+
     /// Counts a sequence.
     pub fn count_sequence(&mut self, is_walkable: bool, is_legal: bool) {
         count_if(&mut self.sequences, true);
@@ -65,6 +75,9 @@ impl Tally {
 
 // The second that is inserted.
 const LEAP_SECOND: u8 = 60;
+
+// The set of a second that isn't scored: all eight bits.
+const UNSCORED: u8 = u8::MAX;
 
 fn count_if(count: &mut u32, counts: bool) {
     if counts {
@@ -83,6 +96,8 @@ impl fmt::Display for Tally {
             announced,
             from_leap_seconds,
             without_bound,
+            unions,
+            unscored,
             sequences,
             walkable,
             legal,
@@ -96,6 +111,7 @@ impl fmt::Display for Tally {
             f,
             ", of them {announced} announced, {from_leap_seconds} from second 60, {without_bound} without a bound"
         )?;
+        write!(f, "; {unions} unions, {unscored} of them not scored")?;
         write!(
             f,
             "; {sequences} sequences, {walkable} walkable, {legal} legal"
