@@ -108,3 +108,86 @@ fn ends_on_a_million_bytes(rt: HostRuntime) -> Result<(), Fail> {
     assert!(rt; read(&rt, &comment).err() == Some(missing(Key::Station)));
     Ok(())
 }
+
+// A configuration of one receiver with this name and this log.
+fn named(alloc: Global, name: &str, file: &str) -> Result<String, AllocError> {
+    format!(in alloc; "station = \"jjy\"\n[[receiver]]\nname = \"{name}\"\nlog = \"{file}\"\n")
+}
+
+// The longest that they may be, a byte more, and the characters beside those that a name may have.
+#[test]
+fn judges_names_and_logs(rt: HostRuntime) -> Result<(), Fail> {
+    let alloc = rt.alloc();
+    let bad_name = Some(out_of_range(Key::Name { receiver: 1 }));
+    let bad_log = Some(out_of_range(Key::File { receiver: 1 }));
+    let (name, log) = ("a".repeat(alloc, 32)?, "b".repeat(alloc, 200)?);
+    let (long_name, long_log) = ("a".repeat(alloc, 33)?, "b".repeat(alloc, 201)?);
+    for (name, log, fault) in [
+        (name.as_str(), log.as_str(), None),
+        (long_name.as_str(), log.as_str(), bad_name),
+        (name.as_str(), long_log.as_str(), bad_log),
+        ("az09_-", "b-", None),
+        ("`", "b", bad_name),
+        ("{", "b", bad_name),
+        ("/", "b", bad_name),
+        (":", "b", bad_name),
+    ] {
+        let text = named(alloc, name, log)?;
+        assert!(rt; read(&rt, text.as_bytes()).err() == fault, "{text}");
+    }
+    Ok(())
+}
+
+// A list of costs stands under its own key, and the other list is the usual one.
+#[test]
+fn reads_costs(rt: HostRuntime) -> Result<(), Fail> {
+    let alloc = rt.alloc();
+    let before = named(alloc, "a", "b")?;
+    let (low, high) = (
+        list(alloc, "low", 100, "200")?,
+        list(alloc, "high", 100, "0")?,
+    );
+    let text = format!(in alloc; "{before}[table]\n{low}")?;
+    let table = read(&rt, text.as_bytes())?.table;
+    assert!(rt; (table.low[0], table.low[99], table.low[100]) == (1, 1, 200));
+    assert!(rt; (table.high[0], table.high[99], table.high[100]) == (0, 99, 100));
+    let text = format!(in alloc; "{before}[table]\n{high}")?;
+    let table = read(&rt, text.as_bytes())?.table;
+    assert!(rt; (table.low[0], table.low[99], table.low[100]) == (100, 1, 0));
+    assert!(rt; (table.high[0], table.high[99], table.high[100]) == (1, 1, 0));
+    Ok(())
+}
+
+// A key that is known in one place is unknown in another.
+#[test]
+fn knows_keys_in_their_places(rt: HostRuntime) -> Result<(), Fail> {
+    let alloc = rt.alloc();
+    let bank = named(alloc, "a", "b")?;
+    let table = format!(in alloc; "{bank}[table]\n")?;
+    for (before, keys, behind) in [
+        (
+            "",
+            ["name", "log", "delay_ms", "weight", "low", "high"].as_slice(),
+            bank.as_str(),
+        ),
+        (
+            bank.as_str(),
+            ["ceiling", "receiver", "table", "low", "high"].as_slice(),
+            "",
+        ),
+        (
+            table.as_str(),
+            ["station", "ceiling", "receiver", "table", "name", "log"].as_slice(),
+            "",
+        ),
+    ] {
+        for key in keys {
+            let text = format!(in alloc; "{before}{key} = 1\n{behind}")?;
+            assert!(rt;
+                read(&rt, text.as_bytes()).err() == Some(ConfigFault::UnknownKey),
+                "{text}"
+            );
+        }
+    }
+    Ok(())
+}
