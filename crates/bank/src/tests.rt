@@ -76,7 +76,7 @@ pub(crate) const REPORT: &str =
 
 // A configuration and its log a.log.
 pub(crate) fn files_of(alloc: Global, config: &str, log: &str) -> Result<MemoryFiles, Fail> {
-    let mut files = MemoryFiles::make(alloc)?;
+    let mut files = MemoryFiles::make(alloc);
     files.put("k.toml", config.as_bytes())?;
     files.put("a.log", log.as_bytes())?;
     Ok(files)
@@ -122,7 +122,7 @@ fn refuses_words(rt: HostRuntime) -> Result<(), Fail> {
             "words: --to is before --from\n",
         ),
     ] {
-        let mut files = MemoryFiles::make(rt.alloc())?;
+        let mut files = MemoryFiles::make(rt.alloc());
         let words = words(rt.alloc(), line)?;
         assert_eq!(rt;
             run(&rt, rt.alloc(), &words, &mut files, &NoGate),
@@ -181,7 +181,7 @@ fn refuses_the_first_bad_log(rt: HostRuntime) -> Result<(), Fail> {
 
 #[test]
 fn lists_a_minute(rt: HostRuntime) -> Result<(), Fail> {
-    let mut files = MemoryFiles::make(rt.alloc())?;
+    let mut files = MemoryFiles::make(rt.alloc());
     let words = words(rt.alloc(), "encode jjy 2024-06-10T06:45Z")?;
     assert_eq!(rt; run(&rt, rt.alloc(), &words, &mut files, &NoGate), 0);
     assert!(rt; printed(&files, LISTING));
@@ -244,7 +244,7 @@ pub(crate) const SENTENCES: &str =
 // A name that is no file's.
 #[test]
 fn ends_at_a_missing_file(rt: HostRuntime) -> Result<(), Fail> {
-    let mut files = MemoryFiles::make(rt.alloc())?;
+    let mut files = MemoryFiles::make(rt.alloc());
     let words = words(rt.alloc(), HOUR)?;
     assert_eq!(rt; run(&rt, rt.alloc(), &words, &mut files, &NoGate), 6);
     assert!(rt; printed(&files, ""));

@@ -5,7 +5,7 @@
 //! A call fails where its number is on the list, where it reads a file that isn't there, or where it finds no
 //! memory for what is written. The last is counted besides as `starved`, so that a test can tell that the
 //! machine was short of memory from a fault that it asked for.
-ghost use Rattle.std.specs.Prelude.{◌≡◌, ◌∷◌, ◌++◌, ◌↔◌, ◌⊎◌, ◌≤◌, [], IfOk, OnOk, OnErr, IsTrue, unwrap_or};
+ghost use Rattle.std.specs.Prelude.{◌≡◌, ◌∷◌, ◌++◌, ◌↔◌, ◌⊎◌, ◌≤◌, [], OnOk, OnErr, IsTrue, unwrap_or};
 ghost use Rattle.std.specs.Option.{option_copied};
 ghost use Rattle.bank_files.specs.Fault.{greatest, raised};
 ghost use Rattle.bank_files.specs.Stored.{Sets, SameFiles};
@@ -32,11 +32,11 @@ pub struct MemoryFiles {
 impl MemoryFiles {
     ghost use Rattle.bank_files.specs.Memory.{contents_of, failing_calls, faults_of, starved_of, next_call, IsListed, SameTally, IsFresh};
 
-    /// An empty standard output and no other file. No call is to fail.
-    pub fn make(alloc: Global) -> Result<MemoryFiles, NoMemory>
-        ensures { IfOk result IsFresh }
+    /// An empty standard output and no other file. No call is to fail. It takes no memory.
+    pub fn make(alloc: Global) -> MemoryFiles
+        ensures { IsFresh result }
     {
-        Ok(MemoryFiles {
+        MemoryFiles {
             alloc,
             output: Vec::new(alloc),
             files: BTreeMap::new(alloc),
@@ -44,7 +44,7 @@ impl MemoryFiles {
             calls: 0,
             faults: 0,
             starved: 0,
-        })
+        }
     }
 
     /// Gives a file these bytes, whether it was there or not. Without memory all is as before.
@@ -225,7 +225,7 @@ pub(crate) mod tests {
 
     #[test]
     fn keeps_what_it_is_given(rt: HostRuntime) -> Result<(), Fail> {
-        let mut files = MemoryFiles::make(rt.alloc())?;
+        let mut files = MemoryFiles::make(rt.alloc());
         assert!(rt; holds(&files, "-", b""));
         assert!(rt; files.contents("a.log").is_none());
         files.put("a.log", b"12 on\n")?;
@@ -242,7 +242,7 @@ pub(crate) mod tests {
 
     #[test]
     fn listed_calls_fail(rt: HostRuntime) -> Result<(), Fail> {
-        let mut files = MemoryFiles::make(rt.alloc())?;
+        let mut files = MemoryFiles::make(rt.alloc());
         files.fail(2)?;
         files.fail(5)?;
         // Calls 1 to 6: only the second and the fifth fail, and change nothing.
@@ -261,7 +261,7 @@ pub(crate) mod tests {
 
     #[test]
     fn reads_a_part(rt: HostRuntime) -> Result<(), Fail> {
-        let mut files = MemoryFiles::make(rt.alloc())?;
+        let mut files = MemoryFiles::make(rt.alloc());
         files.put("a.log", b"0123456789")?;
         let mut room = *b"....";
         assert_eq!(rt; files.read_at("a.log", 3, &mut room), Ok(4));

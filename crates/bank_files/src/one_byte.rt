@@ -62,7 +62,7 @@ mod tests {
 
     #[test]
     fn a_byte_a_call(rt: HostRuntime) -> Result<(), Fail> {
-        let mut inner = MemoryFiles::make(rt.alloc())?;
+        let mut inner = MemoryFiles::make(rt.alloc());
         inner.put("a.log", b"0123456789")?;
         let mut files = OneByte { inner };
         let mut room = *b"....";
@@ -80,7 +80,7 @@ mod tests {
 
     #[test]
     fn whole_reads_and_writes(rt: HostRuntime) -> Result<(), Fail> {
-        let mut inner = MemoryFiles::make(rt.alloc())?;
+        let mut inner = MemoryFiles::make(rt.alloc());
         inner.put("a.log", b"0123456789")?;
         // Ten bytes and the end of the file are eleven calls; the third of the writes fails.
         inner.fail(14)?;

@@ -136,7 +136,7 @@ mod tests {
 
     #[test]
     fn reads_up_to_the_limit(rt: HostRuntime) -> Result<(), Fail> {
-        let mut files = MemoryFiles::make(rt.alloc())?;
+        let mut files = MemoryFiles::make(rt.alloc());
         files.put("a.log", b"0123456789")?;
         files.put("empty", b"")?;
         for (name, limit, want) in [
@@ -158,7 +158,7 @@ mod tests {
 
     #[test]
     fn a_fault_in_mid_stream(rt: HostRuntime) -> Result<(), Fail> {
-        let mut files = MemoryFiles::make(rt.alloc())?;
+        let mut files = MemoryFiles::make(rt.alloc());
         let log = vec![in rt.alloc(); b'x'; 200_000]?;
         files.put("a.log", &log)?;
         // Reading the whole log takes five calls, the last of which finds its end.
@@ -180,7 +180,7 @@ mod tests {
 
     #[test]
     fn appends_all_or_fails(rt: HostRuntime) -> Result<(), Fail> {
-        let mut files = MemoryFiles::make(rt.alloc())?;
+        let mut files = MemoryFiles::make(rt.alloc());
         files.fail(2)?;
         write_all(&mut files, "-", b"one")?;
         assert_eq!(rt; write_all(&mut files, "-", b"two"), Err(Failed));

@@ -45,7 +45,7 @@ fn sequence_from(minute: &str, second: u8, announced: bool) -> Option<Sequence> 
 
 // Files of which only the first call succeeds.
 fn one_call(alloc: Global) -> Result<MemoryFiles, Fail> {
-    let mut files = MemoryFiles::make(alloc)?;
+    let mut files = MemoryFiles::make(alloc);
     for call in [2, 3, 4] {
         files.fail(call)?;
     }

@@ -97,7 +97,7 @@ fn feeds_minutes_by_one_append(rt: HostRuntime) -> Result<(), Fail> {
 #[test]
 fn keeps_a_front_where_an_append_fails(rt: HostRuntime) -> Result<(), Fail> {
     let civil = Civil::make(rt.alloc())?;
-    let mut inner = MemoryFiles::make(rt.alloc())?;
+    let mut inner = MemoryFiles::make(rt.alloc());
     inner.fail(2)?;
     let mut files = OneByte { inner };
     let q = sequence_from("2024-03-31T00:58Z", 0, false);
