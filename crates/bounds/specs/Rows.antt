@@ -5,6 +5,7 @@ use Rattle.definitions.specs.declared.block.Span.TheVariants.{Hour, Minute}
 use Rattle.definitions.specs.declared.block.Block.{Block}
 use Rattle.definitions.specs.answers.Blocks.{blocks}
 use Rattle.field_tables.specs.Days.{IsHourOf, ScoredDay}
+use Rattle.field_tables.specs.Hours.{ScoredHour}
 use Rattle.field_tables.specs.Scored.{Scored}
 
 -- blocks of a window, which are bounded by its tables
@@ -16,8 +17,9 @@ pub record Row : Type 0 where
 abbrev pub minutes_after : Block → ℕ → List Block
 minutes_after hour given = blocks hour.announced hour.second Minute (60 - given) (hour.lo + given) hour.hi
 
--- so many of the hour's minutes were given
-pub record HasGiven (hour : Block) (given : ℕ) : Type 0 where
+-- so many minutes of the hour were given
+pub record HasGiven (costs : ScoredHour) (hour : Block) (given : ℕ) : Type 0 where
+  pub same : costs.block ≡ hour
   pub span : hour.span ≡ Hour
   pub few : hour.hi ≤ hour.lo + 60
   pub within : hour.lo + given ≤ hour.hi

@@ -19,7 +19,7 @@ pub use fault::ItemsFault;
 pub use keyed::block_key;
 pub use laws::ranking_is_one;
 pub use least::bound;
-pub use minutes::{BoundedMinutes, bounded_minutes};
+pub use minutes::{BoundedMinutes, bounded_minutes, hour_costs};
 pub use parts::{ChildBlocks, children};
 pub use ranking::{announced_last, ranked};
 pub use rows::{Bounded, BoundedChildren, bounded_children};

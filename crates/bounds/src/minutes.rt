@@ -12,39 +12,54 @@ use definitions::{Block, Span};
 use field_tables::{HourCosts, Tables};
 use std::marker::Model;
 
+/// What the minutes of an hour of the window cost.
+pub fn hour_costs<'a>(tables: &'a Tables<'a>, hour: &Block) -> HourCosts<'a>
+    requires block { IsBlock tables.now.window hour.now }
+    requires hour { hour.now.span ≡ Hour }
+    ensures tables { result.tables ≡ tables.now }
+    ensures block { result.block ≡ hour.now }
+{
+    tables.hour(hour)
+}
+
 /// The minutes of an hour that are left, in order, which are given with their bounds. Contracts see what they see of the
 /// tables that bound them, and the list of them.
+///
+/// It has what changes from minute to minute, and not the costs themselves, so that a loop may keep it in registers.
 #[derive(Drop)]
-pub struct BoundedMinutes<'a> {
-    hour: HourCosts<'a>,
+pub struct BoundedMinutes<'r, 'a> {
+    costs: &'r HourCosts<'a>,
+    hour: Block,
     // How many were given.
     given: u32,
 }
 
-impl<'a> Model for BoundedMinutes<'a> {
+impl<'r, 'a> Model for BoundedMinutes<'r, 'a> {
     ghost use Rattle.bounds.specs.Rows.{HasGiven, Row, minutes_after};
 
     ghost Value = { Row };
 
-    ghost view = { λ r. record { tables = r.hour.tables; left = minutes_after r.hour.block r.given } };
+    ghost view = { λ r. record { tables = r.costs.now.tables; left = minutes_after r.hour r.given } };
 
-    ghost invariant = { λ r. HasGiven r.hour.block r.given };
+    ghost invariant = { λ r. HasGiven r.costs.now r.hour r.given };
 }
 
 /// The minutes of an hour of the window, which are given with their bounds.
-pub fn bounded_minutes<'a>(tables: &'a Tables<'a>, hour: &Block) -> BoundedMinutes<'a>
-    requires block { IsBlock tables.now.window hour.now }
-    requires hour { hour.now.span ≡ Hour }
-    ensures tables { result.tables ≡ tables.now }
-    ensures left { result.left ≡ children hour.now }
+#[inline(always)]
+pub fn bounded_minutes<'r, 'a>(costs: &'r HourCosts<'a>) -> BoundedMinutes<'r, 'a>
+    requires block { IsBlock costs.now.tables.window costs.now.block }
+    requires hour { costs.now.block.span ≡ Hour }
+    ensures tables { result.tables ≡ costs.now.tables }
+    ensures left { result.left ≡ children costs.now.block }
 {
     BoundedMinutes {
-        hour: tables.hour(hour),
+        costs,
+        hour: *costs.block(),
         given: 0,
     }
 }
 
-impl<'a> BoundedMinutes<'a> {
+impl<'r, 'a> BoundedMinutes<'r, 'a> {
     /// The next minute and its bound, or None where none is left. A search over noise asks this some thousand million times,
     /// so that it is to become a part of the loop that asks.
     #[inline(always)]
@@ -61,7 +76,7 @@ impl<'a> BoundedMinutes<'a> {
 
         ensures tables { self.new.tables ≡ self.old.tables }
     {
-        let hour = *self.hour.block();
+        let hour = self.hour;
         let lo = hour.lo + self.given;
         if lo >= hour.hi {
             return None;
@@ -73,7 +88,7 @@ impl<'a> BoundedMinutes<'a> {
             lo,
             hi: lo + 1,
         };
-        let bound = self.hour.bound(self.given);
+        let bound = self.costs.bound(self.given);
         self.given += 1;
         Some(Bounded { block, bound })
     }

@@ -6,7 +6,7 @@ ghost use Rattle.signal_base.specs.declared.station.Station.TheVariants.{Dcf77};
 
 use crate::{
     Block, BoundedChildren, BoundedMinutes, Span, announced_last, bounded_children,
-    bounded_minutes, items, ranked,
+    bounded_minutes, hour_costs, items, ranked,
 };
 use civil::Civil;
 use field_tables::Tables;
@@ -178,10 +178,30 @@ fn bounds_the_parts_of_the_last_minutes(rt: HostRuntime) -> Result<(), Fail> {
         bounded_children(&tables, &hour.block),
         &[(FROM, FROM + 1, Some(0)), (FROM + 1, FROM + 2, None)],
     );
+    Ok(())
+}
+
+#[test]
+fn bounds_the_minutes_of_the_last_hour_at_once(rt: HostRuntime) -> Result<(), Fail> {
+    let civil = Civil::make(rt.alloc())?;
+    let window = window_from(FROM);
+    let grids = [silent_grid(rt.alloc())?];
+    let tables = Tables::make(rt.alloc(), &grids, &civil, &window)?;
+    let list = items(rt.alloc(), &civil, &window)?;
+    let Some(year) = list.first() else {
+        panic!(rt; "no year");
+    };
+    let Some(day) = bounded_children(&tables, year).next() else {
+        panic!(rt; "no day");
+    };
+    let Some(hour) = bounded_children(&tables, &day.block).next() else {
+        panic!(rt; "no hour");
+    };
     assert_eq!(rt; hour.block.span, Span::Hour);
+    let costs = hour_costs(&tables, &hour.block);
     assert_minutes(
         &rt,
-        bounded_minutes(&tables, &hour.block),
+        bounded_minutes(&costs),
         &[(FROM, FROM + 1, Some(0)), (FROM + 1, FROM + 2, None)],
     );
     Ok(())

@@ -12,7 +12,7 @@ ghost use Rattle.workers.specs.Visits.{limit_at};
 ghost use Rattle.workers.specs.Steps.{HasOpened, HasStopped, HasWalked, HaveStopped, HaveWalked};
 
 use crate::recorder::Recorder;
-use bounds::{Bounded, block_key, bound, bounded_children, bounded_minutes};
+use bounds::{Bounded, block_key, bound, bounded_children, bounded_minutes, hour_costs};
 use definitions::{Block, Span, children_share_the_sequences};
 use field_tables::Tables;
 use race_words::{Race, Seat};
@@ -103,9 +103,17 @@ impl Visitor<'_> {
         ensures stopped { let t = self.now.tables.now in
             OnErr result (HaveStopped K.told K.fails (costs_of t) t.window self.now.ceiling (children hour.now) seat.old.view seat.new.view recorder.old recorder.new) }
     {
-        let mut minutes = bounded_minutes(self.tables, hour);
+        let costs = hour_costs(self.tables, hour);
+        let mut minutes = bounded_minutes(&costs);
+        // What doesn't change is the loop's own, so that it may stay in registers: after each read of the race's limit
+        // everything else would be read again.
+        let visitor = Visitor {
+            race: self.race,
+            tables: self.tables,
+            ceiling: self.ceiling,
+        };
         while let Some(minute) = minutes.next() {
-            self.visit_minute(seat, &minute, recorder)?;
+            visitor.visit_minute(seat, &minute, recorder)?;
         }
         Ok(())
     }

@@ -1,5 +1,5 @@
 -- Each return of a visit has walked its block.
-use Rattle.std.proofs.Common.{◌≡◌, ◌≢◌, ◌<◌, [], ◌∷◌, ◌∙◌, subst, rules}
+use Rattle.std.proofs.Common.{◌≢◌, ◌<◌, [], ◌∷◌, ◌∙◌, subst, rules}
 use Rattle.std.specs.List.{AllByRecursion}
 use Rattle.definitions.specs.declared.block.Span.TheVariants.{Minute}
 use Rattle.definitions.specs.answers.Blocks.{children}

@@ -1,5 +1,5 @@
 -- A block that is passed over was walked, and one that isn't was opened.
-use Rattle.std.proofs.Common.{◌<◌, ◌≤◌, arith}
+use Rattle.std.proofs.Common.{◌<◌, arith}
 use Rattle.definitions.specs.answers.Blocks.{block_key}
 use Rattle.field_tables.specs.Scored.{costs_of}
 use Rattle.workers.specs.Visits.{limit_at}

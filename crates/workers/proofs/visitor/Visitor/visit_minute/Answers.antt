@@ -1,6 +1,5 @@
 -- A minute that is opened offers its key.
 use Rattle.field_tables.specs.Scored.{costs_of}
-use Rattle.workers.specs.Steps.{HasOpened}
 use Rattle.workers.proofs.Walking.{offered_minute}
 use Rattle.workers.proofs.visitor.Visitor.visit_minute.Goals as goal
 

@@ -11,8 +11,8 @@ loop-minute-init g c =
     let whole = children c.args.hour.now in
     let none = not_begun g.K.Recorder.told (costs_of s.tables.now) s.tables.now.window s.ceiling whole c.args.seat.now.view c.args.recorder.now in record {
       race = refl;
-      tables = c.bounded_minutes-minutes.ensures.tables;
-      walking = rw c.bounded_minutes-minutes.ensures.left none;
+      tables = c.bounded_minutes-minutes.ensures.tables ∙ c.hour_costs-costs.ensures.tables;
+      walking = rw (c.bounded_minutes-minutes.ensures.left, c.hour_costs-costs.ensures.block) none;
     }
 
 pub loop-minute-preserved : goal.loop-minute-preserved
