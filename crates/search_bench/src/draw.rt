@@ -1,6 +1,6 @@
 //! Blocks and sequences of a window by chance.
 
-ghost use Rattle.std.specs.Prelude.{◌<◌, ◌≤◌, IfSome, ◌≡◌};
+ghost use Rattle.std.specs.Prelude.{◌≡◌, ◌<◌, ◌≤◌, IfSome, length};
 ghost use Rattle.std.specs.List.{AllByRecursion};
 ghost use Rattle.definitions.specs.answers.Blocks.{IsBlock};
 ghost use Rattle.definitions.specs.sequences.Walks.{IsSequence};
@@ -26,7 +26,7 @@ pub fn draw_block(tables: &Tables, items: &[Block], chance: &mut Chance) -> Opti
     requires { AllByRecursion (IsBlock tables.now.window) items.now }
     ensures { IfSome result (λ found. IsBlock tables.now.window found.block) }
 {
-    let item = draw_from(items, chance)?;
+    let item = &items[draw_number(items, chance)?];
     let depth = chance.below(DEPTH + 1);
     Some(descendant(tables, item, depth, chance))
 }
@@ -36,19 +36,19 @@ pub fn draw_item(tables: &Tables, items: &[Block], chance: &mut Chance) -> Optio
     requires { AllByRecursion (IsBlock tables.now.window) items.now }
     ensures { IfSome result (λ found. IsBlock tables.now.window found.block) }
 {
-    let item = draw_from(items, chance)?;
+    let item = &items[draw_number(items, chance)?];
     Some(descendant(tables, item, 0, chance))
 }
 
-// One of the blocks.
-fn draw_from<'a>(blocks: &'a [Block], chance: &mut Chance) -> Option<&'a Block>
-    ensures { IfSome result (λ block. IsMember blocks.now block.now) }
+// The number of one of the blocks, if there are some.
+fn draw_number(blocks: &[Block], chance: &mut Chance) -> Option<usize>
+    ensures { IfSome result (λ i. i < length blocks.now) }
 {
     let count = blocks.len().min(u32::MAX as usize) as u32;
     if count == 0 {
         return None;
     }
-    Some(&blocks[chance.below(count) as usize])
+    Some(chance.below(count) as usize)
 }
 
 // A part of the item that is so many steps below it.
