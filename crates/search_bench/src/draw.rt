@@ -3,12 +3,13 @@
 ghost use Rattle.std.specs.Prelude.{◌≡◌, ◌<◌, ◌≤◌, IfSome, length};
 ghost use Rattle.std.specs.List.{AllByRecursion};
 ghost use Rattle.definitions.specs.answers.Blocks.{IsBlock};
+ghost use Rattle.definitions.specs.declared.block.Span.TheVariants.{Hour};
 ghost use Rattle.definitions.specs.sequences.Walks.{IsSequence};
 ghost use Rattle.definitions.specs.sequences.Windows.{IsWindow};
 
 use crate::chance::Chance;
-use bounds::{Bounded, bound, bounded_children, children};
-use definitions::{Block, CENTURY_MINUTES, Sequence};
+use bounds::{Bounded, bound, bounded_children, bounded_minutes, children, hour_costs};
+use definitions::{Block, CENTURY_MINUTES, Sequence, Span};
 use field_tables::Tables;
 use signal_base::Window;
 
@@ -94,7 +95,24 @@ fn nth_child(tables: &Tables, block: &Block, number: u32) -> Option<Bounded>
     requires { IsBlock tables.now.window block.now }
     ensures { IfSome result (λ child. IsBlock tables.now.window child.block) }
 {
+    if block.span == Span::Hour {
+        return nth_minute(tables, block, number);
+    }
     let mut row = bounded_children(tables, block);
+    for _ in 0..number {
+        let _passed = row.next()?;
+    }
+    row.next()
+}
+
+// The same of an hour, with the bound that its row gives.
+fn nth_minute(tables: &Tables, hour: &Block, number: u32) -> Option<Bounded>
+    requires block { IsBlock tables.now.window hour.now }
+    requires hour { hour.now.span ≡ Hour }
+    ensures { IfSome result (λ minute. IsBlock tables.now.window minute.block) }
+{
+    let costs = hour_costs(tables, hour);
+    let mut row = bounded_minutes(&costs);
     for _ in 0..number {
         let _passed = row.next()?;
     }

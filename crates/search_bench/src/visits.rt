@@ -1,13 +1,14 @@
 //! The blocks that a search with one worker visits: how many there are of each span.
 
-ghost use Rattle.std.specs.Prelude.{◌≤◌};
+ghost use Rattle.std.specs.Prelude.{◌≡◌, ◌≤◌};
 ghost use Rattle.std.specs.Option.{ForSome};
 ghost use Rattle.std.specs.List.{AllByRecursion};
 ghost use Rattle.definitions.specs.answers.Blocks.{IsBlock, first_of};
+ghost use Rattle.definitions.specs.declared.block.Span.TheVariants.{Hour};
 ghost use Rattle.definitions.specs.sequences.Walks.{IsSequence};
 ghost use Rattle.signal_base.specs.declared.limits.TheConstants.{GREATEST_COST};
 
-use bounds::{Bounded, block_key, bound, bounded_children};
+use bounds::{Bounded, block_key, bound, bounded_children, bounded_minutes, hour_costs};
 use definitions::{Block, Span};
 use field_tables::Tables;
 use sequence::ceiling_key;
@@ -70,16 +71,15 @@ impl Visits {
         requires sequence { IsSequence (first_of found.now.block) }
         requires small { ForSome found.now.bound (λ n. n ≤ GREATEST_COST) }
     {
-        self.count(found.block.span);
-        let Some(bound) = found.bound else {
+        let Some(key) = self.come_to(found) else {
             return;
         };
-        let key = block_key(bound, &found.block);
-        if key > self.second.min(ceiling_key(GREATEST_COST)) {
-            return;
-        }
         if found.block.span == Span::Minute {
             self.offer(key);
+            return;
+        }
+        if found.block.span == Span::Hour {
+            self.visit_minutes(tables, &found.block);
             return;
         }
         if depth == 0 {
@@ -89,6 +89,34 @@ impl Visits {
         while let Some(child) = children.next() {
             self.visit(&*tables, &child, depth - 1);
         }
+    }
+
+    // Visits the minutes of an hour.
+    fn visit_minutes(&mut self, tables: &Tables, hour: &Block)
+        requires block { IsBlock tables.now.window hour.now }
+        requires hour { hour.now.span ≡ Hour }
+    {
+        let costs = hour_costs(&*tables, hour);
+        let mut minutes = bounded_minutes(&costs);
+        while let Some(minute) = minutes.next() {
+            if let Some(key) = self.come_to(&minute) {
+                self.offer(key);
+            }
+        }
+    }
+
+    // Counts a block. Its key, or None where it is passed over.
+    fn come_to(&mut self, found: &Bounded) -> Option<u64>
+        requires sequence { IsSequence (first_of found.now.block) }
+        requires small { ForSome found.now.bound (λ n. n ≤ GREATEST_COST) }
+    {
+        self.count(found.block.span);
+        let bound = found.bound?;
+        let key = block_key(bound, &found.block);
+        if key > self.second.min(ceiling_key(GREATEST_COST)) {
+            return None;
+        }
+        Some(key)
     }
 
     // Counts a block.
