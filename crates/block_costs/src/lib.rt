@@ -4,8 +4,6 @@
 
 mod asked;
 mod blocks;
-#[cfg(test)]
-mod crossing_tests;
 mod hours;
 mod kept;
 mod minutes;
