@@ -4,6 +4,8 @@
 
 mod asked;
 mod blocks;
+#[cfg(test)]
+mod crossing_tests;
 mod hours;
 mod kept;
 mod minutes;
