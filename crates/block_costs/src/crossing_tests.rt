@@ -1,8 +1,9 @@
 //! The minutes of hours in which walks go from one run to the next, compared with what each of their sequences costs by
 //! itself.
 
-ghost use Rattle.std.specs.Prelude.{◌≡◌, ◌<◌, ◌≤◌, IfOk};
+ghost use Rattle.std.specs.Prelude.{◌≡◌, ◌<◌, ◌≤◌, IfOk, length};
 
+use crate::tests::minute_costs;
 use crate::{HOUR_MINUTES, MinuteCosts, StationBlocks};
 use civil::Civil;
 use definitions::{CENTURY_MINUTES, MINUTES_PER_HOUR};
@@ -11,6 +12,7 @@ use pulse_log::read_log;
 use signal_base::{CostTable, Station, Tuning};
 use span_unions::Unions;
 use std::alloc::Global;
+use std::process::Abort;
 use std::test::Fail;
 use symbol_cost::CostGrid;
 use walk_costs::StationWalks;
@@ -26,7 +28,8 @@ fn log_text(rt: &HostRuntime) -> Result<String, Fail> {
 }
 
 fn grid(alloc: Global, station: Station, text: &[u8], seconds: u16) -> Result<CostGrid, Fail>
-    requires { seconds ≤ 1200 }
+    requires seconds { seconds ≤ 1200 }
+    requires text { length text.now ≤ 8000000 }
     ensures { IfOk result (λ grid. grid.station ≡ station) }
 {
     let log = read_log(alloc, text)?;
@@ -46,16 +49,14 @@ fn blocks(
     text: &[u8],
     seconds: u16,
 ) -> Result<StationBlocks, Fail>
-    requires { seconds ≤ 1200 }
+    requires seconds { seconds ≤ 1200 }
+    requires text { length text.now ≤ 8000000 }
 {
     let alloc = rt.alloc();
     let unions = Unions::make(alloc, Parts::make(alloc, civil, station)?)?;
     let walks = StationWalks::make(alloc, unions, &grid(alloc, station, text, seconds)?)?;
     Ok(StationBlocks::make(alloc, walks)?)
 }
-
-// What stands in an entry before its minute's cost is added.
-const BEFORE: u32 = 7;
 
 // The minutes of the hour from `lo` on.
 fn hour(blocks: &StationBlocks, p: u8, lo: u32) -> Option<MinuteCosts>
@@ -70,11 +71,7 @@ fn hour(blocks: &StationBlocks, p: u8, lo: u32) -> Option<MinuteCosts>
     if hi > end || end - hi < reach {
         return None;
     }
-    // What a walk costs fits.
-    blocks.walks().columns();
-    let mut costs = [BEFORE; HOUR_MINUTES];
-    blocks.add_minute_costs(false, p, lo, hi, &mut costs);
-    Some(costs)
+    Some(minute_costs(blocks, p, lo, hi))
 }
 
 // One of them by itself.
@@ -86,9 +83,7 @@ fn minute(blocks: &StationBlocks, p: u8, t0: u32) -> Option<u32>
     if t0 >= end || end - t0 - 1 < reach {
         return None;
     }
-    // What a walk costs fits.
-    blocks.walks().columns();
-    Some(BEFORE + blocks.sequence_cost(false, p, t0))
+    Some(blocks.sequence_cost(false, p, t0))
 }
 
 // 2024-06-01, and the days on which summer time begins in Europe and in the United States.
@@ -97,7 +92,7 @@ const DAYS: [u32; 3] = [12_841_920, 12_752_640, 12_722_400];
 // The hours of UTC that end at some station's local midnight, or before a change of the time.
 const HOURS: [u32; 5] = [0, 14, 21, 22, 23];
 
-fn compare(rt: &HostRuntime, blocks: &StationBlocks, p: u8, lo: u32) -> Result<(), Fail>
+fn compare(rt: &impl Abort, blocks: &StationBlocks, p: u8, lo: u32) -> Result<(), Fail>
     requires second { p < 60 }
     requires minute { lo < 100_000_000 }
 {
@@ -114,7 +109,7 @@ fn compare(rt: &HostRuntime, blocks: &StationBlocks, p: u8, lo: u32) -> Result<(
     Ok(())
 }
 
-fn compare_all(rt: &HostRuntime, blocks: &StationBlocks) -> Result<(), Fail> {
+fn compare_all(rt: &impl Abort, blocks: &StationBlocks) -> Result<(), Fail> {
     for day in DAYS {
         for of_day in HOURS {
             for p in [0, 43, 59] {

@@ -1,10 +1,14 @@
 //! Blocks of which four seconds are known, whose costs were worked out by hand, and how long such costs take.
 
-ghost use Rattle.std.specs.Prelude.{◌≡◌, ◌+◌, ◌<◌, ◌≤◌, IfOk};
+ghost use Rattle.std.specs.Prelude.{◌≡◌, ◌+◌, ◌<◌, ◌≤◌, ℕ, IfOk, false, length, slice_index};
 ghost use Rattle.signal_base.specs.Limits.{IsPriced};
 ghost use Rattle.signal_base.specs.declared.limits.TheConstants.{MOST_COST};
+ghost use Rattle.slot_columns.specs.declared.limits.TheConstants.{SECONDS_PER_MINUTE};
+ghost use Rattle.span_unions.specs.Unions.{AreRegular};
+ghost use Rattle.walk_costs.specs.Walks.{later_minutes};
+ghost use Rattle.block_costs.specs.declared.minutes.TheConstants.{HOUR_MINUTES};
 
-use crate::{HOUR_MINUTES, StationBlocks};
+use crate::{HOUR_MINUTES, MinuteCosts, StationBlocks};
 use civil::Civil;
 use minute_parts::Parts;
 use pulse_log::read_log;
@@ -89,11 +93,28 @@ fn minute_cost(blocks: &StationBlocks, p: u8, lo: u32, hi: u32, i: usize) -> Opt
     if hi > end || end - hi < reach {
         return None;
     }
+    Some(minute_costs(blocks, p, lo, hi)[i])
+}
+
+/// What is added to costs of 0.
+pub fn minute_costs(blocks: &StationBlocks, p: u8, lo: u32, hi: u32) -> MinuteCosts
+    requires second { p < SECONDS_PER_MINUTE }
+    requires order { lo ≤ hi }
+    requires few { hi ≤ lo + HOUR_MINUTES }
+    requires regular { AreRegular false lo (hi + later_minutes (length blocks.now.grid.rows) p) blocks.now.parts.end }
+{
+    let mut costs = no_costs();
+    let walks = blocks.walks();
     // What a walk costs fits.
-    blocks.walks().columns();
-    let mut costs = [0; HOUR_MINUTES];
+    walks.columns();
     blocks.add_minute_costs(false, p, lo, hi, &mut costs);
-    Some(costs[i])
+    costs
+}
+
+fn no_costs() -> MinuteCosts
+    ensures { (i : ℕ) → i < HOUR_MINUTES → slice_index result i ≡ 0 }
+{
+    [0; HOUR_MINUTES]
 }
 
 // 2024-06-10T06:46Z, a minute after JJY's call sign; the minutes 46 to 55 of the hour come then. That day, and that year.

@@ -1,10 +1,11 @@
 //! Walks of which four seconds are known, whose costs were worked out by hand.
 
-ghost use Rattle.std.specs.Prelude.{◌≡◌, ◌+◌, ◌<◌, ◌≤◌, IfOk, false};
+ghost use Rattle.std.specs.Prelude.{◌≡◌, ◌+◌, ◌<◌, ◌≤◌, ℕ, IfOk, false, slice_index};
 ghost use Rattle.signal_base.specs.Limits.{IsPriced};
 ghost use Rattle.signal_base.specs.declared.limits.TheConstants.{MOST_COST};
 ghost use Rattle.definitions.specs.time.Calendar.{century_minutes};
 ghost use Rattle.walk_costs.specs.Walks.{IsPlainIn};
+ghost use Rattle.walk_costs.specs.declared.stretch.TheConstants.{STRETCH};
 
 use crate::walks::meets_leap_end;
 use crate::{MinuteCosts, STRETCH, StationWalks};
@@ -250,7 +251,13 @@ fn costs_in_run(walks: &StationWalks, p: u8, lo: u32, run: usize) -> MinuteCosts
     // What a walk costs fits.
     walks.columns();
     let date = walks.date_cost(false, p, run);
-    let mut costs = [0; STRETCH];
+    let mut costs = no_costs();
     walks.add_costs_in_run(&date, lo, lo, lo + 3, &mut costs);
     costs
+}
+
+fn no_costs() -> MinuteCosts
+    ensures { (i : ℕ) → i < STRETCH → slice_index result i ≡ 0 }
+{
+    [0; STRETCH]
 }
