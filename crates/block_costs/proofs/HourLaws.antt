@@ -29,7 +29,7 @@ use Rattle.walk_costs.specs.Walks.{AreSmall, PricedParts, later_minutes}
 use Rattle.slot_columns.proofs.SplitLaws.{one_layer}
 use Rattle.walk_costs.proofs.SumLaws.{at_second, cost_in, sum_of_two}
 use Rattle.block_costs.specs.Blocks.{AreUnionsOfWalks, unions_cost}
-use Rattle.block_costs.specs.Hours.{AreHourLayers, AreHours, IsHourCost}
+use Rattle.block_costs.specs.Hours.{AreHourLayers, AreHours, IsHourCost, IsHourLayer}
 
 -- a second that the time of day tells in some minute it tells in each, unless the call sign takes it
 own_second : (station : Station) (u s : ℕ) → is_time_second station s ≡ false → is_given_up station s ≡ false → tells_time station u s ≡ false
@@ -179,27 +179,33 @@ module _ (w : PricedParts) (table : IsPartTable w.parts) (own : w.parts.station 
         omega (arith, sum_of_two (length w.grid.rows) of_time of_date, bound)
 
 -- an hour that is kept, with the date of its run
-pub kept_hour : (w : PricedParts) (begin : ℕ) (firsts rests : List (List ℕ)) (costs : List ℕ) → AreHours w begin firsts rests costs
-    → IsPartTable w.parts → w.parts.station ≡ w.grid.station → (i p lo hour cost : ℕ) → i < length w.parts.runs → p < 60 → hour < length firsts
+pub kept_hour : (w : PricedParts) (begin : ℕ) (call : List ℕ) (firsts rests : List (List ℕ)) (costs : List ℕ) → AreHours w begin call firsts rests costs
+    → IsPartTable w.parts → w.parts.station ≡ w.grid.station
+    → (announced : Bool) (i p lo hour cost : ℕ) → i < length w.parts.runs → p < 60 → hour < length firsts
     → 60 * hour + begin ≡ (lo + (run_at w.parts.runs i).shift) % 1440 → first_of w.parts.runs i ≤ lo
     → lo + 60 + later_minutes (length w.grid.rows) p ≤ end_of_run w.parts.runs w.parts.end i
-    → ((s : ℕ) → s < 60 → get_or (run_at w.parts.runs i).plain s 0 < 256)
-    → ((s : ℕ) → is_given_up w.grid.station s ≡ true
-    → (bit_or (get_or (part_at firsts hour) s 0) (get_or (run_at w.parts.runs i).plain s 0) ≡ get_or (part_at firsts hour) s 0)
-    × (bit_or (get_or (part_at rests hour) s 0) (get_or (run_at w.parts.runs i).plain s 0) ≡ get_or (part_at rests hour) s 0))
+    → ((t : ℕ) → lo ≤ t → t < lo + 60 + later_minutes (length w.grid.rows) p → minute_length announced t ≡ 60)
+    → ((s : ℕ) → s < 60 → get_or (part_where announced (run_at w.parts.runs i)) s 0 < 256)
+    → ((s : ℕ) → is_given_up w.grid.station s ≡ true → bit_or (get_or call s 0) (get_or (part_where announced (run_at w.parts.runs i)) s 0) ≡ get_or call s 0)
     → ((q : PartTable) (a : Bool) (j from m v s time : ℕ) → IsPartTable q → j < length q.runs → first_of q.runs j ≤ from + m
     → from + m + 60 ≤ end_of_run q.runs q.end j → ((t : ℕ) → from + m ≤ t → t < from + m + 60 → minute_length a t ≡ 60)
     → s < 60 → v ≡ (from + (run_at q.runs j).shift) % 1440 → IsUnionOf (time_at q.times s) (v + m) (v + m + 60) time
     → bit_or time (get_or (part_where a (run_at q.runs j)) s 0) < 256
     → IsUnionOver q.station a (from + m) (from + m + 60) s (bit_or time (get_or (part_where a (run_at q.runs j)) s 0)))
-    → AreSmall w.grid → cost ≡ get_or costs (p * 24 + hour) 0 + part_cost w.grid p (kept w.grid.station (run_at w.parts.runs i).plain)
-    → IsHourCost w false p lo cost
-kept_hour w begin firsts rests costs hours table own i p lo hour cost is second within minute begun ends bytes covered law small total =
+    → AreSmall w.grid → cost ≡ get_or costs (p * 24 + hour) 0 + part_cost w.grid p (kept w.grid.station (part_where announced (run_at w.parts.runs i)))
+    → IsHourCost w announced p lo cost
+kept_hour w begin call firsts rests costs hours table own announced i p lo hour cost is second within minute begun ends short bytes covered law small total =
     let reach = later_minutes (length w.grid.rows) 59 in
     let u : ℕ = 60 * hour + begin in
     let reached : later_minutes (length w.grid.rows) p ≤ reach = omega (arith, second) in
     let first = part_at firsts hour in
     let rest = part_at rests hour in
+    let date = part_where announced (run_at w.parts.runs i) in
+    let layer = hours.layers.each hour within in
+    let in_first = λ (s : ℕ) (given : is_given_up w.grid.station s ≡ true).
+    subst (λ x. bit_or x (get_or date s 0) ≡ x) (sym (layer.at_call s given).0) (covered s given) in
+    let in_rest = λ (s : ℕ) (given : is_given_up w.grid.station s ≡ true).
+    subst (λ x. bit_or x (get_or date s 0) ≡ x) (sym (layer.at_call s given).1) (covered s given) in
     let in_day : hour < 24 = omega (arith, minute) in
     let priced : get_or costs (p * 24 + hour) 0 ≡ layered_cost w.grid.station (cost_at w.grid.rows) (length w.grid.rows) p first rest =
     hours.priced.each p hour second in_day
@@ -210,40 +216,33 @@ kept_hour w begin firsts rests costs hours table own i p lo hour cost is second 
             arith,
             total,
             priced,
-            hour_cost w table own false i is p lo u reach first rest second (hours.layers.each hour within) minute reached begun ends (λ t _ _. refl) bytes
-                (λ s given. (covered s given).0) (λ s given. (covered s given).1) law sets unions,
+            hour_cost w table own announced i is p lo u reach first rest second layer.layers minute reached begun ends short bytes in_first in_rest law sets unions,
           );
       bound =
           omega (
             arith,
             total,
             priced,
-            hour_small w table own false i is p lo u reach first rest second (hours.layers.each hour within) minute reached begun ends (λ t _ _. refl) bytes
-                (λ s given. (covered s given).0) (λ s given. (covered s given).1) law small,
+            hour_small w table own announced i is p lo u reach first rest second layer.layers minute reached begun ends short bytes in_first in_rest law small,
           );
     }
 
 -- one hour more
-pub hours_more : (w : PricedParts) (begin : ℕ) (firsts rests : List (List ℕ)) (first rest : List ℕ) → AreHourLayers w begin firsts rests
-    → AreTimeLayers w.parts.times (60 * length firsts + begin) (later_minutes (length w.grid.rows) 59) (record { first = first; rest = rest })
-    → AreHourLayers w begin (firsts ++ first ∷ []) (rests ++ rest ∷ [])
-hours_more w begin firsts rests first rest are new =
+pub hours_more : (w : PricedParts) (begin : ℕ) (call : List ℕ) (firsts rests : List (List ℕ)) (first rest : List ℕ) → AreHourLayers w begin call firsts rests
+    → IsHourLayer w begin (length firsts) call first rest → AreHourLayers w begin call (firsts ++ first ∷ []) (rests ++ rest ∷ [])
+hours_more w begin call firsts rests first rest are new =
     let n : ℕ = length firsts in
-    let reach = later_minutes (length w.grid.rows) 59 in
     record {
       as_many = omega (arith, length_push firsts first, length_push rests rest, are.as_many);
       each = λ h lt. elim (cases_lt h n) [
-        | inl early ↦ subst (λ (x : List ℕ). AreTimeLayers w.parts.times (60 * h + begin) reach (record { first = x; rest = get_or (rests ++ rest ∷ []) h [] }))
-            (sym (get_or-append firsts (first ∷ []) [] h early))
-            (subst (λ (y : List ℕ). AreTimeLayers w.parts.times (60 * h + begin) reach (record { first = get_or firsts h []; rest = y }))
+        | inl early ↦ subst (λ (x : List ℕ). IsHourLayer w begin h call x (part_at (rests ++ rest ∷ []) h)) (sym (get_or-append firsts (first ∷ []) [] h early))
+            (subst (λ (y : List ℕ). IsHourLayer w begin h call (part_at firsts h) y)
             (sym (get_or-append rests (rest ∷ []) [] h (omega (arith, early, are.as_many)))) (are.each h early))
         | inr late ↦ (
             let last : n ≡ h = omega (arith, lt, late, length_push firsts first) in
-            subst (λ (x : List ℕ). AreTimeLayers w.parts.times (60 * h + begin) reach (record { first = x; rest = get_or (rests ++ rest ∷ []) h [] }))
-            (sym (get_or_push firsts first [] h last))
-            (subst (λ (y : List ℕ). AreTimeLayers w.parts.times (60 * h + begin) reach (record { first = first; rest = y }))
-            (sym (get_or_push rests rest [] h (omega (arith, last, are.as_many))))
-            (subst (λ n. AreTimeLayers w.parts.times (60 * n + begin) reach (record { first = first; rest = rest })) last new)))
+            subst (λ (x : List ℕ). IsHourLayer w begin h call x (part_at (rests ++ rest ∷ []) h)) (sym (get_or_push firsts first [] h last))
+            (subst (λ (y : List ℕ). IsHourLayer w begin h call first y) (sym (get_or_push rests rest [] h (omega (arith, last, are.as_many))))
+            (subst (λ m. IsHourLayer w begin m call first rest) last new)))
       ];
     }
 

@@ -1,24 +1,27 @@
 -- The hours of the local day, as they are kept.
-use Rattle.std.specs.Prelude.{ℕ, ◌≡◌, ◌+◌, ◌*◌, ◌<◌, ◌≤◌, Bool, nat_lt, if◌then◌else◌, List, [], length, slice_index, slice_index_or}
+use Rattle.std.specs.Prelude.{ℕ, ◌≡◌, ◌+◌, ◌*◌, ◌<◌, ◌≤◌, Bool, true, nat_lt, if◌then◌else◌, List, length, slice_index}
 use Rattle.symbol_cost.specs.Grid.{Grid, cost_at}
-use Rattle.minute_parts.specs.Runs.{run_at}
 use Rattle.slot_columns.specs.Layered.{part_at}
 use Rattle.slot_columns.specs.Parts.{layered_cost, most_cost}
 use Rattle.slot_columns.specs.declared.limits.TheConstants.{SECONDS_PER_MINUTE}
 use Rattle.span_unions.specs.Hours.{AreTimeLayers}
-use Rattle.walk_costs.specs.Dates.{kept, part_cost}
+use Rattle.walk_costs.specs.Dates.{is_given_up}
 use Rattle.walk_costs.specs.Walks.{PricedParts, later_minutes}
-use Rattle.block_costs.specs.declared.dated.Dated.{Dated}
+use Rattle.block_costs.specs.declared.hours.InRun.{InRun}
 use Rattle.block_costs.specs.declared.hours.TheConstants.{DAY_HOURS}
 use Rattle.block_costs.specs.declared.minutes.TheConstants.{HOUR_MINUTES}
 use Rattle.block_costs.specs.Blocks.{AreUnionsOfWalks, unions_cost}
 
--- what the time of day tells in the first hours of the local day, which begin so many minutes after its whole hours, and in
--- the minutes that come after these as far as any walk reaches
-pub record AreHourLayers (w : PricedParts) (begin : ℕ) (firsts rests : List (List ℕ)) : Type 0 where
+-- what the time of day tells in hour h of the local day, which begins so many minutes after its whole hours, and in the minutes
+-- that come after it as far as any walk reaches; of the seconds that the call sign takes the same as in the minutes of the call
+pub record IsHourLayer (w : PricedParts) (begin h : ℕ) (call first rest : List ℕ) : Type 0 where
+  pub layers : AreTimeLayers w.parts.times (60 * h + begin) (later_minutes (length w.grid.rows) 59) (record { first = first; rest = rest })
+  pub at_call : (s : ℕ) → is_given_up w.grid.station s ≡ true → (slice_index first s ≡ slice_index call s) × (slice_index rest s ≡ slice_index call s)
+
+-- the first hours
+pub record AreHourLayers (w : PricedParts) (begin : ℕ) (call : List ℕ) (firsts rests : List (List ℕ)) : Type 0 where
   pub as_many : length firsts ≡ length rests
-  pub each : (h : ℕ) → h < length firsts
-      → AreTimeLayers w.parts.times (60 * h + begin) (later_minutes (length w.grid.rows) 59) (record { first = slice_index_or firsts h []; rest = slice_index_or rests h [] })
+  pub each : (h : ℕ) → h < length firsts → IsHourLayer w begin h call (part_at firsts h) (part_at rests h)
 
 -- what the layers of one of these hours cost in walks from second p, and 0 past them
 abbrev pub hour_at : Grid → List (List ℕ) → List (List ℕ) → ℕ → ℕ → ℕ
@@ -33,16 +36,19 @@ pub record AreHourCosts (grid : Grid) (firsts rests : List (List ℕ)) (costs : 
   pub each : (p h : ℕ) → p < SECONDS_PER_MINUTE → h < DAY_HOURS → slice_index costs (p * DAY_HOURS + h) ≡ hour_at grid firsts rests p h
 
 -- and what that costs
-pub record AreHours (w : PricedParts) (begin : ℕ) (firsts rests : List (List ℕ)) (costs : List ℕ) : Type 0 where
-  pub layers : AreHourLayers w begin firsts rests
+pub record AreHours (w : PricedParts) (begin : ℕ) (call : List ℕ) (firsts rests : List (List ℕ)) (costs : List ℕ) : Type 0 where
+  pub layers : AreHourLayers w begin call firsts rests
   pub priced : AreHourCosts w.grid firsts rests costs
-
--- what the date of this run costs in walks from second p
-pub record IsDateOf (w : PricedParts) (p : ℕ) (date : Dated) : Type 0 where
-  pub run : date.run < length w.parts.runs
-  pub cost_is : date.cost ≡ part_cost w.grid p (kept w.grid.station (run_at w.parts.runs date.run).plain)
 
 -- what the unions of the hour cost that begins in the minute lo, in walks from second p
 pub record IsHourCost (w : PricedParts) (announced : Bool) (p lo cost : ℕ) : Type 0 where
   pub cost_is : (sets : ℕ → ℕ) → AreUnionsOfWalks w.grid.station announced p lo (lo + HOUR_MINUTES) (length w.grid.rows) sets → cost ≡ unions_cost w.grid sets
   pub bound : cost ≤ most_cost w.grid
+
+-- hours one after the other, from that which begins in the minute lo on, at most so many: each costs an entry of some costs and
+-- what the date does
+pub record AreInRun (w : PricedParts) (costs : List ℕ) (announced : Bool) (p lo most : ℕ) (r : InRun) : Type 0 where
+  pub some : 1 ≤ r.count
+  pub few : r.count ≤ most
+  pub entries : r.begin + r.count ≤ length costs
+  pub each : (j : ℕ) → j < r.count → IsHourCost w announced p (lo + HOUR_MINUTES * j) (slice_index costs (r.begin + j) + r.date)

@@ -6,14 +6,12 @@ ghost use Rattle.slot_columns.specs.Parts.{most_cost};
 ghost use Rattle.slot_columns.specs.declared.limits.TheConstants.{SECONDS_PER_MINUTE};
 ghost use Rattle.walk_costs.specs.Walks.{later_minutes};
 ghost use Rattle.block_costs.specs.Blocks.{AreUnionsOfWalks, unions_cost};
-ghost use Rattle.block_costs.specs.Hours.{IsDateOf, IsHourCost};
-ghost use Rattle.minute_parts.specs.Parts.{IsInRun};
+ghost use Rattle.block_costs.specs.Hours.{IsHourCost};
 ghost use Rattle.block_costs.specs.declared.minutes.TheConstants.{HOUR_MINUTES};
 
 use crate::asked::cost_as_asked;
-use crate::dated::{Dated, dated_at};
 use crate::hours::{Hours, hours_of};
-use crate::kept::{Kept, YEAR_DAYS, is_kept, kept_days, kept_years};
+use crate::kept::{Kept, KeptHours, YEAR_DAYS, is_kept, kept_days, kept_hours, kept_years};
 use crate::minutes::HOUR_MINUTES;
 use definitions::MINUTES_PER_DAY;
 use slot_columns::ColumnsFault;
@@ -44,10 +42,12 @@ impl From<ColumnsFault> for BlocksFault {
 /// the walks.
 #[derive(Drop)]
 pub struct StationBlocks {
-    walks: StationWalks,
+    pub(crate) walks: StationWalks,
     days: Kept,
     years: Kept,
-    hours: Hours,
+    // The hours whose walks lie in one run, and those whose walks go on to the next date.
+    pub(crate) hours: Hours,
+    changes: KeptHours,
 }
 
 impl Model for StationBlocks {
@@ -61,7 +61,8 @@ impl Model for StationBlocks {
     ghost view = { λ b. b.walks };
 
     ghost invariant = { λ b. AreKept b.walks b.days.ranges.items b.days.costs × AreKept b.walks b.years.ranges.items b.years.costs
-        × AreHours b.walks b.hours.begin b.hours.firsts.items b.hours.rests.items b.hours.costs.items };
+        × AreKept b.walks b.changes.kept.ranges.items b.changes.kept.costs
+        × AreHours b.walks b.hours.begin b.hours.call b.hours.firsts.items b.hours.rests.items b.hours.costs.items };
 }
 
 impl StationBlocks {
@@ -72,11 +73,13 @@ impl StationBlocks {
         let days = kept_days(alloc, &walks)?;
         let years = kept_years(alloc, &walks)?;
         let hours = hours_of(alloc, &walks)?;
+        let changes = kept_hours(alloc, &walks)?;
         Ok(StationBlocks {
             walks,
             days,
             years,
             hours,
+            changes,
         })
     }
 
@@ -105,6 +108,9 @@ impl StationBlocks {
         if self.walks.never_shows(lo, last) {
             return self.plain_cost(p, lo, hi);
         }
+        if hi - lo == HOUR_MINUTES as u32 {
+            return self.hour_cost(announced, p, lo);
+        }
         cost_as_asked(&self.walks, announced, p, lo, hi)
     }
 
@@ -121,8 +127,7 @@ impl StationBlocks {
             return self.days.costs.cost(day, p);
         }
         if hi - lo == HOUR_MINUTES as u32 {
-            let date = dated_at(&self.walks, p, lo);
-            return self.hour_cost(p, lo, &date);
+            return self.hour_cost(false, p, lo);
         }
         let year = day / YEAR_DAYS as usize;
         if is_kept(&self.years, year, lo, hi) {
@@ -131,25 +136,45 @@ impl StationBlocks {
         cost_as_asked(&self.walks, false, p, lo, hi)
     }
 
-    // The same of the hour that begins in the minute `lo`, in the run of this date.
-    pub(crate) fn hour_cost(&self, p: u8, lo: u32, date: &Dated) -> u32
+    // The same of the hour that begins in the minute `lo`.
+    fn hour_cost(&self, announced: bool, p: u8, lo: u32) -> u32
         requires second { p < SECONDS_PER_MINUTE }
-        requires encoded { lo + HOUR_MINUTES + later_minutes (length self.now.grid.rows) p ≤ self.now.parts.end }
-        requires date { IsDateOf self.now p date.now }
-        requires run { IsInRun self.now.parts lo date.now.run }
-        ensures { IsHourCost self.now false p lo result }
+        requires regular { AreRegular announced lo (lo + HOUR_MINUTES + later_minutes (length self.now.grid.rows) p) self.now.parts.end }
+        ensures { IsHourCost self.now announced p lo result }
     {
-        let parts = self.walks.parts();
+        // What so few slots and receivers cost fits.
+        self.walks.columns();
+        match self.hours.in_run(&self.walks, announced, p, lo, 1) {
+            Some(kept) => self.hours.costs[kept.begin] + kept.date,
+            None => self.hour_alone(announced, p, lo),
+        }
+    }
+
+    // The same of an hour that isn't kept with those of its run.
+    pub(crate) fn hour_alone(&self, announced: bool, p: u8, lo: u32) -> u32
+        requires second { p < SECONDS_PER_MINUTE }
+        requires regular { AreRegular announced lo (lo + HOUR_MINUTES + later_minutes (length self.now.grid.rows) p) self.now.parts.end }
+        ensures { IsHourCost self.now announced p lo result }
+    {
+        if announced {
+            return self.hour_as_asked(announced, p, lo);
+        }
         // What ends before the parts' end fits.
-        parts.end();
-        let later = self.walks.later_minutes(p);
-        let hi = lo + HOUR_MINUTES as u32;
-        if parts.run_end(date.run) - lo < HOUR_MINUTES as u32 + later {
-            return cost_as_asked(&self.walks, false, p, lo, hi);
-        }
-        match self.hours.cost(&self.walks, p, lo, date) {
+        self.walks.parts().end();
+        match self.changes.cost(&self.walks, p, lo) {
             Some(cost) => cost,
-            None => cost_as_asked(&self.walks, false, p, lo, hi),
+            None => self.hour_as_asked(announced, p, lo),
         }
+    }
+
+    // The same by unions that are made for it.
+    fn hour_as_asked(&self, announced: bool, p: u8, lo: u32) -> u32
+        requires second { p < SECONDS_PER_MINUTE }
+        requires regular { AreRegular announced lo (lo + HOUR_MINUTES + later_minutes (length self.now.grid.rows) p) self.now.parts.end }
+        ensures { IsHourCost self.now announced p lo result }
+    {
+        // What ends before the parts' end fits.
+        self.walks.parts().end();
+        cost_as_asked(&self.walks, announced, p, lo, lo + HOUR_MINUTES as u32)
     }
 }

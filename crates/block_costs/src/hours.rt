@@ -1,53 +1,70 @@
 //! What the unions of whole hours cost whose walks lie in one run: what the time of day tells there, which is kept for each
 //! hour of the local day, and what the date tells of the seconds that are left to it.
 
-ghost use Rattle.std.specs.Prelude.{ℕ, ◌≡◌, ◌+◌, ◌<◌, ◌≤◌, ◌^◌, IfOk, IfSome, OnOk, bit_or, false, length, slice_index, true};
-ghost use Rattle.minute_parts.specs.Runs.{end_of_run, first_of};
+ghost use Rattle.std.specs.Prelude.{ℕ, ◌≡◌, ◌+◌, ◌*◌, ◌<◌, ◌≤◌, ◌^◌, IfOk, IfSome, OnOk, bit_or, false, length, slice_index, true};
 ghost use Rattle.block_costs.specs.declared.minutes.TheConstants.{HOUR_MINUTES};
 ghost use Rattle.slot_columns.specs.declared.limits.TheConstants.{SECONDS_PER_MINUTE};
+ghost use Rattle.span_unions.specs.Unions.{AreRegular};
 ghost use Rattle.walk_costs.specs.Dates.{is_given_up};
 ghost use Rattle.walk_costs.specs.Walks.{later_minutes};
-ghost use Rattle.block_costs.specs.Hours.{AreHourCosts, AreHourLayers, AreHours, IsDateOf, IsHourCost, hour_at};
+ghost use Rattle.block_costs.specs.Hours.{AreHourCosts, AreHourLayers, AreHours, AreInRun, hour_at};
 
-use crate::dated::Dated;
 use crate::kept::LAST_SECOND;
 use definitions::{MINUTES_PER_DAY, MINUTES_PER_HOUR};
 use signal_base::Station;
 use slot_columns::{Part, SECONDS_PER_MINUTE};
 use span_unions::hours_tell_time_and_date;
 use std::alloc::{AllocError, Global};
-use walk_costs::StationWalks;
+use walk_costs::{StationWalks, date_part};
 
 /// What the time of day tells in the hours of the local day, and what that costs. They begin so many minutes after a whole
 /// local hour as the UTC hours do.
 #[derive(Drop)]
 pub struct Hours {
     pub begin: u16,
+    // What the time of day tells in the minutes of the call sign, of the seconds that it takes. Each hour has such a minute.
+    pub call: Part,
     pub firsts: Vec<Part>,
     pub rests: Vec<Part>,
     // A row of hours for each second in which a walk may begin.
     pub costs: Vec<u32>,
 }
 
+/// Hours whose costs are kept, one after the other, and whose walks lie in one run.
+#[derive(Clone, Copy)]
+pub struct InRun {
+    /// Where the costs begin of what the time of day tells.
+    pub begin: usize,
+    /// How many hours these are.
+    pub count: usize,
+    /// What the date costs in each of them.
+    pub date: u32,
+}
+
 /// How many hours there are.
 pub const DAY_HOURS: usize = (MINUTES_PER_DAY / MINUTES_PER_HOUR) as usize;
+
+// In this minute of each hour JJY sends its call sign.
+const CALL_MINUTE: u16 = 15;
 
 // How many entries the rows have together.
 const ENTRIES: usize = SECONDS_PER_MINUTE * DAY_HOURS;
 
 /// The hours of a station's local day, as far as the time of day tells the same in all later minutes of their walks.
 pub fn hours_of(alloc: Global, walks: &StationWalks) -> Result<Hours, AllocError>
-    ensures { IfOk result (λ hours. AreHours walks.now hours.begin hours.firsts.items hours.rests.items hours.costs.items) }
+    ensures { IfOk result (λ hours. AreHours walks.now hours.begin hours.call hours.firsts.items hours.rests.items hours.costs.items) }
 {
     let begin = first_shift(walks) % MINUTES_PER_HOUR as u16;
+    let call = *walks.parts().time_part(CALL_MINUTE);
     let mut firsts = Vec::with_capacity(alloc, DAY_HOURS)?;
     let mut rests = Vec::with_capacity(alloc, DAY_HOURS)?;
     for _ in 0..DAY_HOURS {
-        add_hour(&mut firsts, &mut rests, walks, begin)?;
+        add_hour(&mut firsts, &mut rests, walks, begin, &call)?;
     }
     let costs = costs_of(alloc, walks, &firsts, &rests)?;
     Ok(Hours {
         begin,
+        call,
         firsts,
         rests,
         costs,
@@ -94,15 +111,16 @@ fn first_shift(walks: &StationWalks) -> u16 {
     parts.run(0).shift
 }
 
-// The next hour, unless the time of day tells less in the minutes that all its walks share.
+// The next hour, unless the time of day tells less in the minutes that all its walks share, or another call sign.
 fn add_hour(
     firsts: &mut Vec<Part>,
     rests: &mut Vec<Part>,
     walks: &StationWalks,
     begin: u16,
+    call: &Part,
 ) -> Result<(), AllocError>
-    requires { AreHourLayers walks.now begin firsts.old.items rests.old.items }
-    ensures { OnOk result (AreHourLayers walks.now begin firsts.new.items rests.new.items) }
+    requires { AreHourLayers walks.now begin call.now firsts.old.items rests.old.items }
+    ensures { OnOk result (AreHourLayers walks.now begin call.now firsts.new.items rests.new.items) }
 {
     let u = firsts
         .len()
@@ -115,51 +133,64 @@ fn add_hour(
     let Some(layers) = walks.unions().time_layers(u as u16, reach) else {
         return Ok(());
     };
+    let station = walks.columns().station();
+    if !calls_alike(station, &layers.first, call) || !calls_alike(station, &layers.rest, call) {
+        return Ok(());
+    }
     firsts.push(layers.first)?;
     rests.push(layers.rest)?;
     Ok(())
 }
 
 impl Hours {
-    /// What the unions cost over the walks from second `p` of the hour that begins in the minute `lo`, all of which lie in the
-    /// run of this date and announce no leap second. None where this hour isn't kept.
-    pub fn cost(&self, walks: &StationWalks, p: u8, lo: u32, date: &Dated) -> Option<u32>
-        requires hours { AreHours walks.now self.now.begin self.now.firsts.items self.now.rests.items self.now.costs.items }
+    /// What the unions cost over the walks from second `p` of the hours that are kept, from that which begins in the minute `lo`
+    /// on, as far as their walks lie in its run, and at most so many hours. None where not even the first is kept or lies in one
+    /// run.
+    pub fn in_run(
+        &self,
+        walks: &StationWalks,
+        announced: bool,
+        p: u8,
+        lo: u32,
+        most: usize,
+    ) -> Option<InRun>
+        requires hours { AreHours walks.now self.now.begin self.now.call self.now.firsts.items self.now.rests.items self.now.costs.items }
         requires second { p < SECONDS_PER_MINUTE }
-        requires date { IsDateOf walks.now p date.now }
-        requires begun { first_of walks.now.parts.runs date.now.run ≤ lo }
-        requires ends { lo + HOUR_MINUTES + later_minutes (length walks.now.grid.rows) p ≤ end_of_run walks.now.parts.runs walks.now.parts.end date.now.run }
-        ensures { IfSome result (IsHourCost walks.now false p lo) }
+        requires some { 1 ≤ most }
+        requires few { most ≤ DAY_HOURS }
+        requires regular { AreRegular announced lo (lo + HOUR_MINUTES * most + later_minutes (length walks.now.grid.rows) p) walks.now.parts.end }
+        ensures { IfSome result (AreInRun walks.now self.now.costs.items announced p lo most) }
     {
         hours_tell_time_and_date();
         let unions = walks.unions();
         let parts = unions.parts();
         // They are a table, as their end is one.
         parts.end();
-        let at = parts.run(date.run);
+        let run = parts.run_of(lo);
+        let at = parts.run(run);
+        let left = parts.run_end(run) - lo;
+        let whole = left.saturating_sub(walks.later_minutes(p)) / MINUTES_PER_HOUR;
         let u = lo % MINUTES_PER_DAY + at.shift as u32;
         if u % MINUTES_PER_HOUR != self.begin as u32 {
             return None;
         }
         let hour = (u % MINUTES_PER_DAY / MINUTES_PER_HOUR) as usize;
-        if hour >= self.firsts.len() {
+        let kept = self.firsts.len().min(DAY_HOURS).saturating_sub(hour);
+        let count = most.min(whole as usize).min(kept);
+        if count == 0 {
             return None;
         }
-        // What so few slots and receivers cost fits.
         let columns = walks.columns();
-        columns.seconds();
-        columns.receivers();
-        if !leaves_nothing(
-            columns.station(),
-            &self.firsts[hour],
-            &self.rests[hour],
-            &at.plain,
-        ) {
+        let told = date_part(at, announced);
+        if !leaves_nothing(columns.station(), &self.call, told) {
             return None;
         }
-        bytes_of(&at.plain);
-        let of_time = self.costs[p as usize * DAY_HOURS + hour];
-        Some(of_time + date.cost)
+        bytes_of(told);
+        Some(InRun {
+            begin: p as usize * DAY_HOURS + hour,
+            count,
+            date: walks.kept_date_cost(announced, p, run),
+        })
     }
 }
 
@@ -172,19 +203,23 @@ fn bytes_of(part: &Part)
     }
 }
 
-// Whether the time of day leaves nothing to the date in the seconds that the station gives up for its call sign. It tells them
-// in one minute of each half hour.
-fn leaves_nothing(station: Station, first: &Part, rest: &Part, date: &Part) -> bool
-    ensures { result ≡ true → (s : ℕ) → is_given_up station s ≡ true
-        → (bit_or (slice_index first.now s) (slice_index date.now s) ≡ slice_index first.now s) × (bit_or (slice_index rest.now s) (slice_index date.now s) ≡ slice_index rest.now s) }
+// Whether the time of day leaves nothing to the date in the seconds that the station gives up for its call sign, where it tells
+// this there.
+fn leaves_nothing(station: Station, call: &Part, date: &Part) -> bool
+    ensures { result ≡ true → (s : ℕ) → is_given_up station s ≡ true → bit_or (slice_index call.now s) (slice_index date.now s) ≡ slice_index call.now s }
 {
     match station {
-        Station::Jjy => {
-            covers(first, date, 40, 49)
-                && covers(first, date, 50, 56)
-                && covers(rest, date, 40, 49)
-                && covers(rest, date, 50, 56)
-        }
+        Station::Jjy => covers(call, date, 40, 49) && covers(call, date, 50, 56),
+        Station::Dcf77 | Station::Msf | Station::Wwvb => true,
+    }
+}
+
+// Whether a part tells the same as the other in the seconds that the station gives up for its call sign.
+fn calls_alike(station: Station, part: &Part, call: &Part) -> bool
+    ensures { result ≡ true → (s : ℕ) → is_given_up station s ≡ true → slice_index part.now s ≡ slice_index call.now s }
+{
+    match station {
+        Station::Jjy => same_in(part, call, 40, 49) && same_in(part, call, 50, 56),
         Station::Dcf77 | Station::Msf | Station::Wwvb => true,
     }
 }
@@ -197,6 +232,19 @@ fn covers(all: &Part, part: &Part, from: usize, to: usize) -> bool
 {
     for s in from..to {
         if all[s] | part[s] != all[s] {
+            return false;
+        }
+    }
+    true
+}
+
+// Whether two parts are the same in the seconds from `from` up to, and without, `to`.
+fn same_in(part: &Part, other: &Part, from: usize, to: usize) -> bool
+    requires { to ≤ SECONDS_PER_MINUTE }
+    ensures { result ≡ true → (s : ℕ) → from ≤ s → s < to → slice_index part.now s ≡ slice_index other.now s }
+{
+    for s in from..to {
+        if part[s] != other[s] {
             return false;
         }
     }

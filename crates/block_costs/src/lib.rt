@@ -6,7 +6,6 @@ mod asked;
 mod blocks;
 #[cfg(test)]
 mod crossing_tests;
-mod dated;
 mod day;
 mod hours;
 mod kept;

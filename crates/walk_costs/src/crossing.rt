@@ -95,8 +95,8 @@ fn run_across(first: usize, front: u32, m: u8) -> usize
     if (m as u32) < front { first } else { first + 1 }
 }
 
-// What the date of a run tells.
-fn date_part(run: &Run, announced: bool) -> &Part
+/// What the date of a run tells.
+pub fn date_part(run: &Run, announced: bool) -> &Part
     ensures { result.now ≡ part_where announced run.now }
 {
     if announced {

@@ -52,18 +52,8 @@ pub struct DateCost {
     pub by_call: ByCall,
 }
 
-/// What a part by the date costs in the walks from second `p`, for each walk minute that the call sign of JJY may take. A
-/// walk has no minute after its 21st.
-pub fn by_call(columns: &SlotColumns, p: u8, part: &Part) -> ByCall
-    requires second { p < SECONDS_PER_MINUTE }
-    requires fits { part_cost columns.now p part.now < 2 ^ 32 }
-    ensures { (m : ℕ) → m < CALL_MINUTES → cost_at_call result m ≡ date_cost columns.now p m part.now }
-{
-    let rest = columns.part_cost(p, &kept(columns.station(), part));
-    by_call_with(columns, p, part, rest)
-}
-
-/// The same where it is known what the seconds cost that aren't given up.
+/// What a part by the date costs in the walks from second `p`, for each walk minute that the call sign of JJY may take. It is
+/// known what its seconds cost that aren't given up. A walk has no minute after its 21st.
 pub fn by_call_with(columns: &SlotColumns, p: u8, part: &Part, rest: u32) -> ByCall
     requires second { p < SECONDS_PER_MINUTE }
     requires fits { part_cost columns.now p part.now < 2 ^ 32 }

@@ -6,7 +6,8 @@ ghost use Rattle.minute_parts.specs.Runs.{run_at};
 ghost use Rattle.walk_costs.specs.Dates.{cost_at_call, date_cost, kept, part_cost};
 ghost use Rattle.walk_costs.specs.Walks.{AreDateCosts};
 
-use crate::date::{ByCall, CALL_MINUTES, by_call, by_call_with, kept};
+use crate::crossing::date_part;
+use crate::date::{ByCall, CALL_MINUTES, by_call_with, kept};
 use crate::shown::is_told_alike;
 use crate::walks::{StationWalks, WalksFault};
 use minute_parts::{Part, Parts};
@@ -15,28 +16,29 @@ use slot_columns::{LayerTable, SECONDS_PER_MINUTE, SlotColumns};
 use std::alloc::{AllocError, Global};
 
 impl StationWalks {
-    /// What the date of a run costs in the walks from second `p` that announce no leap second, without the seconds that the
-    /// station gives up for its call sign.
-    pub fn kept_date_cost(&self, p: u8, run: usize) -> u32
+    /// What the date of a run costs in the walks from second `p`, without the seconds that the station gives up for its call
+    /// sign: by the table where a leap second isn't announced, or the announcement changes nothing.
+    pub fn kept_date_cost(&self, announced: bool, p: u8, run: usize) -> u32
         requires second { p < SECONDS_PER_MINUTE }
         requires run { run < length self.now.parts.runs }
-        ensures { result ≡ part_cost self.now.grid p (kept self.now.grid.station (run_at self.now.parts.runs run).plain) }
+        ensures { result ≡ part_cost self.now.grid p (kept self.now.grid.station (part_where announced (run_at self.now.parts.runs run))) }
     {
+        let at = self.unions.parts().run(run);
+        if announced && !is_told_alike(at) {
+            let left = kept(self.columns.station(), &at.announced);
+            return self.columns.part_cost(p, &left);
+        }
         self.dates.cost(run, p)
     }
 
-    // What the date of a run costs, for each walk minute that the call sign may take: by the table where a leap second isn't
-    // announced, or the announcement changes nothing.
+    // What the date of a run costs, for each walk minute that the call sign may take.
     pub(crate) fn by_call(&self, announced: bool, p: u8, run: usize) -> ByCall
         requires second { p < SECONDS_PER_MINUTE }
         requires run { run < length self.now.parts.runs }
         ensures { (m : ℕ) → m < CALL_MINUTES → cost_at_call result m ≡ date_cost self.now.grid p m (part_where announced (run_at self.now.parts.runs run)) }
     {
-        let at = self.unions.parts().run(run);
-        if announced && !is_told_alike(at) {
-            return by_call(&self.columns, p, &at.announced);
-        }
-        by_call_with(&self.columns, p, &at.plain, self.kept_date_cost(p, run))
+        let part = date_part(self.unions.parts().run(run), announced);
+        by_call_with(&self.columns, p, part, self.kept_date_cost(announced, p, run))
     }
 }
 

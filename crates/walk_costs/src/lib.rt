@@ -16,7 +16,7 @@ mod tenths;
 mod tests;
 mod walks;
 
-pub use crossing::Crossing;
+pub use crossing::{Crossing, date_part};
 pub use date::{ByCall, ByMinute, CALL_MINUTES, DateCost};
 pub use shown::Shown;
 pub use stretch::{MinuteCosts, STRETCH};

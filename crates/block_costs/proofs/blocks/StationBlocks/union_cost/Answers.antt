@@ -17,3 +17,9 @@ returns-then-never_shows-clause-cost c = λ sets unions.
     c.plain_cost-then-never_shows.ensures.cost sets
     (unannounced_unions w.grid.station c.args.p c.args.lo c.args.hi n c.later_minutes.result sets c.requires.second later
     (λ t s ge le lt. same t s ge le (subst (λ a. minute_length a t ≡ 60) c.if-not-announced.false (c.requires.regular.short t ge (omega (arith, le, later, c.requires.some)))) lt) announced)
+
+pub returns-then-hi-lo-clause-cost : goal.returns-then-hi-lo-clause-cost
+returns-then-hi-lo-clause-cost c = λ sets unions.
+    let w = c.args.self.now in
+    let end : c.args.hi ≡ c.args.lo + 60 = omega (arith, c.if-hi-lo.true, c.requires.some) in
+    c.hour_cost.ensures.cost_is sets (subst (λ e. AreUnionsOfWalks w.grid.station c.args.announced c.args.p c.args.lo e (length w.grid.rows) sets) end unions)
