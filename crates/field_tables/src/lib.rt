@@ -7,6 +7,7 @@ mod hour;
 mod hours;
 mod leaps;
 mod minutes;
+mod shown;
 mod station;
 mod stations;
 mod sums;

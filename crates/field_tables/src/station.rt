@@ -14,6 +14,7 @@ ghost use Rattle.field_tables.specs.Sums.{IsOf};
 ghost use Rattle.block_costs.specs.declared.minutes.TheConstants.{HOUR_MINUTES};
 
 use crate::minutes::Flags;
+use crate::shown::mark_stretch;
 use block_costs::{BlocksFault, HOUR_MINUTES, MinuteCosts, StationBlocks};
 use civil::Civil;
 use definitions::Block;
@@ -149,9 +150,9 @@ impl StationSums {
         if walks.never_shows(block.lo, last) {
             return;
         }
-        for i in 0..(block.hi - block.lo) as usize {
-            let shows = walks.shows_by_minutes(block.second, block.lo + i as u32);
-            shown[i] = shown[i] || shows;
+        let mut t = block.lo;
+        while t < block.hi {
+            t = mark_stretch(shown, walks, block.second, block.lo, t, block.hi);
         }
     }
 

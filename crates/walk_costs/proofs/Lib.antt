@@ -11,4 +11,5 @@ pub mod DateLaws
 pub mod ShownLaws
 pub mod AnnouncedLaws
 pub mod StretchLaws
+pub mod MarkLaws
 pub mod CrossingLaws

@@ -8,6 +8,7 @@ mod crossing;
 mod date;
 mod dut;
 mod kept;
+mod marks;
 mod shown;
 mod small;
 mod stretch;
@@ -18,6 +19,7 @@ mod walks;
 
 pub use crossing::{Crossing, date_part};
 pub use date::{ByCall, ByMinute, CALL_MINUTES, DateCost};
+pub use marks::Flags;
 pub use shown::Shown;
 pub use stretch::{MinuteCosts, STRETCH};
 pub use walks::{StationWalks, WalksFault};

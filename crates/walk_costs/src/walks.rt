@@ -174,7 +174,7 @@ impl StationWalks {
     }
 
     // Whether the walks show an announcement that lie in the run and begin in second `p`.
-    fn shown(&self, announced: bool, p: u8, run: usize) -> Shown
+    pub(crate) fn shown(&self, announced: bool, p: u8, run: usize) -> Shown
         requires { run < length self.now.parts.runs }
         ensures { IsShown self.now announced p run result }
     {
@@ -208,7 +208,7 @@ impl StationWalks {
     }
 
     // The same by a look at the slots.
-    fn shows_in_slot(&self, p: u8, run: usize, t0: u32) -> bool
+    pub(crate) fn shows_in_slot(&self, p: u8, run: usize, t0: u32) -> bool
         requires { IsPlainIn self.now true p t0 run }
         ensures { IsTrue result ↔ ShowsAnnouncement self.now (record { first = t0; second = p; announced = true }) }
     {

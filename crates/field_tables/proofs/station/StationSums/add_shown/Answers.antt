@@ -1,12 +1,9 @@
-use Rattle.std.proofs.Common.{◌≡◌, ℕ, ◌+◌, ◌-◌, ◌⊎◌, ◌<◌, ◌≤◌, ◌↔◌, inl, inr, false, true, get_or, length, set, sym, ap, ◌∙◌, subst, arith}
-use Rattle.std.proofs.Math.ListN.{length-set}
-use Rattle.std.proofs.lemmas.Bool.{cases_eq}
-use Rattle.std.proofs.lemmas.List.{get_or-set_other, get_or-set_same}
+use Rattle.std.proofs.Common.{◌≡◌, ℕ, ◌+◌, ◌-◌, ◌⊎◌, ◌<◌, ◌≤◌, ◌↔◌, inl, inr, false, true, get_or, length, sym, ap, subst, arith}
 use Rattle.span_unions.specs.Unions.{AreRegular}
+use Rattle.walk_costs.specs.Stretches.{AreMarked}
 use Rattle.walk_costs.specs.Walks.{PricedParts, ShowsAnnouncement, later_minutes}
-use Rattle.field_tables.specs.Hours.{sequence_at}
+use Rattle.walk_costs.proofs.MarkLaws.{chained, none_marked}
 use Rattle.field_tables.proofs.MinuteLaws.{one_regular}
-use Rattle.field_tables.proofs.station.StationSums.add_shown.Goals.{then-shown-i, else-shown-i}
 use Rattle.field_tables.proofs.station.StationSums.add_shown.Goals as goal
 
 pub returns-then-never_shows : goal.returns-then-never_shows
@@ -26,37 +23,31 @@ returns-then-never_shows c = λ j within.
       ],
     )
 
-pub loop-i-preserved : goal.loop-i-preserved
-loop-i-preserved c =
-    let w = c.args.self.now in
+pub loop-t-init : goal.loop-t-init
+loop-t-init c = record {
+  long = omega arith;
+  begun = omega arith;
+  within = omega (arith, c.requires.order);
+  marked = none_marked c.args.self.now c.args.block.now.second c.args.block.now.lo c.args.block.now.lo c.args.block.now.lo c.args.shown.now
+      (λ t ge lt. absurd (omega (arith, ge, lt)));
+}
+
+pub loop-t-preserved : goal.loop-t-preserved
+loop-t-preserved c =
     let b = c.args.block.now in
-    let i = c.loop-i.i in
-    let before = c.loop-i.invariant in
-    let old = before.rest i (omega arith) in
-    let shows : c.shows_by_minutes-shows.result ≡ true ↔ ShowsAnnouncement w (sequence_at b (b.lo + i)) =
-    subst (λ a. c.shows_by_minutes-shows.result ≡ true ↔ ShowsAnnouncement w (record { first = b.lo + i; second = b.second; announced = a })) (sym c.requires.announced)
-    (subst (λ (v : PricedParts). c.shows_by_minutes-shows.result ≡ true ↔ ShowsAnnouncement v (record { first = b.lo + i; second = b.second; announced = true })) c.walks-walks.ensures c.shows_by_minutes-shows.ensures) in
-    let here : c.if-shown-i.shown ≡ true ↔ (get_or c.args.shown.now i false ≡ true ⊎ ShowsAnnouncement w (sequence_at b (b.lo + i))) = elim c.if-shown-i.branch [
-      | then-shown-i v ↦ (λ _. inl (sym old ∙ v.if-shown-i.true), λ _. v.shown-is ∙ v.if-shown-i.true)
-      | else-shown-i v ↦ (
-        λ told. inr (shows.0 (sym v.shown-is ∙ told)),
-        λ either. elim either [
-          | inl told ↦ (let both = sym told ∙ sym old ∙ v.if-shown-i.false in absurd cc)
-          | inr told ↦ v.shown-is ∙ shows.1 told
-        ],
-      )
-    ] in
+    let before = c.loop-t.invariant in
+    let more = c.mark_stretch-t.ensures.more in
     record {
-      long = length-set c.loop-i.shown i c.if-shown-i.shown ∙ before.long;
-      done = λ j less. elim (cases_eq j i) [
-        | inl same ↦ (
-            let at : get_or (set c.loop-i.shown i c.if-shown-i.shown) j false ≡ c.if-shown-i.shown =
-            ap (λ n. get_or (set c.loop-i.shown i c.if-shown-i.shown) n false) same ∙ get_or-set_same c.loop-i.shown i c.if-shown-i.shown false (omega (arith, before.long, c.loop-i-test.true, c.requires.few)) in
-            subst (λ v. v ≡ true ↔ (get_or c.args.shown.now j false ≡ true ⊎ ShowsAnnouncement w (sequence_at b (b.lo + j)))) (sym at)
-            (subst (λ n. c.if-shown-i.shown ≡ true ↔ (get_or c.args.shown.now n false ≡ true ⊎ ShowsAnnouncement w (sequence_at b (b.lo + n)))) (sym same) here))
-        | inr other ↦ (
-            subst (λ v. v ≡ true ↔ (get_or c.args.shown.now j false ≡ true ⊎ ShowsAnnouncement w (sequence_at b (b.lo + j))))
-            (sym (get_or-set_other c.loop-i.shown i j c.if-shown-i.shown false other)) (before.done j (omega (arith, less, other))))
-      ];
-      rest = λ j ge. get_or-set_other c.loop-i.shown i j c.if-shown-i.shown false (omega (arith, ge)) ∙ before.rest j (omega (arith, ge));
+      long = omega arith;
+      begun = omega (arith, before.begun, more);
+      within = c.mark_stretch-t.ensures.within;
+      marked = chained c.args.self.now b.second b.lo b.lo c.loop-t.t c.mark_stretch-t.result c.args.shown.now c.loop-t.shown c.mark_stretch-t.new.flags
+          before.begun (omega (arith, more)) before.marked
+          (subst (λ (v : PricedParts). AreMarked v b.second b.lo c.loop-t.t c.mark_stretch-t.result c.loop-t.shown c.mark_stretch-t.new.flags) c.walks-walks.ensures c.mark_stretch-t.ensures.marked);
     }
+
+pub returns : goal.returns
+returns c = λ i less.
+    let b = c.args.block.now in
+    subst (λ a. get_or c.loop-t.shown i false ≡ true ↔ (get_or c.args.shown.now i false ≡ true ⊎ ShowsAnnouncement c.args.self.now (record { first = b.lo + i; second = b.second; announced = a })))
+    (sym c.requires.announced) (c.loop-t.invariant.marked.each i (omega arith) (omega (arith, less, c.loop-t-test.false)))
