@@ -7,7 +7,7 @@ use Rattle.slot_columns.specs.declared.limits.TheConstants.{SECONDS_PER_MINUTE}
 use Rattle.span_unions.specs.Hours.{AreTimeLayers}
 use Rattle.walk_costs.specs.Dates.{is_given_up}
 use Rattle.walk_costs.specs.Walks.{PricedParts, later_minutes}
-use Rattle.block_costs.specs.declared.hours.InRun.{InRun}
+use Rattle.block_costs.specs.declared.hours.HoursInRun.{HoursInRun}
 use Rattle.block_costs.specs.declared.hours.TheConstants.{DAY_HOURS}
 use Rattle.block_costs.specs.declared.minutes.TheConstants.{HOUR_MINUTES}
 use Rattle.block_costs.specs.Blocks.{AreUnionsOfWalks, unions_cost}
@@ -47,7 +47,7 @@ pub record IsHourCost (w : PricedParts) (announced : Bool) (p lo cost : ℕ) : T
 
 -- hours one after the other, from that which begins in the minute lo on, at most so many: each costs an entry of some costs and
 -- what the date does
-pub record AreInRun (w : PricedParts) (costs : List ℕ) (announced : Bool) (p lo most : ℕ) (r : InRun) : Type 0 where
+pub record AreHoursInRun (w : PricedParts) (costs : List ℕ) (announced : Bool) (p lo most : ℕ) (r : HoursInRun) : Type 0 where
   pub some : 1 ≤ r.count
   pub few : r.count ≤ most
   pub entries : r.begin + r.count ≤ length costs

@@ -10,7 +10,7 @@ ghost use Rattle.block_costs.specs.Days.{AreHoursAdded, IsHourAdded, hour_begin}
 ghost use Rattle.block_costs.specs.declared.hours.TheConstants.{DAY_HOURS};
 
 use crate::blocks::StationBlocks;
-use crate::hours::{DAY_HOURS, InRun};
+use crate::hours::{DAY_HOURS, HoursInRun};
 use definitions::{MINUTES_PER_DAY, MINUTES_PER_HOUR};
 
 /// A cost for each hour of a day.
@@ -92,7 +92,7 @@ impl StationBlocks {
 }
 
 // Adds to the entries from `at` on what these hours cost, by the row that they are in.
-fn add_row(costs: &mut HourCosts, at: usize, row: &[u32], kept: &InRun)
+fn add_row(costs: &mut HourCosts, at: usize, row: &[u32], kept: &HoursInRun)
     requires entries { at + kept.now.count ≤ DAY_HOURS }
     requires hours { kept.now.begin + kept.now.count ≤ length row.now }
     requires room { (j : ℕ) → j < kept.now.count → slice_index costs.old (at + j) + (slice_index row.now (kept.now.begin + j) + kept.now.date) < 2 ^ 32 }

@@ -7,7 +7,7 @@ ghost use Rattle.slot_columns.specs.declared.limits.TheConstants.{SECONDS_PER_MI
 ghost use Rattle.span_unions.specs.Unions.{AreRegular};
 ghost use Rattle.walk_costs.specs.Dates.{is_given_up};
 ghost use Rattle.walk_costs.specs.Walks.{later_minutes};
-ghost use Rattle.block_costs.specs.Hours.{AreHourCosts, AreHourLayers, AreHours, AreInRun, hour_at};
+ghost use Rattle.block_costs.specs.Hours.{AreHourCosts, AreHourLayers, AreHours, AreHoursInRun, hour_at};
 
 use crate::kept::LAST_SECOND;
 use definitions::{MINUTES_PER_DAY, MINUTES_PER_HOUR};
@@ -32,7 +32,7 @@ pub struct Hours {
 
 /// Hours whose costs are kept, one after the other, and whose walks lie in one run.
 #[derive(Clone, Copy)]
-pub struct InRun {
+pub struct HoursInRun {
     /// Where the costs begin of what the time of day tells.
     pub begin: usize,
     /// How many hours these are.
@@ -153,13 +153,13 @@ impl Hours {
         p: u8,
         lo: u32,
         most: usize,
-    ) -> Option<InRun>
+    ) -> Option<HoursInRun>
         requires hours { AreHours walks.now self.now.begin self.now.call self.now.firsts.items self.now.rests.items self.now.costs.items }
         requires second { p < SECONDS_PER_MINUTE }
         requires some { 1 ≤ most }
         requires few { most ≤ DAY_HOURS }
         requires regular { AreRegular announced lo (lo + HOUR_MINUTES * most + later_minutes (length walks.now.grid.rows) p) walks.now.parts.end }
-        ensures { IfSome result (AreInRun walks.now self.now.costs.items announced p lo most) }
+        ensures { IfSome result (AreHoursInRun walks.now self.now.costs.items announced p lo most) }
     {
         hours_tell_time_and_date();
         let unions = walks.unions();
@@ -186,7 +186,7 @@ impl Hours {
             return None;
         }
         bytes_of(told);
-        Some(InRun {
+        Some(HoursInRun {
             begin: p as usize * DAY_HOURS + hour,
             count,
             date: walks.kept_date_cost(announced, p, run),

@@ -1,7 +1,7 @@
 use Rattle.std.proofs.Common.{◌≡◌, ◌+◌, ◌-◌, ◌*◌, ◌<◌, ◌≤◌, ℕ, List, get_or, sym, ap, ◌∙◌, subst, arith}
 use Rattle.walk_costs.specs.Walks.{PricedParts}
 use Rattle.block_costs.specs.Days.{IsHourAdded, hour_begin}
-use Rattle.block_costs.specs.Hours.{AreInRun, IsHourCost}
+use Rattle.block_costs.specs.Hours.{AreHoursInRun, IsHourCost}
 use Rattle.block_costs.proofs.blocks.StationBlocks.add_hours_from.Goals as goal
 
 pub returns-in-Some-clause-added : goal.returns-in-Some-clause-added
@@ -15,7 +15,7 @@ returns-in-Some-clause-added c =
     let old = c.args.costs.now in
     let new = c.add_row.new.costs in
     let lo : ℕ = c.args.day * 1440 + 60 * h in
-    let are = subst (λ (v : PricedParts). AreInRun v row a p lo (24 - h) kept) c.self.view_is c.in-Some.ensures in
+    let are = subst (λ (v : PricedParts). AreHoursInRun v row a p lo (24 - h) kept) c.self.view_is c.in-Some.ensures in
     record {
       each = λ j from to.
           let i : ℕ = j - h in

@@ -3,7 +3,7 @@ use Rattle.std.proofs.lemmas.List.{get_or_default}
 use Rattle.signal_base.specs.declared.limits.TheConstants.{GREATEST_COST}
 use Rattle.slot_columns.specs.Parts.{most_cost}
 use Rattle.walk_costs.specs.Walks.{PricedParts}
-use Rattle.block_costs.specs.Hours.{AreInRun, IsHourCost}
+use Rattle.block_costs.specs.Hours.{AreHoursInRun, IsHourCost}
 use Rattle.block_costs.proofs.blocks.StationBlocks.hour_cost.Goals as goal
 
 pub overflow_add-result : goal.overflow_add-result
@@ -11,7 +11,7 @@ overflow_add-result c =
     let w = c.args.self.now in
     let kept = c.in-Some.kept in
     let costs = c.self.inside.hours.costs.items in
-    let are = subst (λ (v : PricedParts). AreInRun v costs c.args.announced c.args.p c.args.lo 1 kept) c.self.view_is c.in-Some.ensures in
+    let are = subst (λ (v : PricedParts). AreHoursInRun v costs c.args.announced c.args.p c.args.lo 1 kept) c.self.view_is c.in-Some.ensures in
     let entry = c.index.ensures ∙ get_or_default costs kept.begin c.index.result.now 0 (omega (arith, are.some, are.entries)) in
     let same : kept.begin + 0 ≡ kept.begin = omega arith in
     let first = are.each 0 (omega (arith, are.some)) in
@@ -23,7 +23,7 @@ returns-in-Some c =
     let w = c.args.self.now in
     let kept = c.in-Some.kept in
     let costs = c.self.inside.hours.costs.items in
-    let are = subst (λ (v : PricedParts). AreInRun v costs c.args.announced c.args.p c.args.lo 1 kept) c.self.view_is c.in-Some.ensures in
+    let are = subst (λ (v : PricedParts). AreHoursInRun v costs c.args.announced c.args.p c.args.lo 1 kept) c.self.view_is c.in-Some.ensures in
     let entry = c.index.ensures ∙ get_or_default costs kept.begin c.index.result.now 0 (omega (arith, are.some, are.entries)) in
     let same : kept.begin + 0 ≡ kept.begin = omega arith in
     let first = are.each 0 (omega (arith, are.some)) in
