@@ -1,4 +1,4 @@
-use Rattle.std.proofs.Common.{◌≡◌, ◌+◌, ◌*◌, ℕ, Bool, true, [], ◌∷◌, ◌++◌, List, length, sym, ap, subst, ◌∙◌, arith}
+use Rattle.std.proofs.Common.{◌≡◌, ◌+◌, ◌*◌, ℕ, true, [], ◌∷◌, ◌++◌, List, length, sym, ap, subst, ◌∙◌, arith}
 use Rattle.signal_base.specs.declared.station.Station.{Station}
 use Rattle.symbol_cost.specs.Grid.{Grid}
 use Rattle.span_unions.specs.Hours.{AreTimeLayers}

@@ -1,4 +1,4 @@
-use Rattle.std.proofs.Common.{◌≡◌, ◌+◌, ◌-◌, ◌*◌, ◌<◌, ◌≤◌, ℕ, List, get_or, sym, ap, ◌∙◌, subst, arith}
+use Rattle.std.proofs.Common.{◌≡◌, ◌+◌, ◌-◌, ◌*◌, ◌<◌, ℕ, List, get_or, ap, ◌∙◌, subst, arith}
 use Rattle.walk_costs.specs.Walks.{PricedParts}
 use Rattle.block_costs.specs.Days.{IsHourAdded, hour_begin}
 use Rattle.block_costs.specs.Hours.{AreHoursInRun, IsHourCost}

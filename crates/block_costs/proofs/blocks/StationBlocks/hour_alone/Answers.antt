@@ -1,4 +1,4 @@
-use Rattle.std.proofs.Common.{◌≡◌, ap, ◌∙◌, subst, arith}
+use Rattle.std.proofs.Common.{ap, ◌∙◌, subst, arith}
 use Rattle.minute_parts.specs.Parts.{IsPartTable}
 use Rattle.walk_costs.specs.Walks.{PricedParts}
 use Rattle.block_costs.proofs.blocks.StationBlocks.hour_alone.Goals as goal

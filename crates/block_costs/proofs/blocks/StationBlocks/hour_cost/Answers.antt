@@ -1,4 +1,4 @@
-use Rattle.std.proofs.Common.{◌≡◌, ◌+◌, ◌*◌, ◌<◌, ◌≤◌, ℕ, length, get_or, ap, ◌∙◌, subst, arith}
+use Rattle.std.proofs.Common.{◌≡◌, ◌+◌, ◌*◌, ◌≤◌, get_or, ap, ◌∙◌, subst, arith}
 use Rattle.std.proofs.lemmas.List.{get_or_default}
 use Rattle.signal_base.specs.declared.limits.TheConstants.{GREATEST_COST}
 use Rattle.slot_columns.specs.Parts.{most_cost}

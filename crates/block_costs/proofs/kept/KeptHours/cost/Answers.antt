@@ -1,4 +1,4 @@
-use Rattle.std.proofs.Common.{ℕ, ◌≡◌, ◌+◌, ◌<◌, ◌∙◌, false, length, sym, subst, arith}
+use Rattle.std.proofs.Common.{ℕ, ◌∙◌, false, length, sym, subst, arith}
 use Rattle.block_costs.specs.Blocks.{AreUnionsOfWalks}
 use Rattle.block_costs.specs.Keeping.{range_at}
 use Rattle.block_costs.proofs.kept.KeptHours.cost.Goals as goal
