@@ -73,7 +73,7 @@ module _ {P : Type 0} (told : P → Step → P → Type 0) (costs : Costs) (wind
     rising = omega (arith, length-append working.before (number ∷ []), working.rising, higher v w u p q r number next item working walked above);
     steps = working.steps ++ walked.steps;
     are = subst (λ bs. AreSteps costs window ceiling bs (working.steps ++ walked.steps)) (sym (item_further items working.before number (Some item) is_item))
-        (steps_then told costs window ceiling working.steps walked.steps (items_at items working.before) (item ∷ []) working.are walked.are);
+        (steps_then costs window ceiling working.steps walked.steps (items_at items working.before) (item ∷ []) working.are walked.are);
     view = folds_then (Takes ceiling) working.steps walked.steps v (but_drawn v.drawn w) (but_drawn v.drawn x) working.view
         (subst (λ y. FoldsTo (Takes ceiling) (but_drawn v.drawn w) walked.steps y) (sym (ap (but_drawn v.drawn) is))
         (takes_but v.drawn ceiling walked.steps w u walked.view));

@@ -1,6 +1,6 @@
 //! Visits of blocks, down to the minutes.
 
-ghost use Rattle.std.specs.Prelude.{◌≡◌, ◌<◌, ◌≤◌, IfNone, IfOk, IfSome, OnOk, OnErr};
+ghost use Rattle.std.specs.Prelude.{◌≡◌, ◌≢◌, ◌<◌, ◌≤◌, IfNone, IfOk, IfSome, OnOk, OnErr};
 ghost use Rattle.definitions.specs.declared.block.Span.TheVariants.{Hour, Minute};
 ghost use Rattle.std.specs.Option.{ForSome};
 ghost use Rattle.definitions.specs.sequences.Windows.{IsWindow};
@@ -19,7 +19,7 @@ use race_words::{Race, Seat};
 use sequence::ceiling_key;
 
 /// What is the same for all visits of a search.
-#[derive(Drop)]
+#[derive(Clone, Copy)]
 pub(crate) struct Visitor<'a> {
     pub race: &'a Race,
     pub tables: &'a Tables<'a>,
@@ -29,7 +29,7 @@ pub(crate) struct Visitor<'a> {
 }
 
 impl Visitor<'_> {
-    /// Visits a block of the window.
+    /// Visits a block of the window: passes it over, or visits its children; of a minute it offers the key.
     pub(crate) fn visit_item<K: Recorder>(
         &self,
         seat: &mut Seat,
@@ -48,41 +48,47 @@ impl Visitor<'_> {
             block: *item,
             bound: bound(self.tables, item),
         };
-        self.visit_block(seat, &found, recorder)
-    }
-
-    // Visits a block whose bound is known: passes it over, or visits its children; of a minute it offers the key.
-    fn visit_block<K: Recorder>(
-        &self,
-        seat: &mut Seat,
-        found: &Bounded,
-        recorder: &mut K,
-    ) -> Result<(), K::Fault>
-        requires race { seat.old.race ≡ self.now.race.now.id }
-        requires block { IsBlock self.now.tables.now.window found.now.block }
-        requires bound { let t = self.now.tables.now in IsBound (costs_of t) t.window found.now.block found.now.bound }
-        requires small { ForSome found.now.bound (λ n. n ≤ GREATEST_COST) }
-        ensures race { seat.new.race ≡ seat.old.race }
-        ensures walked { let t = self.now.tables.now in
-            OnOk result (HasWalked K.told (costs_of t) t.window self.now.ceiling found.now.block seat.old.view seat.new.view recorder.old recorder.new) }
-        ensures stopped { let t = self.now.tables.now in
-            OnErr result (HasStopped K.told K.fails (costs_of t) t.window self.now.ceiling found.now.block seat.old.view seat.new.view recorder.old recorder.new) }
-    {
-        if found.block.span == Span::Minute {
-            return self.visit_minute(seat, found, recorder);
+        if item.span == Span::Minute {
+            return self.visit_minute(seat, &found, recorder);
         }
-        let opened = self.come_to(seat, found, recorder)?;
+        let opened = self.come_to(seat, &found, recorder)?;
         let Some(_key) = opened else {
             return Ok(());
         };
-        if found.block.span == Span::Hour {
-            self.visit_minutes(seat, &found.block, recorder)?;
-            return Ok(());
+        self.visit_children(seat, item, recorder)
+    }
+
+    // Visits the children of a block that isn't a minute, one after the other. A child that is passed over costs no call.
+    fn visit_children<K: Recorder>(
+        &self,
+        seat: &mut Seat,
+        block: &Block,
+        recorder: &mut K,
+    ) -> Result<(), K::Fault>
+        requires race { seat.old.race ≡ self.now.race.now.id }
+        requires block { IsBlock self.now.tables.now.window block.now }
+        requires longer { block.now.span ≢ Minute }
+        ensures race { seat.new.race ≡ seat.old.race }
+        ensures walked { let t = self.now.tables.now in
+            OnOk result (HaveWalked K.told (costs_of t) t.window self.now.ceiling (children block.now) seat.old.view seat.new.view recorder.old recorder.new) }
+        ensures stopped { let t = self.now.tables.now in
+            OnErr result (HaveStopped K.told K.fails (costs_of t) t.window self.now.ceiling (children block.now) seat.old.view seat.new.view recorder.old recorder.new) }
+    {
+        if block.span == Span::Hour {
+            return self.visit_minutes(seat, block, recorder);
         }
         children_share_the_sequences();
-        let mut children = bounded_children(self.tables, &found.block);
+        let mut children = bounded_children(self.tables, block);
+        // What doesn't change is the loop's own, so that it may stay in registers: after each read of the race's limit
+        // everything else would be read again. A call that isn't inlined gets no reference to it, nor to `child`.
+        let visitor = *self;
         while let Some(child) = children.next() {
-            self.visit_block(seat, &child, recorder)?;
+            let opened = visitor.come_to(seat, &child, recorder)?;
+            let Some(_key) = opened else {
+                continue;
+            };
+            let copy = child.block;
+            self.visit_children(seat, &copy, recorder)?;
         }
         Ok(())
     }
@@ -105,13 +111,8 @@ impl Visitor<'_> {
     {
         let costs = hour_costs(self.tables, hour);
         let mut minutes = bounded_minutes(&costs);
-        // What doesn't change is the loop's own, so that it may stay in registers: after each read of the race's limit
-        // everything else would be read again.
-        let visitor = Visitor {
-            race: self.race,
-            tables: self.tables,
-            ceiling: self.ceiling,
-        };
+        // As in `visit_children`.
+        let visitor = *self;
         while let Some(minute) = minutes.next() {
             visitor.visit_minute(seat, &minute, recorder)?;
         }
