@@ -1,4 +1,4 @@
-use Rattle.std.proofs.Common.{◌≡◌, ◌+◌, ◌-◌, ◌⊎◌, ◌<◌, ◌↔◌, inl, inr, false, true, length, get_or, sym, ◌∙◌, arith}
+use Rattle.std.proofs.Common.{◌≡◌, ◌-◌, ◌⊎◌, ◌<◌, ◌↔◌, inl, inr, false, true, length, get_or, sym, ◌∙◌, arith}
 use Rattle.walk_costs.specs.Walks.{ShowsAnnouncement}
 use Rattle.walk_costs.proofs.MarkLaws.{one_marked}
 use Rattle.field_tables.proofs.shown.mark_stretch.Goals.{then-flags-i, else-flags-i}
