@@ -38,7 +38,12 @@ impl StationWalks {
         ensures { (m : ℕ) → m < CALL_MINUTES → cost_at_call result m ≡ date_cost self.now.grid p m (part_where announced (run_at self.now.parts.runs run)) }
     {
         let part = date_part(self.unions.parts().run(run), announced);
-        by_call_with(&self.columns, p, part, self.kept_date_cost(announced, p, run))
+        by_call_with(
+            &self.columns,
+            p,
+            part,
+            self.kept_date_cost(announced, p, run),
+        )
     }
 }
 
