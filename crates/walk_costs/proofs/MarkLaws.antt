@@ -5,6 +5,20 @@ use Rattle.std.proofs.lemmas.Bool.{cases_lt}
 use Rattle.walk_costs.specs.Stretches.{AreMarked}
 use Rattle.walk_costs.specs.Walks.{PricedParts, ShowsAnnouncement}
 
+-- what is marked stays so
+pub still_marked : (flag old : Bool) (shows : Type 0) → old ≡ true → flag ≡ old → flag ≡ true ↔ (old ≡ true ⊎ shows)
+still_marked flag old shows told is = (λ _. inl told, λ _. is ∙ told)
+
+-- and what isn't is marked where it shows the announcement
+pub newly_marked : (flag old answer : Bool) (shows : Type 0) → old ≡ false → flag ≡ answer → (answer ≡ true ↔ shows) → flag ≡ true ↔ (old ≡ true ⊎ shows)
+newly_marked flag old answer shows unmarked is tells = (
+  λ told. inr (tells.0 (sym is ∙ told)),
+  λ either. elim either [
+    | inl told ↦ (let both = sym told ∙ unmarked in absurd cc)
+    | inr there ↦ is ∙ tells.1 there
+  ],
+)
+
 module _ (w : PricedParts) (p lo : ℕ) where
   abbrev Shows : ℕ → Type 0
   Shows t = ShowsAnnouncement w (record { first = t; second = p; announced = true })

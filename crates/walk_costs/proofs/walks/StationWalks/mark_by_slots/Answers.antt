@@ -1,7 +1,7 @@
-use Rattle.std.proofs.Common.{◌≡◌, ◌+◌, ◌-◌, ◌⊎◌, ◌<◌, ◌≤◌, ◌↔◌, inl, inr, false, true, length, length-set, get_or, sym, ◌∙◌, subst, arith}
+use Rattle.std.proofs.Common.{◌≡◌, ◌+◌, ◌-◌, ◌⊎◌, ◌<◌, ◌≤◌, ◌↔◌, false, true, length, length-set, get_or, subst, arith}
 use Rattle.walk_costs.specs.Stretches.{AreMarked}
 use Rattle.walk_costs.specs.Walks.{ShowsAnnouncement}
-use Rattle.walk_costs.proofs.MarkLaws.{chained, none_marked, one_marked}
+use Rattle.walk_costs.proofs.MarkLaws.{chained, newly_marked, none_marked, one_marked, still_marked}
 use Rattle.walk_costs.proofs.walks.StationWalks.mark_by_slots.Goals.{then-flags-i, else-flags-i}
 use Rattle.walk_costs.proofs.walks.StationWalks.mark_by_slots.Goals as goal
 
@@ -21,15 +21,11 @@ loop-t-preserved c =
     let lo = c.args.lo in
     let begun : lo ≤ t = omega (arith, c.requires.begun, c.loop-t.auto.t) in
     let within : t - lo < length c.loop-t.flags = omega (arith, c.loop-t.invariant.long, c.requires.begun, c.requires.few, c.loop-t-test.true, c.loop-t.auto.t) in
-    let here : c.if-flags-i.flags ≡ true ↔ (get_or c.loop-t.flags (t - lo) false ≡ true ⊎ ShowsAnnouncement w (record { first = t; second = c.args.p; announced = true })) = elim c.if-flags-i.branch [
-      | then-flags-i v ↦ (λ _. inl v.if-flags-i.true, λ _. v.flags-is ∙ v.if-flags-i.true)
-      | else-flags-i v ↦ (
-        λ told. inr (v.shows_in_slot.ensures.0 (sym v.flags-is ∙ told)),
-        λ either. elim either [
-          | inl told ↦ (let both = sym told ∙ v.if-flags-i.false in absurd cc)
-          | inr shows ↦ v.flags-is ∙ v.shows_in_slot.ensures.1 shows
-        ],
-      )
+    let old = get_or c.loop-t.flags (t - lo) false in
+    let shows = ShowsAnnouncement w (record { first = t; second = c.args.p; announced = true }) in
+    let here : c.if-flags-i.flags ≡ true ↔ (old ≡ true ⊎ shows) = elim c.if-flags-i.branch [
+      | then-flags-i v ↦ still_marked c.if-flags-i.flags old shows v.if-flags-i.true v.flags-is
+      | else-flags-i v ↦ newly_marked c.if-flags-i.flags old v.shows_in_slot.result shows v.if-flags-i.false v.flags-is v.shows_in_slot.ensures
     ] in
     record {
       long = simp length-set c.loop-t.invariant.long;
