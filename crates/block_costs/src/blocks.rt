@@ -11,7 +11,7 @@ ghost use Rattle.block_costs.specs.declared.minutes.TheConstants.{HOUR_MINUTES};
 
 use crate::asked::cost_as_asked;
 use crate::hours::{Hours, hours_of};
-use crate::kept::{Kept, KeptHours, YEAR_DAYS, is_kept, kept_days, kept_hours, kept_years};
+use crate::kept::{Kept, YEAR_DAYS, is_kept, kept_days, kept_years};
 use crate::minutes::HOUR_MINUTES;
 use definitions::MINUTES_PER_DAY;
 use slot_columns::ColumnsFault;
@@ -45,9 +45,7 @@ pub struct StationBlocks {
     pub(crate) walks: StationWalks,
     days: Kept,
     years: Kept,
-    // The hours whose walks lie in one run, and those whose walks go on to the next date.
     pub(crate) hours: Hours,
-    changes: KeptHours,
 }
 
 impl Model for StationBlocks {
@@ -61,7 +59,6 @@ impl Model for StationBlocks {
     ghost view = { λ b. b.walks };
 
     ghost invariant = { λ b. AreKept b.walks b.days.ranges.items b.days.costs × AreKept b.walks b.years.ranges.items b.years.costs
-        × AreKept b.walks b.changes.kept.ranges.items b.changes.kept.costs
         × AreHours b.walks b.hours.begin b.hours.call b.hours.firsts.items b.hours.rests.items b.hours.costs.items };
 }
 
@@ -73,13 +70,11 @@ impl StationBlocks {
         let days = kept_days(alloc, &walks)?;
         let years = kept_years(alloc, &walks)?;
         let hours = hours_of(alloc, &walks)?;
-        let changes = kept_hours(alloc, &walks)?;
         Ok(StationBlocks {
             walks,
             days,
             years,
             hours,
-            changes,
         })
     }
 
@@ -150,25 +145,8 @@ impl StationBlocks {
         }
     }
 
-    // The same of an hour that isn't kept with those of its run.
+    // The same of an hour that isn't kept, or whose walks go on to the next date: by unions that are made for it.
     pub(crate) fn hour_alone(&self, announced: bool, p: u8, lo: u32) -> u32
-        requires second { p < SECONDS_PER_MINUTE }
-        requires regular { AreRegular announced lo (lo + HOUR_MINUTES + later_minutes (length self.now.grid.rows) p) self.now.parts.end }
-        ensures { IsHourCost self.now announced p lo result }
-    {
-        if announced {
-            return self.hour_as_asked(announced, p, lo);
-        }
-        // What ends before the parts' end fits.
-        self.walks.parts().end();
-        match self.changes.cost(&self.walks, p, lo) {
-            Some(cost) => cost,
-            None => self.hour_as_asked(announced, p, lo),
-        }
-    }
-
-    // The same by unions that are made for it.
-    fn hour_as_asked(&self, announced: bool, p: u8, lo: u32) -> u32
         requires second { p < SECONDS_PER_MINUTE }
         requires regular { AreRegular announced lo (lo + HOUR_MINUTES + later_minutes (length self.now.grid.rows) p) self.now.parts.end }
         ensures { IsHourCost self.now announced p lo result }

@@ -1,13 +1,10 @@
-//! Unions that are kept, since a search asks for them most, where no leap second is announced: of whole days and years in
-//! UTC, and of the hours in which the local date changes.
+//! Unions that are kept, since a search asks for them most: of whole days and years in UTC, where no leap second is
+//! announced.
 
-ghost use Rattle.std.specs.Prelude.{◌≡◌, ◌<◌, ◌≤◌, [], IfOk, IfSome, OnOk, false, length, true};
-ghost use Rattle.definitions.specs.time.Calendar.{century_minutes};
-ghost use Rattle.slot_columns.specs.declared.limits.TheConstants.{SECONDS_PER_MINUTE};
-ghost use Rattle.block_costs.specs.Hours.{IsHourCost};
+ghost use Rattle.std.specs.Prelude.{◌≡◌, ◌<◌, ◌≤◌, [], IfOk, OnOk, length, true};
 ghost use Rattle.block_costs.specs.Keeping.{AreGathered, AreKept, range_at};
 
-use definitions::{CENTURY_DAYS, MINUTES_PER_DAY, MINUTES_PER_HOUR};
+use definitions::{CENTURY_DAYS, MINUTES_PER_DAY};
 use slot_columns::{ColumnsFault, LayerTable, Part};
 use std::alloc::{AllocError, Global};
 use walk_costs::StationWalks;
@@ -24,13 +21,6 @@ pub struct Range {
 pub struct Kept {
     pub ranges: Vec<Range>,
     pub costs: LayerTable,
-}
-
-/// The hours in which the date changes, and for each day the number of its own.
-#[derive(Drop)]
-pub struct KeptHours {
-    pub kept: Kept,
-    pub numbers: Vec<usize>,
 }
 
 /// Such ranges and their layers: the union of the walks' first minutes, and that of each later one.
@@ -72,58 +62,6 @@ pub fn kept_years(alloc: Global, walks: &StationWalks) -> Result<Kept, ColumnsFa
         gather(&mut gathered, walks, lo, year_begin(year + 1))?;
     }
     costs_of(alloc, walks, gathered)
-}
-
-/// The hours, one a day, in which its first run ends: where the walks go on to the next date.
-pub fn kept_hours(alloc: Global, walks: &StationWalks) -> Result<KeptHours, ColumnsFault>
-    ensures { IfOk result (λ hours. AreKept walks.now hours.kept.ranges.items hours.kept.costs) }
-{
-    let mut numbers = Vec::with_capacity(alloc, CENTURY_DAYS as usize)?;
-    let mut gathered = room_for(alloc, CENTURY_DAYS as usize)?;
-    for day in 0..CENTURY_DAYS {
-        note(&mut numbers, gathered.ranges.len())?;
-        let lo = last_hour(walks, day);
-        let hi = lo.saturating_add(MINUTES_PER_HOUR);
-        gather(&mut gathered, walks, lo, hi)?;
-    }
-    let kept = costs_of(alloc, walks, gathered)?;
-    Ok(KeptHours { kept, numbers })
-}
-
-fn note(numbers: &mut Vec<usize>, number: usize) -> Result<(), AllocError> {
-    numbers.push(number)?;
-    Ok(())
-}
-
-// The first minute of the hour in which the run ends that has the first minute of a day.
-fn last_hour(walks: &StationWalks, day: u32) -> u32
-    requires { day < CENTURY_DAYS }
-{
-    let parts = walks.parts();
-    let end = parts.end();
-    let begin = day * MINUTES_PER_DAY;
-    if begin >= end {
-        return begin;
-    }
-    let last = parts.run_end(parts.run_of(begin)) - 1;
-    last / MINUTES_PER_HOUR * MINUTES_PER_HOUR
-}
-
-impl KeptHours {
-    /// What the unions cost over the walks from second `p` of the hour that begins in the minute `lo`. None where it isn't kept.
-    pub fn cost(&self, walks: &StationWalks, p: u8, lo: u32) -> Option<u32>
-        requires kept { AreKept walks.now self.now.kept.ranges.items self.now.kept.costs }
-        requires second { p < SECONDS_PER_MINUTE }
-        requires century { lo < century_minutes }
-        ensures { IfSome result (IsHourCost walks.now false p lo) }
-    {
-        let number = *self.numbers.get((lo / MINUTES_PER_DAY) as usize)?;
-        if is_kept(&self.kept, number, lo, lo + MINUTES_PER_HOUR) {
-            Some(self.kept.costs.cost(number, p))
-        } else {
-            None
-        }
-    }
 }
 
 // The first minute of a year, counted from 2000 on, of which each fourth has a day more.
