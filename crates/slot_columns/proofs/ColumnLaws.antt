@@ -102,3 +102,9 @@ pub most_fits : (grid : Grid) → IsBounded grid → most_cost grid ≤ 1_920_00
 most_fits grid bounded =
     let small : grid.receivers * RECEIVER_COST ≤ 1_600_000 = omega (arith, bounded.few) in
     omega (arith, bounded.short, mul-le-mul_left (length grid.rows) small)
+
+-- the columns as they are passed on
+pub same_columns : (first passed_first later passed_later : List (List ℕ)) (p : ℕ) (a b : List ℕ) → passed_first ≡ first → passed_later ≡ later
+    → columns_cost passed_first passed_later p a b ≡ columns_cost first later p a b
+same_columns first passed_first later passed_later p a b one two =
+    ap (λ (t : List (List ℕ)). columns_cost t passed_later p a b) one ∙ ap (λ (t : List (List ℕ)). columns_cost first t p a b) two

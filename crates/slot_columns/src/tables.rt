@@ -1,6 +1,6 @@
 //! The tables: what each set costs in each second of walk minute 0, and in that second of all later minutes together.
 
-ghost use Rattle.std.specs.Prelude.{◌≡◌, ◌+◌, ◌*◌, ◌<◌, ◌≤◌, ◌^◌, ℕ, IfOk, length, slice_index};
+ghost use Rattle.std.specs.Prelude.{◌≡◌, ◌+◌, ◌*◌, ◌<◌, ◌≤◌, ◌^◌, ℕ, IfOk, false, length, slice_index};
 ghost use Rattle.signal_base.specs.declared.limits.TheConstants.{MOST_RECEIVERS};
 ghost use Rattle.symbol_cost.specs.declared.limits.TheConstants.{RECEIVER_COST};
 ghost use Rattle.slot_columns.specs.declared.limits.TheConstants.{COLUMNS};
@@ -98,4 +98,43 @@ pub fn sum_of_columns(
         cost += first[begin + s][index_of(in_first[s])] + later[begin + s][index_of(in_later[s])];
     }
     cost
+}
+
+/// The same from what the columns have of one part in all minutes: only those seconds are looked up in which a part differs from
+/// it.
+pub fn changed_columns(
+    first: &[Row],
+    later: &[Row],
+    p: usize,
+    cost: u32,
+    part: &Part,
+    in_first: &Part,
+    in_later: &Part,
+) -> u32
+    requires first { length first.now ≡ COLUMNS }
+    requires later { length later.now ≡ COLUMNS }
+    requires second { p < SECONDS_PER_MINUTE }
+    requires cost { cost ≡ columns_cost first.now later.now p part.now part.now }
+    requires room { columns_cost first.now later.now p in_first.now in_later.now < 2 ^ 32 }
+    ensures { result ≡ columns_cost first.now later.now p in_first.now in_later.now }
+{
+    let row = SECONDS_PER_MINUTE * p;
+    let mut lost = 0;
+    let mut more = 0;
+    for s in 0..SECONDS_PER_MINUTE {
+        if differs(part[s], in_first[s], in_later[s]) {
+            lost += first[row + s][index_of(part[s])] + later[row + s][index_of(part[s])];
+            more += first[row + s][index_of(in_first[s])] + later[row + s][index_of(in_later[s])];
+        }
+    }
+    cost - lost + more
+}
+
+// Whether one of two sets is another than this one.
+#[inline(always)]
+fn differs(set: u8, in_first: u8, in_later: u8) -> bool
+    ensures first { result ≡ false → in_first ≡ set }
+    ensures later { result ≡ false → in_later ≡ set }
+{
+    in_first != set || in_later != set
 }

@@ -1,14 +1,8 @@
-use Rattle.std.proofs.Common.{◌≡◌, List, ℕ, subst, ap, ◌∙◌, arith}
+use Rattle.std.proofs.Common.{subst, ◌∙◌, arith}
 use Rattle.symbol_cost.specs.Grid.{Grid}
-use Rattle.slot_columns.specs.Tables.{AreTables, columns_cost}
-use Rattle.slot_columns.proofs.ColumnLaws.{layered, layered_bound, most_fits}
+use Rattle.slot_columns.specs.Tables.{AreTables}
+use Rattle.slot_columns.proofs.ColumnLaws.{layered, layered_bound, most_fits, same_columns}
 use Rattle.slot_columns.proofs.columns.SlotColumns.layered_cost.Goals as goal
-
--- the columns as they are passed on
-same_columns : (first passed_first later passed_later : List (List ℕ)) (p : ℕ) (a b : List ℕ) → passed_first ≡ first → passed_later ≡ later
-    → columns_cost passed_first passed_later p a b ≡ columns_cost first later p a b
-same_columns first passed_first later passed_later p a b one two =
-    ap (λ (t : List (List ℕ)). columns_cost t passed_later p a b) one ∙ ap (λ (t : List (List ℕ)). columns_cost first t p a b) two
 
 pub sum_of_columns-requires-clause-room : goal.sum_of_columns-requires-clause-room
 sum_of_columns-requires-clause-room c =
