@@ -32,7 +32,7 @@ use Rattle.block_costs.specs.Blocks.{AreUnionsOfWalks, unions_cost}
 use Rattle.block_costs.specs.Hours.{AreHourLayers, AreHours, IsHourCost, IsHourLayer}
 
 -- a second that the time of day tells in some minute it tells in each, unless the call sign takes it
-own_second : (station : Station) (u s : ℕ) → is_time_second station s ≡ false → is_given_up station s ≡ false → tells_time station u s ≡ false
+pub own_second : (station : Station) (u s : ℕ) → is_time_second station s ≡ false → is_given_up station s ≡ false → tells_time station u s ≡ false
 own_second Dcf77 u s other kept = other
 own_second Msf u s other kept = other
 own_second Wwvb u s other kept = other
@@ -45,7 +45,7 @@ own_second Jjy u s other kept = elim (cases_Bool (tells_time Jjy u s)) [
 ]
 
 -- the union of nothing is nothing
-none_told : (f : ℕ → ℕ) (lo hi set : ℕ) → ((t : ℕ) → f t ≡ 0) → IsUnionOf f lo hi set → set ≡ 0
+pub none_told : (f : ℕ → ℕ) (lo hi set : ℕ) → ((t : ℕ) → f t ≡ 0) → IsUnionOf f lo hi set → set ≡ 0
 none_told f lo hi set none u = one_union f lo hi set 0 u (record {
   byte = omega arith;
   each = λ x h. absurd (none_has x (ap (λ m. has_bit m x) (sym (none h.0)) ∙ h.3));
@@ -53,7 +53,7 @@ none_told f lo hi set none u = one_union f lo hi set 0 u (record {
 })
 
 -- what is left of a part has what it leaves of each second
-kept_at : (station : Station) (part : List ℕ) (s : ℕ) → s < 60 → get_or (kept station part) s 0 ≡ kept_set station part s
+pub kept_at : (station : Station) (part : List ℕ) (s : ℕ) → s < 60 → get_or (kept station part) s 0 ≡ kept_set station part s
 unfolding kept
 kept_at station part s within = at_second (kept_set station part) (kept station part) s refl within
 

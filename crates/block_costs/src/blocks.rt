@@ -145,12 +145,15 @@ impl StationBlocks {
         }
     }
 
-    // The same of an hour that isn't kept, or whose walks go on to the next date: by unions that are made for it.
+    // The same of an hour that isn't kept, or whose walks don't lie in one run: by unions that are made for it, if need be.
     pub(crate) fn hour_alone(&self, announced: bool, p: u8, lo: u32) -> u32
         requires second { p < SECONDS_PER_MINUTE }
         requires regular { AreRegular announced lo (lo + HOUR_MINUTES + later_minutes (length self.now.grid.rows) p) self.now.parts.end }
         ensures { IsHourCost self.now announced p lo result }
     {
+        if let Some(cost) = self.hours.across(&self.walks, announced, p, lo) {
+            return cost;
+        }
         // What ends before the parts' end fits.
         self.walks.parts().end();
         cost_as_asked(&self.walks, announced, p, lo, lo + HOUR_MINUTES as u32)

@@ -2,6 +2,7 @@
 //! what their sequences may carry, all of them together.
 #![tactic(auto)]
 
+mod across;
 mod asked;
 mod blocks;
 #[cfg(test)]

@@ -16,13 +16,13 @@ use Rattle.span_unions.proofs.TimeLaws.{same_time}
 use Rattle.span_unions.proofs.UnionLaws.{has_or, of_or, none_has, union_joined, union_moved, union_one, union_same}
 
 -- what is told of a second, by the time of day or else by the date
-time_tells : (time date : ℕ) → (time ≡ 0 → ⊥) → overlay time date ≡ time
+pub time_tells : (time date : ℕ) → (time ≡ 0 → ⊥) → overlay time date ≡ time
 time_tells time date some = rw (ne_eqb time 0 some) refl
 
-date_tells : (time date : ℕ) → time ≡ 0 → overlay time date ≡ date
+pub date_tells : (time date : ℕ) → time ≡ 0 → overlay time date ≡ date
 date_tells time date none = rw (eq-eqb time 0 none) refl
 
-is_of_either : (time date x : ℕ) → has_bit (overlay time date) x ≡ true → has_bit (bit_or time date) x ≡ true
+pub is_of_either : (time date x : ℕ) → has_bit (overlay time date) x ≡ true → has_bit (bit_or time date) x ≡ true
 is_of_either time date x has = elim (cases_eq time 0) [
   | inl none ↦ has_or time date x (inr (ap (λ m. has_bit m x) (sym (date_tells time date none)) ∙ has))
   | inr some ↦ has_or time date x (inl (ap (λ m. has_bit m x) (sym (time_tells time date some)) ∙ has))
