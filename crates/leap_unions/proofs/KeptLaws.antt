@@ -60,15 +60,22 @@ module _ (station : Station) (seconds : ℕ) where
         (subst (λ n. IsRow station seconds a.lo n a.row) gapless u) is.row row));
   }
 
-  -- one more minute, by what the walk from the first one carries that much later
-  pub row_more : (first m reach : ℕ) (tape before row : List ℕ) → seconds ≤ MOST_SECONDS → m ≤ reach → NoLeapEnd first (first + reach)
+  -- what the walk from a minute carries is told of it by that from the first one
+  pub later_walk : (first m reach : ℕ) (tape : List ℕ) → m ≤ reach → NoLeapEnd first (first + reach)
       → ((k : ℕ) → k < 60 * reach + seconds + 59 → slice_index tape k ≡ set_at station (announced_from 0 first) k)
+      → (k : ℕ) → k < seconds + 59 → slice_index tape (60 * m + k) ≡ set_at station (announced_from 0 (first + m)) k
+  later_walk first m reach tape le none walk k lt =
+      walk (60 * m + k) (omega (arith, lt, le))
+      ∙ ap (allowed station true)
+      (goes_on (announced_from 0 first) (announced_from 0 (first + m)) (60 * m) k refl (minutes_on first m (λ t from to. none t from (omega (arith, to, le)))))
+
+  -- one more minute, by the tape that has what the walk from it carries
+  pub row_more : (first m : ℕ) (tape before row : List ℕ) → seconds ≤ MOST_SECONDS
+      → ((i : ℕ) → i < seconds + 59 → slice_index tape (60 * m + i) ≡ carried station i (first + m))
       → ((i : ℕ) → i < PLACES → slice_index row i ≡ bit_or (slice_index before i) (slice_index tape (60 * m + i)))
       → IsRow station seconds first (first + m) before → IsRow station seconds first (first + (m + 1)) row
-  row_more first m reach tape before row few le none walk is u = λ i lt.
-      let later = goes_on (announced_from 0 first) (announced_from 0 (first + m)) (60 * m) i refl (minutes_on first m (λ t from to. none t from (omega (arith, to, le)))) in
-      let told : slice_index tape (60 * m + i) ≡ carried station i (first + m) =
-      walk (60 * m + i) (omega (arith, lt, le)) ∙ ap (allowed station true) later in
+  row_more first m tape before row few walk is u = λ i lt.
+      let told : slice_index tape (60 * m + i) ≡ carried station i (first + m) = walk i lt in
       let one : IsUnionOf (carried station i) (first + m) (first + m + 1) (slice_index tape (60 * m + i)) =
       subst (IsUnionOf (carried station i) (first + m) (first + m + 1)) (sym told) (union_one (carried station i) (first + m) (byte station i (first + m))) in
       let next : first + m + 1 ≡ first + (m + 1) = omega arith in

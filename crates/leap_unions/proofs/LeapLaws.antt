@@ -1,10 +1,16 @@
 -- The minutes that may have a leap second are last minutes of days.
-use Rattle.std.proofs.Common.{◌≡◌, ◌≢◌, ℕ, ◌+◌, ◌*◌, ◌%◌, ◌<◌, ◌≤◌, inl, inr, false, refl, arith}
-use Rattle.std.proofs.lemmas.Bool.{cases_lt, ne_eqb}
+use Rattle.std.proofs.Common.{◌≡◌, ◌≢◌, ℕ, ◌+◌, ◌*◌, ◌%◌, ◌<◌, ◌≤◌, inl, inr, false, true, refl, sym, ◌∙◌, arith}
+use Rattle.std.proofs.lemmas.Bool.{cases_eq, cases_lt, false≢true, ne_eqb}
 use Rattle.definitions.specs.time.Calendar.{is_leap_end}
 
 no_leap_end : (u : ℕ) → u % 1440 ≢ 1439 → is_leap_end u ≡ false
 no_leap_end u early = rw (ne_eqb (u % 1440) 1439 early) refl
+
+pub last_of_day : (u : ℕ) → is_leap_end u ≡ true → u % 1440 ≡ 1439
+last_of_day u leap = elim (cases_eq (u % 1440) 1439) [
+  | inl last ↦ last
+  | inr early ↦ absurd (false≢true (sym (no_leap_end u early) ∙ leap))
+]
 
 -- no minute from t on and before another may have a leap second
 abbrev pub NoLeapEnd : ℕ → ℕ → Type 0

@@ -3,4 +3,5 @@ pub mod PieceLaws
 pub mod PlainLaws
 pub mod NominalLaws
 pub mod KeptLaws
+pub mod WalkLaws
 mod TestLaws

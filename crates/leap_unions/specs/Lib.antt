@@ -1,3 +1,4 @@
 pub mod Pieces
 pub mod Scope
 pub mod Kept
+pub mod Walks

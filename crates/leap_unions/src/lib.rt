@@ -12,6 +12,8 @@ mod tapes;
 #[cfg(test)]
 mod tests;
 mod unions;
+mod walk;
 
 pub use sets::Sets;
 pub use unions::{LeapFault, LeapUnions};
+pub use walk::LeapWalk;

@@ -6,13 +6,13 @@ ghost use Rattle.signal_base.specs.declared.limits.TheConstants.{MOST_SECONDS};
 ghost use Rattle.definitions.specs.sequences.Walks.{set_at};
 ghost use Rattle.definitions.specs.time.Calendar.{century_minutes, is_leap_end};
 ghost use Rattle.span_unions.specs.Unions.{AreRegular};
-ghost use Rattle.leap_unions.specs.Kept.{IsKept, IsRow, row_reach};
+ghost use Rattle.leap_unions.specs.Kept.{IsKept, IsKeptTape, IsRow, row_reach};
 ghost use Rattle.leap_unions.specs.Pieces.{announced_from};
 
 use crate::kept::{Kept, add_from_minute, joined, nothing_kept};
 use crate::leap_ends::next_leap_end;
 use crate::rows::{PLACES, SECONDS, plain_row};
-use crate::tapes::{Tape, tape_of};
+use crate::tapes::{KeptTape, Tape, tape_of};
 use civil::Civil;
 use definitions::Sequence;
 use signal_base::Station;
@@ -45,13 +45,16 @@ pub struct Maker<'a> {
 pub struct Rows {
     /// For each leap end but the last: the walks that may meet it.
     pub nears: Vec<Kept>,
+    /// For each of these leap ends what the walks carry one by one that may meet it.
+    pub tapes: Vec<KeptTape>,
     /// For each year but the last: all its walks.
     pub years: Vec<Kept>,
 }
 
-// The walks that begin in some minutes up to a leap end: those that may meet it, and all.
+// The walks that begin in some minutes up to a leap end: those that may meet it, one by one and together, and all.
 #[derive(Drop)]
 struct Half {
+    tape: KeptTape,
     near: Kept,
     all: Kept,
 }
@@ -69,23 +72,35 @@ impl<'a> Maker<'a> {
     /// The rows, of walks that end before the first minute that the station can't encode.
     pub fn rows(&self, alloc: Global) -> Result<Rows, AllocError>
         ensures nears { IfOk result (λ rows. All (IsKept self.now.station self.now.seconds) rows.nears.items) }
+        ensures tapes { IfOk result (λ rows. All (IsKeptTape self.now.station self.now.seconds) rows.tapes.items) }
         ensures years { IfOk result (λ rows. All (IsKept self.now.station self.now.seconds) rows.years.items) }
     {
         let mut nears = Vec::with_capacity(alloc, LEAP_ENDS)?;
+        let mut tapes = Vec::with_capacity(alloc, LEAP_ENDS)?;
         let mut years = Vec::with_capacity(alloc, YEARS)?;
         let mut year = nothing_kept();
         for _ in 0..LEAP_ENDS {
             let Some(half) = self.half(year.hi) else {
-                return Ok(Rows { nears, years });
+                return Ok(Rows {
+                    nears,
+                    tapes,
+                    years,
+                });
             };
             nears.push(half.near)?;
+            tapes.push(half.tape)?;
             year = self.end_year(&mut years, joined(&year, &half.all))?;
         }
-        Ok(Rows { nears, years })
+        Ok(Rows {
+            nears,
+            tapes,
+            years,
+        })
     }
 
     // The minutes from `t` up to the next leap end, where its walks end in time.
     fn half(&self, t: u32) -> Option<Half>
+        ensures tape { IfSome result (λ half. IsKeptTape self.now.station self.now.seconds half.tape) }
         ensures near { IfSome result (λ half. IsKept self.now.station self.now.seconds half.near) }
         ensures all { IfSome result (λ half. IsKept self.now.station self.now.seconds half.all) }
         ensures begins { IfSome result (λ half. half.all.lo ≡ t) }
@@ -102,31 +117,49 @@ impl<'a> Maker<'a> {
         if end <= leap + reach {
             return None;
         }
-        let near = self.near(leap - reach, reach);
+        let tape = self.kept_tape(leap - reach, reach);
+        let near = self.near(&tape, reach);
         let plain = self.plain(t, leap - reach, reach);
         let all = joined(&plain, &near);
-        Some(Half { near, all })
+        Some(Half { tape, near, all })
     }
 
-    // The walks that begin in a minute or in one of the `reach` minutes after it. Each of them goes on as the first does
-    // that many minutes later, since all but the last of these minutes have 60 seconds.
-    fn near(&self, first: u32, reach: u32) -> Kept
+    // The walks that begin in a minute or in one of the `reach` minutes after it, one by one. Each of them goes on as the first
+    // does that many minutes later, since all but the last of these minutes have 60 seconds.
+    fn kept_tape(&self, first: u32, reach: u32) -> KeptTape
         requires reach { reach ≡ row_reach self.now.seconds }
         requires short { (u : ℕ) → first ≤ u → u < first + reach → is_leap_end u ≡ false }
+        requires leap { is_leap_end (first + reach) ≡ true }
         requires early { first + 2 * reach < self.now.unions.now.end }
         requires century { first + reach < century_minutes }
-        ensures kept { IsKept self.now.station self.now.seconds result }
+        ensures kept { IsKeptTape self.now.station self.now.seconds result }
         ensures begins { result.lo ≡ first }
         ensures ends { result.hi ≡ first + reach + 1 }
     {
-        let tape = self.tape(first, reach);
-        let mut row = [0; PLACES];
-        for m in 0..reach + 1 {
-            add_from_minute(&mut row, &tape, m as usize);
-        }
-        Kept {
+        KeptTape {
             lo: first,
             hi: first + reach + 1,
+            tape: self.tape(first, reach),
+        }
+    }
+
+    // The same walks together.
+    fn near(&self, tape: &KeptTape, reach: u32) -> Kept
+        requires reach { reach ≡ row_reach self.now.seconds }
+        requires tape { IsKeptTape self.now.station self.now.seconds tape.now }
+        requires ends { tape.now.hi ≡ tape.now.lo + reach + 1 }
+        requires century { tape.now.hi ≤ century_minutes }
+        ensures kept { IsKept self.now.station self.now.seconds result }
+        ensures begins { result.lo ≡ tape.now.lo }
+        ensures ends { result.hi ≡ tape.now.hi }
+    {
+        let mut row = [0; PLACES];
+        for m in 0..reach + 1 {
+            add_from_minute(&mut row, &tape.tape, m as usize);
+        }
+        Kept {
+            lo: tape.lo,
+            hi: tape.hi,
             row,
         }
     }
@@ -164,7 +197,7 @@ impl<'a> Maker<'a> {
         Kept {
             lo,
             hi,
-            row: plain_row(self.unions, lo, hi, reach),
+            row: plain_row(self.unions, true, lo, hi, reach),
         }
     }
 

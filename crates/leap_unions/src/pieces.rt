@@ -9,22 +9,19 @@ ghost use Rattle.leap_unions.specs.Kept.{IsKept};
 ghost use Rattle.leap_unions.specs.Pieces.{AreOfBoth, AreUnionsFrom};
 
 use crate::kept::Kept;
-use crate::leap_ends::next_leap_end;
+use crate::leap_ends::{LONGEST_YEAR, next_leap_end};
 use crate::maker::row_reach;
 use crate::rows::{SECONDS, plain_row};
 use crate::sets::{Sets, either, sets_from};
 use crate::tapes::tape_of;
 use civil::Civil;
-use definitions::{MINUTES_PER_DAY, Sequence};
+use definitions::Sequence;
 use sequence::walkable;
 use signal_base::{Station, Window};
 use span_unions::Unions;
 
 // The inserted second of a minute of 61 seconds.
 const LEAP_SECOND: u8 = 60;
-
-// The minutes of the longest year.
-const LONGEST_YEAR: u32 = 366 * MINUTES_PER_DAY;
 
 /// The walks of a window that begin in a second, where a leap second is announced.
 #[derive(Drop)]
@@ -205,7 +202,7 @@ impl<'a> Walks<'a> {
         }
         // The station can encode what all stations of the window can.
         self.unions.parts().end();
-        let row = plain_row(self.unions, t, cut, reach);
+        let row = plain_row(self.unions, true, t, cut, reach);
         Piece {
             end: cut,
             sets: Some(sets_from(&row, self.second as usize)),

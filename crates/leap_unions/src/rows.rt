@@ -1,6 +1,6 @@
 //! Rows: what walks carry in each second after the start of their first minute, whichever second they begin in.
 
-ghost use Rattle.std.specs.Prelude.{ℕ, ◌≡◌, ◌+◌, ◌*◌, ◌<◌, ◌≤◌, IfSome, slice_index, true};
+ghost use Rattle.std.specs.Prelude.{ℕ, ◌≡◌, ◌+◌, ◌*◌, ◌<◌, ◌≤◌, IfSome, slice_index};
 ghost use Rattle.span_unions.specs.Layers.{AreLayers};
 ghost use Rattle.span_unions.specs.Unions.{AreRegular, IsUnionOver};
 
@@ -21,16 +21,16 @@ pub type Row = [u8; PLACES];
 
 /// The unions of walks that begin in the minutes from `lo` up to, and without, `hi`, and reach `reach` minutes that have
 /// 60 seconds each.
-pub fn plain_row(unions: &Unions, lo: u32, hi: u32, reach: u32) -> Row
+pub fn plain_row(unions: &Unions, announced: bool, lo: u32, hi: u32, reach: u32) -> Row
     requires some { lo < hi }
     requires reach { reach ≤ MOST_REACH }
-    requires regular { AreRegular true lo (hi + reach) unions.now.end }
-    ensures { (m s : ℕ) → m ≤ reach → s < SECONDS → IsUnionOver unions.now.station true (lo + m) (hi + m) s (slice_index result (SECONDS * m + s)) }
+    requires regular { AreRegular announced lo (hi + reach) unions.now.end }
+    ensures { (m s : ℕ) → m ≤ reach → s < SECONDS → IsUnionOver unions.now.station announced (lo + m) (hi + m) s (slice_index result (SECONDS * m + s)) }
 {
-    let layers = unions.layers(true, lo, hi, reach);
+    let layers = unions.layers(announced, lo, hi, reach);
     let mut row = [0; PLACES];
     for m in 0..reach + 1 {
-        let part = part_after(unions, &layers, lo, hi, reach, m);
+        let part = part_after(unions, announced, &layers, lo, hi, reach, m);
         put_part(&mut row, m as usize, &part);
     }
     row
@@ -39,6 +39,7 @@ pub fn plain_row(unions: &Unions, lo: u32, hi: u32, reach: u32) -> Row
 // The union of the minutes in which these walks are `m` minutes after their first one.
 fn part_after(
     unions: &Unions,
+    announced: bool,
     layers: &Option<Layers>,
     lo: u32,
     hi: u32,
@@ -46,15 +47,15 @@ fn part_after(
     m: u32,
 ) -> Part
     requires some { lo < hi }
-    requires regular { AreRegular true lo (hi + reach) unions.now.end }
-    requires layers { IfSome layers.now (AreLayers unions.now.station true lo hi reach) }
+    requires regular { AreRegular announced lo (hi + reach) unions.now.end }
+    requires layers { IfSome layers.now (AreLayers unions.now.station announced lo hi reach) }
     requires reached { m ≤ reach }
-    ensures { (s : ℕ) → s < SECONDS → IsUnionOver unions.now.station true (lo + m) (hi + m) s (slice_index result s) }
+    ensures { (s : ℕ) → s < SECONDS → IsUnionOver unions.now.station announced (lo + m) (hi + m) s (slice_index result s) }
 {
     let Some(layers) = layers else {
         // What ends before it fits.
         unions.parts().end();
-        return unions.over(true, lo + m, hi + m);
+        return unions.over(announced, lo + m, hi + m);
     };
     if m == 0 { layers.first } else { layers.rest }
 }

@@ -17,6 +17,18 @@ pub const TAPE_PLACES: usize = MOST_REACH as usize * SECONDS + PLACES;
 /// A set for each second.
 pub type Tape = [u8; TAPE_PLACES];
 
+/// What the walk from the first second of the minute `lo` carries. The minute before `hi` is the first of its minutes that ends
+/// with a leap second, so that a walk from one of the minutes up to that one is a later part of it.
+#[derive(Clone, Copy)]
+pub struct KeptTape {
+    /// The first of the minutes.
+    pub lo: u32,
+    /// Their end.
+    pub hi: u32,
+    /// What the walk carries.
+    pub tape: Tape,
+}
+
 /// What the first `count` seconds of a walk carry at a station that can encode their minutes.
 pub fn tape_of(civil: &Civil, station: Station, q: &Sequence, count: usize) -> Tape
     requires sequence { IsSequence q.now }

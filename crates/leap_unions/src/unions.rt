@@ -1,14 +1,16 @@
 //! The unions of blocks that announce a leap second.
 
-ghost use Rattle.std.specs.Prelude.{ℕ, ◌≡◌, ◌<◌, ◌≤◌, ◌↔◌, IfOk, MatchOption, slice_index, true};
+ghost use Rattle.std.specs.Prelude.{ℕ, ◌≡◌, ◌+◌, ◌-◌, ◌/◌, ◌<◌, ◌≤◌, ◌↔◌, IfOk, IfSome, MatchOption, slice_index, true};
 ghost use Rattle.signal_base.specs.declared.limits.TheConstants.{MOST_SECONDS};
 ghost use Rattle.definitions.specs.codes.Allowed.{has_station, CanBeEncoded};
 ghost use Rattle.definitions.specs.sequences.Windows.{IsWindow};
 ghost use Rattle.definitions.specs.answers.Blocks.{HasWalk, IsBlock, IsUnion};
+ghost use Rattle.leap_unions.specs.Walks.{IsLeapWalk};
 
 use crate::maker::{Maker, Rows};
 use crate::pieces::Walks;
 use crate::sets::Sets;
+use crate::walk::{LeapWalk, tape_with, walk_of};
 use civil::Civil;
 use definitions::Block;
 use signal_base::{Station, Window};
@@ -44,11 +46,14 @@ impl Model for LeapUnions {
     ghost Value = { Scope };
 
     ghost use Rattle.std.specs.List.{All};
-    ghost use Rattle.leap_unions.specs.Kept.{IsKept};
+    ghost use Rattle.std.specs.Prelude.{◌≤◌};
+    ghost use Rattle.signal_base.specs.declared.limits.TheConstants.{MOST_SECONDS};
+    ghost use Rattle.leap_unions.specs.Kept.{IsKept, IsKeptTape};
 
     ghost view = { λ u. record { station = u.station; seconds = u.seconds } };
 
-    ghost invariant = { λ u. All (IsKept u.station u.seconds) u.rows.nears.items × All (IsKept u.station u.seconds) u.rows.years.items };
+    ghost invariant = { λ u. All (IsKept u.station u.seconds) u.rows.nears.items × All (IsKept u.station u.seconds) u.rows.years.items
+        × All (IsKeptTape u.station u.seconds) u.rows.tapes.items × (1 ≤ u.seconds) × (u.seconds ≤ MOST_SECONDS) };
 }
 
 impl LeapUnions {
@@ -113,5 +118,17 @@ impl LeapUnions {
             years: &self.rows.years,
         };
         walks.unions(block.lo, block.hi)
+    }
+
+    /// The announced walk from second `p`, below 60, of a minute, where that is one of the last before a leap second may be
+    /// inserted: from 21 minutes before it on at most. None of other minutes, and near the end of what the station can encode.
+    pub fn walk(&self, unions: &Unions, p: u8, first: u32) -> Option<LeapWalk>
+        requires unions { unions.now.station ≡ self.now.station }
+        requires second { p < 60 }
+        requires encoded { first + 1 + (p + self.now.seconds - 1) / 60 ≤ unions.now.end }
+        ensures { IfSome result (IsLeapWalk self.now p first) }
+    {
+        let kept = tape_with(&self.rows.tapes, self.station, self.seconds, first)?;
+        Some(walk_of(kept, self.station, unions, self.seconds, p, first))
     }
 }

@@ -6,5 +6,5 @@ use Rattle.leap_unions.proofs.maker.Maker.near.Given as goal
 abbrev pub invariant-loop-m : goal.invariant-loop-m
 invariant-loop-m l = record {
   long : length l.row ≡ PLACES;
-  row : IsRow l.self.station l.self.seconds l.first (l.first + l.m) l.row;
+  row : IsRow l.self.station l.self.seconds l.tape.lo (l.tape.lo + l.m) l.row;
 }

@@ -1,7 +1,7 @@
 use Rattle.std.proofs.Common.{subst, sym, arith}
 use Rattle.std.specs.List.{All}
 use Rattle.std.proofs.lemmas.List.Elements.{All-push}
-use Rattle.leap_unions.specs.Kept.{IsKept}
+use Rattle.leap_unions.specs.Kept.{IsKept, IsKeptTape}
 use Rattle.leap_unions.proofs.KeptLaws.{kept_joined}
 use Rattle.leap_unions.proofs.maker.Maker.rows.Goals as goal
 
@@ -19,6 +19,8 @@ loop-preserved c =
     record {
       nears = subst (All (IsKept w.station w.seconds)) (sym c.in_ok-push.ensures.items)
           (All-push (IsKept w.station w.seconds) c.loop.nears.items c.in-Some.half.near c.loop.invariant.nears c.in-Some.ensures.near);
+      tapes = subst (All (IsKeptTape w.station w.seconds)) (sym c.in_ok-push-2.ensures.items)
+          (All-push (IsKeptTape w.station w.seconds) c.loop.tapes.items c.in-Some.half.tape c.loop.invariant.tapes c.in-Some.ensures.tape);
       years = c.in_ok-year.ensures.years;
       order = c.in_ok-year.ensures.order;
       row = c.in_ok-year.ensures.row;

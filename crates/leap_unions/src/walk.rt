@@ -1,0 +1,116 @@
+//! The walks that may meet a leap second, one by one.
+
+ghost use Rattle.std.specs.Prelude.{ℕ, ◌≡◌, ◌≢◌, ◌+◌, ◌-◌, ◌*◌, ◌/◌, ◌<◌, ◌≤◌, IfSome, false, slice_index, true};
+ghost use Rattle.std.specs.List.{All};
+ghost use Rattle.signal_base.specs.declared.limits.TheConstants.{MOST_SECONDS};
+ghost use Rattle.definitions.specs.sequences.Walks.{set_at};
+ghost use Rattle.leap_unions.specs.Kept.{IsKeptTape};
+ghost use Rattle.leap_unions.specs.Walks.{IsLeapWalk, plain_from};
+
+use crate::leap_ends::LONGEST_YEAR;
+use crate::rows::{Row, SECONDS, plain_row};
+use crate::sets::{Sets, sets_from};
+use crate::tapes::KeptTape;
+use signal_base::Station;
+use span_unions::Unions;
+
+/// What an announced walk carries that begins shortly before a leap second may be inserted.
+#[derive(Clone, Copy)]
+pub struct LeapWalk {
+    /// A set for each slot.
+    pub sets: Sets,
+    /// Whether some of them is another than without the announcement.
+    pub shows: bool,
+    /// Whether it is known that the walk goes on to the next UTC day.
+    pub next_day: bool,
+}
+
+/// The tape that has a minute. The tapes are in order, two a year, and no year is longer than 366 days.
+pub fn tape_with<'a>(
+    tapes: &'a [KeptTape],
+    _station: Station,
+    _seconds: u16,
+    first: u32,
+) -> Option<&'a KeptTape>
+    requires { All (IsKeptTape _station _seconds) tapes.now }
+    ensures kept { IfSome result (λ kept. IsKeptTape _station _seconds kept.now) }
+    ensures begun { IfSome result (λ kept. kept.now.lo ≤ first) }
+    ensures ends { IfSome result (λ kept. first < kept.now.hi) }
+{
+    for i in (first / LONGEST_YEAR * 2) as usize..tapes.len() {
+        if first < tapes[i].lo {
+            return None;
+        }
+        if first < tapes[i].hi {
+            return Some(&tapes[i]);
+        }
+    }
+    None
+}
+
+/// The walk of `seconds` seconds from second `p` of one of a tape's minutes. The unions are the station's.
+pub fn walk_of(
+    kept: &KeptTape,
+    station: Station,
+    unions: &Unions,
+    seconds: u16,
+    p: u8,
+    first: u32,
+) -> LeapWalk
+    requires some { 1 ≤ seconds }
+    requires few { seconds ≤ MOST_SECONDS }
+    requires kept { IsKeptTape station seconds kept.now }
+    requires unions { unions.now.station ≡ station }
+    requires second { p < SECONDS }
+    requires begun { kept.now.lo ≤ first }
+    requires ends { first < kept.now.hi }
+    requires encoded { first + 1 + (p + seconds - 1) / SECONDS ≤ unions.now.end }
+    ensures { IsLeapWalk (record { station = station; seconds = seconds }) p first result }
+{
+    let from = SECONDS * (first - kept.lo) as usize + p as usize;
+    let sets = sets_from(&kept.tape, from);
+    LeapWalk {
+        sets,
+        shows: shows(&sets, unions, seconds, p, first),
+        next_day: goes_on(kept.hi - first, seconds, p),
+    }
+}
+
+// Whether a walk from second `p` goes on after so many minutes, of which the last one has 61 seconds.
+fn goes_on(minutes: u32, seconds: u16, p: u8) -> bool
+    requires { minutes ≤ 21 }
+    ensures { result ≡ true → SECONDS * minutes + 1 < p + seconds }
+{
+    SECONDS as u32 * minutes + 1 < p as u32 + seconds as u32
+}
+
+// Whether some of the sets is another than the walk from second `p` of a minute carries without an announcement.
+fn shows(sets: &Sets, unions: &Unions, seconds: u16, p: u8, first: u32) -> bool
+    requires some { 1 ≤ seconds }
+    requires few { seconds ≤ MOST_SECONDS }
+    requires second { p < SECONDS }
+    requires encoded { first + 1 + (p + seconds - 1) / SECONDS ≤ unions.now.end }
+    ensures shown { result ≡ true → (k : ℕ) × (k < seconds) × (slice_index sets.now k ≢ set_at unions.now.station (plain_from p first) k) }
+    ensures hidden { result ≡ false → (k : ℕ) → k < seconds → slice_index sets.now k ≡ set_at unions.now.station (plain_from p first) k }
+{
+    // What ends before the parts' end fits.
+    unions.parts().end();
+    let reach = (p as u32 + seconds as u32 - 1) / SECONDS as u32;
+    let row = plain_row(unions, false, first, first + 1, reach);
+    some_differ(sets, &row, p as usize, seconds as usize)
+}
+
+// Whether some of the first sets is another than the row has from second `from` on.
+fn some_differ(sets: &Sets, row: &Row, from: usize, count: usize) -> bool
+    requires from { from < SECONDS }
+    requires few { count ≤ MOST_SECONDS }
+    ensures differ { result ≡ true → (k : ℕ) × (k < count) × (slice_index sets.now k ≢ slice_index row.now (from + k)) }
+    ensures same { result ≡ false → (k : ℕ) → k < count → slice_index sets.now k ≡ slice_index row.now (from + k) }
+{
+    for k in 0..count {
+        if sets[k] != row[from + k] {
+            return true;
+        }
+    }
+    false
+}
