@@ -2,4 +2,4 @@ pub mod BlockLists
 pub mod RankLaws
 pub mod OneRanking
 pub mod MinuteLists
-mod DayLaws
+mod HourLists

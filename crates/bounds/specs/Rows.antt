@@ -1,10 +1,9 @@
 -- The children of a block, as contracts see those that are left.
-use Rattle.std.specs.Prelude.{ℕ, ◌≡◌, ◌+◌, ◌-◌, ◌≤◌, List}
-use Rattle.std.specs.List.{AllByRecursion}
+use Rattle.std.specs.Prelude.{ℕ, ◌≡◌, ◌+◌, ◌-◌, ◌*◌, ◌%◌, ◌≤◌, List}
 use Rattle.definitions.specs.declared.block.Span.TheVariants.{Hour, Minute}
 use Rattle.definitions.specs.declared.block.Block.{Block}
 use Rattle.definitions.specs.answers.Blocks.{blocks}
-use Rattle.field_tables.specs.Days.{IsHourOf, ScoredDay}
+use Rattle.field_tables.specs.Days.{ScoredDay}
 use Rattle.field_tables.specs.Hours.{ScoredHour}
 use Rattle.field_tables.specs.Scored.{Scored}
 
@@ -24,7 +23,13 @@ pub record HasGiven (costs : ScoredHour) (hour : Block) (given : ℕ) : Type 0 w
   pub few : hour.hi ≤ hour.lo + 60
   pub within : hour.lo + given ≤ hour.hi
 
--- the tables bound the day's hours, and the blocks are some of them
-pub record AreHoursOf (tables : Scored) (left : List Block) (day : ScoredDay) : Type 0 where
-  pub same : day.tables ≡ tables
-  pub hours : AllByRecursion (IsHourOf day.block) left
+-- the hours of a whole day but for its first ones
+abbrev pub hours_after : Block → ℕ → List Block
+hours_after day given = blocks day.announced day.second Hour (24 - given) (day.lo + 60 * given) day.hi
+
+-- so many hours of the day were given
+pub record HasGivenHours (costs : ScoredDay) (day : Block) (given : ℕ) : Type 0 where
+  pub same : costs.block ≡ day
+  pub whole : day.hi ≡ day.lo + 1440
+  pub begins : day.lo % 1440 ≡ 0
+  pub within : given ≤ 24

@@ -3,6 +3,7 @@
 #![tactic(auto)]
 
 mod fault;
+mod hours;
 mod keyed;
 mod laws;
 mod least;
@@ -16,6 +17,7 @@ mod years;
 
 pub use definitions::{Block, Span};
 pub use fault::ItemsFault;
+pub use hours::{BoundedHours, bounded_hours, day_costs};
 pub use keyed::block_key;
 pub use laws::ranking_is_one;
 pub use least::bound;

@@ -1,16 +1,15 @@
-//! The children of a block with their bounds: the hours of a whole day are bounded all at once, others one after the other.
+//! The children of a block with their bounds, which are found one after the other.
 
 ghost use Rattle.std.specs.Prelude.{◌≡◌, ◌≤◌, IfNone, IfSome, [], ◌∷◌};
 ghost use Rattle.definitions.specs.answers.Blocks.{IsBlock, IsBound, children, first_of};
-ghost use Rattle.definitions.specs.declared.block.Span.TheVariants.{Day};
 ghost use Rattle.definitions.specs.sequences.Walks.{IsSequence};
 ghost use Rattle.field_tables.specs.Scored.{costs_of};
 ghost use Rattle.signal_base.specs.declared.limits.TheConstants.{GREATEST_COST};
 
 use crate::least::know_the_window;
 use crate::{ChildBlocks, bound, children};
-use definitions::{Block, Span};
-use field_tables::{DayCosts, Tables};
+use definitions::Block;
+use field_tables::Tables;
 use std::marker::Model;
 
 /// A block and its bound.
@@ -23,26 +22,24 @@ pub struct Bounded {
 }
 
 /// The children of a block that are left, in order, which are given with their bounds. Contracts see what they see of the
-/// tables that bound them, and the list of them. The minutes of an hour cost less as `BoundedMinutes`.
+/// tables that bound them, and the list of them. The hours of a whole day cost less as `BoundedHours`, and the minutes of an hour
+/// as `BoundedMinutes`.
 #[derive(Drop)]
 pub struct BoundedChildren<'a> {
     tables: &'a Tables<'a>,
     children: ChildBlocks,
-    // What the hours of a day cost, where that is known at once.
-    day: Option<DayCosts<'a>>,
 }
 
 impl<'a> Model for BoundedChildren<'a> {
-    ghost use Rattle.std.specs.Prelude.{IfSome};
     ghost use Rattle.std.specs.List.{AllByRecursion};
     ghost use Rattle.definitions.specs.answers.Blocks.{IsBlock};
-    ghost use Rattle.bounds.specs.Rows.{AreHoursOf, Row};
+    ghost use Rattle.bounds.specs.Rows.{Row};
 
     ghost Value = { Row };
 
     ghost view = { λ r. record { tables = r.tables.now; left = r.children } };
 
-    ghost invariant = { λ r. AllByRecursion (IsBlock r.tables.now.window) r.children × IfSome r.day (AreHoursOf r.tables.now r.children) };
+    ghost invariant = { λ r. AllByRecursion (IsBlock r.tables.now.window) r.children };
 }
 
 /// The children of a block of the window, which are given with their bounds.
@@ -55,20 +52,6 @@ pub fn bounded_children<'a>(tables: &'a Tables<'a>, block: &Block) -> BoundedChi
     BoundedChildren {
         tables,
         children: children(block),
-        day: day_of(tables, block),
-    }
-}
-
-// What the hours of a block cost that is a day.
-fn day_of<'a>(tables: &'a Tables<'a>, block: &Block) -> Option<DayCosts<'a>>
-    requires { IsBlock tables.now.window block.now }
-    ensures tables { IfSome result (λ day. day.tables ≡ tables.now) }
-    ensures block { IfSome result (λ day. day.block ≡ block.now) }
-    ensures span { IfSome result (λ day. block.now.span ≡ Day) }
-{
-    match block.span {
-        Span::Day => tables.day(block),
-        Span::Year | Span::Hour | Span::Minute => None,
     }
 }
 
@@ -88,10 +71,7 @@ impl<'a> BoundedChildren<'a> {
     {
         know_the_window(self.tables);
         let block = self.children.next()?;
-        let bound = match &self.day {
-            Some(day) => Some(day.bound(&block)),
-            None => bound(self.tables, &block),
-        };
+        let bound = bound(self.tables, &block);
         Some(Bounded { block, bound })
     }
 }

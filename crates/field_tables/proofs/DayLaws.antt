@@ -1,12 +1,9 @@
 -- The hours of a whole day: what their unions cost, and which blocks they are.
-use Rattle.std.proofs.Common.{◌≡◌, ℕ, ◌+◌, ◌-◌, ◌*◌, ◌/◌, ◌%◌, ◌<◌, ◌≤◌, inl, inr, Bool, List, length, get_or, slice_index, min, Some, sym, ap, ◌∙◌, subst, arith}
+use Rattle.std.proofs.Common.{◌≡◌, ℕ, ◌+◌, ◌-◌, ◌*◌, ◌/◌, ◌%◌, ◌<◌, ◌≤◌, List, length, get_or, slice_index, min, Some, sym, ap, ◌∙◌, subst, arith}
 use Rattle.std.proofs.Math.Nat.{min-eq_left}
-use Rattle.std.proofs.lemmas.Bool.{cases_eq}
 use Rattle.signal_base.specs.declared.station.Station.{Station}
 use Rattle.definitions.specs.declared.block.Block.{Block}
-use Rattle.definitions.specs.declared.block.Span.{Span}
 use Rattle.definitions.specs.declared.block.Span.TheVariants.{Hour}
-use Rattle.definitions.specs.time.Calendar.{minute_length}
 use Rattle.definitions.specs.heard.Costs.{set_cost, sum_below}
 use Rattle.definitions.specs.answers.Blocks.{IsBlock, IsUnionBound, span_end}
 use Rattle.definitions.proofs.BoundExistLaws.{a_union}
@@ -18,7 +15,7 @@ use Rattle.block_costs.specs.Blocks.{AreUnionsOfWalks}
 use Rattle.block_costs.specs.Days.{hour_begin}
 use Rattle.block_costs.specs.Hours.{IsHourCost}
 use Rattle.field_tables.specs.Blocks.{AreUnionsOver, HasShortWalks}
-use Rattle.field_tables.specs.Days.{IsDayRowOf, IsHourOf, hour_of}
+use Rattle.field_tables.specs.Days.{IsDayRowOf, hour_of}
 use Rattle.field_tables.specs.Sums.{AreSums, Sums, costs_by}
 use Rattle.field_tables.proofs.BlockLaws.{ends_no_later, has_walk, union_over}
 use Rattle.field_tables.proofs.SumLaws.{of_walks, price_of}
@@ -43,66 +40,44 @@ hour_price sums are i w lt is b h cost begins unions over price =
     (price.cost_is (unions w.grid.station)
     (subst (λ l. AreUnionsOfWalks w.grid.station b.announced b.second l (l + 60) (length w.grid.rows) (unions w.grid.station)) lo walks))
 
-block_same : (a a' : Bool) (p p' : ℕ) (span span' : Span) (lo lo' hi hi' : ℕ) → a ≡ a' → p ≡ p' → span ≡ span' → lo ≡ lo' → hi ≡ hi'
-    → ◌≡◌ {A = Block} (record { announced = a; second = p; span = span; lo = lo; hi = hi }) (record { announced = a'; second = p'; span = span'; lo = lo'; hi = hi' })
-block_same a a' p p' span span' lo lo' hi hi' e f g h i = cc
+module _ (sums : Sums) (day : Block) (row : List ℕ) (are : IsDayRowOf sums day row) (h : ℕ) (lt : h < 24) where
+  abbrev hour : Block
+  hour = hour_of day h
 
-module _ (sums : Sums) (day b : Block) (row : List ℕ) (is_block : IsBlock sums.window b)
-    (are : IsDayRowOf sums day row) (is : IsHourOf day b) where
-  begins : b.lo % 60 ≡ 0
-  begins = elim (cases_eq b.lo day.lo) [
-    | inl first ↦ omega (arith, first, are.begins)
-    | inr later ↦ (
-        let t : ℕ = b.lo - 1 in
-        let before : t < b.lo = omega (arith, later, is.not_before) in
-        let end = is_block.begins t (omega (arith, are.block.not_before, is.not_before, later)) before in
-        let hour : (t / 60 + 1) * 60 ≤ b.lo = subst (λ s. span_end s t ≤ b.lo) is.span end in
-        omega (arith, hour, before))
-  ]
-
-  abbrev pub number : ℕ
-  number = (b.lo - day.lo) / 60
-
-  lo_is : b.lo ≡ day.lo + 60 * number
-  lo_is = omega (arith, begins, are.begins, is.not_before)
-
-  hi_is : b.hi ≡ day.lo + 60 * number + 60
-  hi_is =
+  -- it is a block of the window
+  pub hour_is_block : IsBlock sums.window hour
+  hour_is_block =
       let day_ends = ends_no_later day.hi (span_end day.span day.lo) sums.window.to are.block.ends in
-      let end : span_end b.span b.lo ≡ b.lo + 60 = ap (λ s. span_end s b.lo) is.span ∙ omega (arith, begins) in
-      is_block.ends ∙ ap (λ e. min e sums.window.to) end
-      ∙ min-eq_left (omega (arith, day_ends.1, are.whole, are.begins, is.before_end, begins)) ∙ ap (λ l. l + 60) lo_is
+      let end : span_end Hour hour.lo ≡ hour.lo + 60 = omega (arith, are.begins) in
+      record {
+        second = are.block.second;
+        not_empty = omega arith;
+        not_before = omega (arith, are.block.not_before);
+        begins = λ t ge before. omega (arith, are.begins, before);
+        ends = sym (ap (λ e. min e sums.window.to) end ∙ min-eq_left (omega (arith, day_ends.1, are.whole, lt)));
+      }
 
-  pub in_day : number < 24
-  in_day = omega (arith, is.before_end, are.whole, is.not_before)
-
-  -- an hour of a whole day is one of its 24
-  pub hour_is : b ≡ hour_of day number
-  hour_is = block_same b.announced day.announced b.second day.second b.span Hour b.lo (day.lo + 60 * number) b.hi (day.lo + 60 * number + 60) is.announced is.second is.span lo_is hi_is
-
-  short : HasShortWalks sums.window b
+  short : HasShortWalks sums.window hour
   short = record {
-    second = omega (arith, is.second, are.walks.second);
-    short = λ t ge lt.
-        ap (λ a. minute_length a t) is.announced
-        ∙ are.walks.short t (omega (arith, ge, is.not_before)) (omega (arith, lt, hi_is, in_day, are.whole, is.second));
+    second = are.walks.second;
+    short = λ t ge less. are.walks.short t (omega (arith, ge)) (omega (arith, less, lt, are.whole));
   }
 
-  -- and its bound stands in the row
-  pub bounded : IsUnionBound (costs_by sums) sums.window b (Some (slice_index row number))
+  -- whose bound stands in the row
+  pub bounded : IsUnionBound (costs_by sums) sums.window hour (Some (slice_index row h))
   bounded =
       let sums_are = are.totals in
       let slots : 1 ≤ sums.window.seconds = omega (arith, sums_are.window.not_short) in
-      let encoded : b.hi ≤ sums.end - reach sums.window b = omega (arith, are.encoded, hi_is, in_day, are.whole, is.second) in
-      let cut : b.hi ≡ min b.hi (sums.end - reach sums.window b) = sym (min-eq_left encoded) in
-      let some = is_block.not_empty in
-      let unions = λ (station : Station) (k : ℕ). (a_union sums.window b station k).0 in
-      let over : AreUnionsOver sums.window b b.hi unions = λ station k heard lt.
-      union_over sums.window b is_block sums.end sums_are.end short slots b.hi cut some station k (unions station k) lt (a_union sums.window b station k).1 in (
-        has_walk sums.window b is_block sums.end sums_are.end short slots b.hi cut some,
+      let encoded : hour.hi ≤ sums.end - reach sums.window hour = omega (arith, are.encoded, lt, are.whole) in
+      let cut : hour.hi ≡ min hour.hi (sums.end - reach sums.window hour) = sym (min-eq_left encoded) in
+      let some : hour.lo < hour.hi = omega arith in
+      let unions = λ (station : Station) (k : ℕ). (a_union sums.window hour station k).0 in
+      let over : AreUnionsOver sums.window hour hour.hi unions = λ station k heard less.
+      union_over sums.window hour hour_is_block sums.end sums_are.end short slots hour.hi cut some station k (unions station k) less (a_union sums.window hour station k).1 in (
+        has_walk sums.window hour hour_is_block sums.end sums_are.end short slots hour.hi cut some,
         record {
           unions = unions;
-          each = λ station k heard lt. (a_union sums.window b station k).1;
-          cost = are.cost number in_day unions (subst (λ (x : Block). AreUnionsOver sums.window x x.hi unions) hour_is over);
+          each = λ station k heard less. (a_union sums.window hour station k).1;
+          cost = are.cost h lt unions over;
         },
       )

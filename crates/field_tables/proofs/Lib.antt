@@ -6,3 +6,4 @@ pub mod UnionBoundLaws
 pub mod MinuteLaws
 pub mod DayLaws
 pub mod RowLaws
+pub mod LeapLaws

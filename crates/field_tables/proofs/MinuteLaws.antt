@@ -18,7 +18,7 @@ use Rattle.span_unions.specs.Walks.{reach}
 use Rattle.walk_costs.specs.Walks.{PricedParts, ShowsAnnouncement}
 use Rattle.walk_costs.proofs.PlaceLaws.{nominal}
 use Rattle.plain_costs.proofs.GridLaws.{place}
-use Rattle.field_tables.specs.Blocks.{HasShortWalks}
+use Rattle.field_tables.specs.Blocks.{AreMinutesOf, HasShortWalks}
 use Rattle.field_tables.specs.Hours.{minute_at, no_walks, sequence_at}
 use Rattle.field_tables.specs.Sums.{AreSums, Sums, grids_of}
 use Rattle.field_tables.proofs.BlockLaws.{ends_no_later}
@@ -28,6 +28,20 @@ use Rattle.field_tables.proofs.SumLaws.{heard, slots}
 pub regular_walks : (sums : Sums) (b : Block) → HasShortWalks sums.window b → b.hi + reach sums.window b ≤ sums.end
     → AreRegular b.announced b.lo (b.hi + reach sums.window b) sums.end
 regular_walks sums b short ends = record { early = ends; short = short.short }
+
+-- a sequence that is walkable with the announcement and without is legal where it shows that
+pub legal_by_showing : (window : Window) (q : Sequence) → q.announced ≡ true → q.second < 60 → IsWalkable window q → IsWalkable window (unannounced q)
+    → IsLegal window q ↔ ShowsLeap window q
+legal_by_showing window q announced second walk twin = (
+  λ legal. elim (legal.1 announced) [
+    | inl sixty ↦ absurd (omega (arith, sixty, second))
+    | inr rest ↦ elim rest [
+      | inl not ↦ absurd (not twin)
+      | inr shows ↦ shows
+    ]
+  ],
+  λ shows. (walk, λ _. inr (inr shows)),
+)
 
 module _ (sums : Sums) (are : AreSums sums) where
   -- where a station shows the announcement, the window does
@@ -49,19 +63,18 @@ module _ (sums : Sums) (are : AreSums sums) where
       let station : shows.0 ≡ w.grid.station = sym (at.2 no_walks.grid) ∙ ap (λ (g : Grid). g.station) its in
       (at.0, lt, (shows.1, omega (arith, shows.3, slots sums are at.0 w lt is), subst (λ (s : Station). set_at s q shows.1 ≢ set_at s (unannounced q) shows.1) station shows.4))
 
-  module _ (b : Block) (block : IsBlock sums.window b) (walks : HasShortWalks sums.window b) (ends : b.hi + reach sums.window b ≤ sums.end)
+  module _ (b : Block) (block : AreMinutesOf sums.window b) (walks : HasShortWalks sums.window b) (ends : b.hi + reach sums.window b ≤ sums.end)
       (t0 : ℕ) (ge : b.lo ≤ t0) (lt : t0 < b.hi) where
     walks_where : (a : Bool) → ((t : ℕ) → b.lo ≤ t → t < b.hi + reach sums.window b → minute_length a t ≡ 60)
         → IsWalkable sums.window (record { first = t0; second = b.second; announced = a })
     walks_where a short =
-        let within = ends_no_later b.hi (span_end b.span b.lo) sums.window.to block.ends in
         let q : Sequence = record { first = t0; second = b.second; announced = a } in
         let first = short t0 ge (omega (arith, lt)) in
         let by_sixties = λ (t : ℕ) (from : t0 ≤ t) (le : t ≤ t0 + (b.second + sums.window.seconds - 1) / 60).
         short t (omega (arith, from, ge)) (omega (arith, le, lt)) in
         record {
           not_before = omega (arith, block.not_before, ge);
-          before_end = omega (arith, within.1, lt);
+          before_end = omega (arith, block.no_later, lt);
           second = omega (arith, first, walks.second);
           encoded = λ k less.
               subst (λ (p : ℕ × ℕ). CanBeEncoded sums.window.stations p.0) (sym (nominal q sums.window.seconds walks.second by_sixties k less))
@@ -80,16 +93,16 @@ module _ (sums : Sums) (are : AreSums sums) where
 
     -- and one that is where it shows that
     pub legal_where_shown : b.announced ≡ true → IsLegal sums.window (sequence_at b t0) ↔ ShowsLeap sums.window (sequence_at b t0)
-    legal_where_shown announced = (
-      λ legal. elim (legal.1 announced) [
-        | inl sixty ↦ absurd (omega (arith, sixty, walks.second))
-        | inr rest ↦ elim rest [
-          | inl not ↦ absurd (not twin_walkable)
-          | inr shows ↦ shows
-        ]
-      ],
-      λ shows. (walkable, λ _. inr (inr shows)),
-    )
+    legal_where_shown announced = legal_by_showing sums.window (sequence_at b t0) announced walks.second walkable twin_walkable
+
+-- the minutes of a block of a window are some of its range
+pub minutes_of : (window : Window) (b : Block) → IsBlock window b → AreMinutesOf window b
+minutes_of window b block = record {
+  second = block.second;
+  not_empty = block.not_empty;
+  not_before = block.not_before;
+  no_later = (ends_no_later b.hi (span_end b.span b.lo) window.to block.ends).1;
+}
 
 -- the minutes of a block are blocks of its window
 pub minute_is_block : (window : Window) (b : Block) (i : ℕ) → IsBlock window b → b.lo + i < b.hi → IsBlock window (minute_at b i)

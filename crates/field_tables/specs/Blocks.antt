@@ -1,5 +1,5 @@
 -- Blocks whose walks have 60 seconds in each minute.
-use Rattle.std.specs.Prelude.{ℕ, ◌+◌, ◌/◌, ◌%◌, ◌≡◌, ◌<◌, ◌≤◌, true}
+use Rattle.std.specs.Prelude.{ℕ, ◌+◌, ◌/◌, ◌%◌, ◌≡◌, ◌<◌, ◌≤◌, if◌then◌else◌, true}
 use Rattle.signal_base.specs.declared.station.Station.{Station}
 use Rattle.signal_base.specs.declared.window.Window.{Window}
 use Rattle.definitions.specs.declared.block.Block.{Block}
@@ -7,6 +7,13 @@ use Rattle.definitions.specs.time.Calendar.{minute_length}
 use Rattle.definitions.specs.codes.Allowed.{has_station}
 use Rattle.span_unions.specs.Unions.{IsUnionOver}
 use Rattle.span_unions.specs.Walks.{reach}
+
+-- minutes of the window's range, and a second that a minute can have
+pub record AreMinutesOf (window : Window) (b : Block) : Type 0 where
+  pub second : b.second < (if b.announced then 61 else 60)
+  pub not_empty : b.lo < b.hi
+  pub not_before : window.from ≤ b.lo
+  pub no_later : b.hi ≤ window.to
 
 -- the walks of the block have 60 seconds in each minute
 pub record HasShortWalks (window : Window) (b : Block) : Type 0 where

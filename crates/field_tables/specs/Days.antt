@@ -39,11 +39,3 @@ pub record IsDayRowOf (sums : Sums) (day : Block) (row : List ℕ) : Type 0 wher
 pub record ScoredDay : Type 0 where
   pub tables : Scored
   pub block : Block
-
--- the block is an hour of the day
-pub record IsHourOf (day b : Block) : Type 0 where
-  pub announced : b.announced ≡ day.announced
-  pub second : b.second ≡ day.second
-  pub span : b.span ≡ Hour
-  pub not_before : day.lo ≤ b.lo
-  pub before_end : b.lo < day.hi

@@ -27,6 +27,10 @@ sequence_at b t0 = record { first = t0; second = b.second; announced = b.announc
 abbrev pub minute_at : Block → ℕ → Block
 minute_at b i = record { announced = b.announced; second = b.second; span = Minute; lo = b.lo + i; hi = b.lo + i + 1 }
 
+-- the minutes of a block before one of them
+abbrev pub up_to : Block → ℕ → Block
+up_to b cut = record { announced = b.announced; second = b.second; span = b.span; lo = b.lo; hi = cut }
+
 -- the bound that an entry of a row stands for
 abbrev pub bound_of : ℕ → Option ℕ
 bound_of entry = if entry == NOT_LEGAL then None else Some entry

@@ -5,3 +5,4 @@ pub mod Sums
 pub mod Blocks
 pub mod Hours
 pub mod Days
+pub mod Leaps

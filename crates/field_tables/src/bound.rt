@@ -71,8 +71,8 @@ impl WindowSums {
     }
 }
 
-// What a set in each slot costs.
-fn cost_of_sets(columns: &SlotColumns, sets: &Sets) -> u32
+/// What a set in each slot costs.
+pub fn cost_of_sets(columns: &SlotColumns, sets: &Sets) -> u32
     ensures cost { result ≡ sum_below (length columns.now.rows) (λ k. set_cost columns.now.station (cost_at columns.now.rows k) (slice_index sets.now k)) }
     ensures bound { result ≤ most_cost columns.now }
 {

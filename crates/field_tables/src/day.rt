@@ -1,13 +1,16 @@
 //! What the hours of a day cost at the least, one after the other.
 
-ghost use Rattle.std.specs.Prelude.{◌≡◌, ◌≤◌, Some};
-ghost use Rattle.definitions.specs.answers.Blocks.{IsBlock, IsUnionBound};
-ghost use Rattle.field_tables.specs.Days.{IsHourOf};
+ghost use Rattle.std.specs.Prelude.{◌≡◌, ◌+◌, ◌%◌, ◌<◌, ◌≤◌, Some};
+ghost use Rattle.definitions.specs.answers.Blocks.{IsBlock, IsUnionBound, first_of};
+ghost use Rattle.definitions.specs.sequences.Walks.{IsSequence};
+ghost use Rattle.definitions.specs.time.Calendar.{minutes_per_day};
+ghost use Rattle.block_costs.specs.declared.hours.TheConstants.{DAY_HOURS};
+ghost use Rattle.field_tables.specs.Days.{hour_of};
 ghost use Rattle.field_tables.specs.Scored.{costs_of};
 
 use crate::sums::WindowSums;
 use block_costs::HourCosts;
-use definitions::{Block, MINUTES_PER_HOUR};
+use definitions::Block;
 use signal_base::GREATEST_COST;
 use std::marker::Model;
 use symbol_cost::CostGrid;
@@ -34,13 +37,25 @@ impl<'a> Model for DayCosts<'a> {
 }
 
 impl<'a> DayCosts<'a> {
-    /// The bound of an hour of the day: what its unions cost, at most 1,920,000,000.
-    pub fn bound(&self, hour: &Block) -> u32
-        requires block { IsBlock self.now.tables.window hour.now }
-        requires hour { IsHourOf self.now.block hour.now }
-        ensures bound { IsUnionBound (costs_of self.now.tables) self.now.tables.window hour.now (Some result) }
+    /// The day: a whole UTC day.
+    #[inline(always)]
+    pub fn block(&self) -> &Block
+        ensures block { result.now ≡ self.now.block }
+        ensures whole { self.now.block.hi ≡ self.now.block.lo + minutes_per_day }
+        ensures begins { self.now.block.lo % minutes_per_day ≡ 0 }
+    {
+        &self.day
+    }
+
+    /// The bound of hour `h` of the day, counted from 0: what its unions cost, at most 1,920,000,000.
+    #[inline(always)]
+    pub fn bound(&self, h: u32) -> u32
+        requires { h < DAY_HOURS }
+        ensures block { IsBlock self.now.tables.window (hour_of self.now.block h) }
+        ensures sequence { IsSequence (first_of (hour_of self.now.block h)) }
+        ensures bound { IsUnionBound (costs_of self.now.tables) self.now.tables.window (hour_of self.now.block h) (Some result) }
         ensures small { result ≤ GREATEST_COST }
     {
-        self.row[((hour.lo - self.day.lo) / MINUTES_PER_HOUR) as usize]
+        self.row[h as usize]
     }
 }

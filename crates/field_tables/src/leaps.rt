@@ -1,10 +1,17 @@
-//! Where leap seconds may be inserted.
+//! Where leap seconds may be inserted, and what announced sequences cost that begin shortly before.
 
-ghost use Rattle.std.specs.Prelude.{◌≡◌, ◌+◌, ◌<◌, ◌≤◌, ℕ, false};
+ghost use Rattle.std.specs.Prelude.{◌≡◌, ◌+◌, ◌<◌, ◌≤◌, ℕ, IfSome, false, true};
+ghost use Rattle.signal_base.specs.declared.limits.TheConstants.{GREATEST_COST};
+ghost use Rattle.definitions.specs.answers.Blocks.{IsBlock, IsMinuteBound};
 ghost use Rattle.definitions.specs.time.Calendar.{century_minutes, is_leap_end};
+ghost use Rattle.field_tables.specs.Hours.{bound_of};
+ghost use Rattle.field_tables.specs.Sums.{costs_by};
 
+use crate::minutes::entry;
+use crate::sums::WindowSums;
 use civil::Civil;
-use definitions::MINUTES_PER_DAY;
+use definitions::{Block, MINUTES_PER_DAY};
+use slot_columns::SECONDS_PER_MINUTE;
 
 /// Whether one of the minutes from `lo` up to, and without, `end` is the last one of a 30 June or a 31 December.
 pub fn meets_leap_end(civil: &Civil, lo: u32, end: u32) -> bool
@@ -17,4 +24,50 @@ pub fn meets_leap_end(civil: &Civil, lo: u32, end: u32) -> bool
         }
     }
     false
+}
+
+impl WindowSums {
+    /// A minute of the block, or its end: walks that begin before it don't reach the last minute of the UTC day in which the block
+    /// begins, after which a leap second may be inserted.
+    pub fn early_until(&self, block: &Block) -> u32
+        requires order { block.now.lo < block.now.hi }
+        requires century { block.now.hi ≤ century_minutes }
+        ensures begun { block.now.lo ≤ result }
+        ensures ends { result ≤ block.now.hi }
+    {
+        if block.second as usize >= SECONDS_PER_MINUTE {
+            return block.lo;
+        }
+        let last = block.lo / MINUTES_PER_DAY * MINUTES_PER_DAY + (MINUTES_PER_DAY - 1);
+        let later = self.later_minutes(block.second);
+        block.hi.min(last.saturating_sub(later)).max(block.lo)
+    }
+
+    /// The entry of an announced minute whose walk may meet a leap second, where the stations know at once what it costs them:
+    /// the sequence is legal where it shows the announcement at some station.
+    pub fn leap_entry(&self, minute: &Block) -> Option<u32>
+        requires block { IsBlock self.now.window minute.now }
+        requires announced { minute.now.announced ≡ true }
+        ensures bound { IfSome result (λ entry. IsMinuteBound (costs_by self.now) self.now.window minute.now (bound_of entry)) }
+        ensures small { IfSome result (λ entry. IfSome (bound_of entry) (λ n. n ≤ GREATEST_COST)) }
+    {
+        let p = minute.second;
+        if p as usize >= SECONDS_PER_MINUTE {
+            return None;
+        }
+        let later = self.later_minutes(p);
+        if minute.lo + later >= self.end() {
+            return None;
+        }
+        let mut cost = 0;
+        let mut shows = false;
+        for station in &self.stations {
+            let Some(leap) = station.leap_cost(p, minute.lo) else {
+                return None;
+            };
+            cost += leap.cost;
+            shows |= leap.shows;
+        }
+        Some(entry(shows, cost))
+    }
 }

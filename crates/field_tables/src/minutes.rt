@@ -2,11 +2,10 @@
 
 ghost use Rattle.std.specs.Prelude.{◌≡◌, ◌+◌, ◌<◌, ◌≤◌, ◌↔◌, ℕ, IfSome, false, if◌then◌else◌, slice_index, slice_index_or, true};
 ghost use Rattle.signal_base.specs.declared.limits.TheConstants.{GREATEST_COST};
-ghost use Rattle.definitions.specs.answers.Blocks.{IsBlock};
 ghost use Rattle.definitions.specs.heard.Costs.{sequence_cost};
 ghost use Rattle.definitions.specs.sequences.Walks.{ShowsLeap};
 ghost use Rattle.span_unions.specs.Walks.{reach};
-ghost use Rattle.field_tables.specs.Blocks.{HasShortWalks};
+ghost use Rattle.field_tables.specs.Blocks.{AreMinutesOf, HasShortWalks};
 ghost use Rattle.field_tables.specs.Hours.{IsRowOf, bound_of, sequence_at};
 ghost use Rattle.field_tables.specs.Sums.{costs_by};
 
@@ -36,19 +35,14 @@ impl MinuteRow {
         requires { i < HOUR_MINUTES }
         ensures { result ≡ bound_of (slice_index self.now.entries i) }
     {
-        let entry = self.entries[i];
-        if entry == NOT_LEGAL {
-            None
-        } else {
-            Some(entry)
-        }
+        bound_of(self.entries[i])
     }
 }
 
 impl WindowSums {
     /// Whether it is known that the walks of a block have 60 seconds in each minute and can be encoded by each station.
     pub fn has_regular_walks(&self, civil: &Civil, block: &Block) -> bool
-        requires { IsBlock self.now.window block.now }
+        requires { AreMinutesOf self.now.window block.now }
         ensures short { result ≡ true → HasShortWalks self.now.window block.now }
         ensures encoded { result ≡ true → block.now.hi + reach self.now.window block.now ≤ self.now.end }
     {
@@ -60,7 +54,7 @@ impl WindowSums {
 
     /// The bounds of the minutes of a block whose walks have 60 seconds in each minute and can be encoded by each station.
     pub fn minutes(&self, block: &Block) -> MinuteRow
-        requires block { IsBlock self.now.window block.now }
+        requires block { AreMinutesOf self.now.window block.now }
         requires few { block.now.hi ≤ block.now.lo + HOUR_MINUTES }
         requires walks { HasShortWalks self.now.window block.now }
         requires encoded { block.now.hi + reach self.now.window block.now ≤ self.now.end }
@@ -80,7 +74,7 @@ impl WindowSums {
     // none does, and nothing need be costed.
     fn announced_minutes(&self, block: &Block) -> MinuteRow
         requires announced { block.now.announced ≡ true }
-        requires block { IsBlock self.now.window block.now }
+        requires block { AreMinutesOf self.now.window block.now }
         requires few { block.now.hi ≤ block.now.lo + HOUR_MINUTES }
         requires walks { HasShortWalks self.now.window block.now }
         requires encoded { block.now.hi + reach self.now.window block.now ≤ self.now.end }
@@ -136,8 +130,8 @@ fn no_costs() -> MinuteCosts
     [0; HOUR_MINUTES]
 }
 
-// A row without a legal sequence.
-fn none_legal() -> MinuteRow
+/// A row without a legal sequence.
+pub fn none_legal() -> MinuteRow
     ensures { (i : ℕ) → i < HOUR_MINUTES → slice_index result.entries i ≡ NOT_LEGAL }
 {
     MinuteRow {
@@ -180,8 +174,20 @@ pub fn entry_of(bound: Option<u32>) -> u32
     bound.unwrap_or(NOT_LEGAL)
 }
 
-// The entry of a minute.
-fn entry(legal: bool, cost: u32) -> u32
+/// The bound that an entry stands for.
+#[inline(always)]
+pub fn bound_of(entry: u32) -> Option<u32>
+    ensures { result ≡ bound_of entry }
+{
+    if entry == NOT_LEGAL {
+        None
+    } else {
+        Some(entry)
+    }
+}
+
+/// The entry of a minute.
+pub fn entry(legal: bool, cost: u32) -> u32
     ensures { result ≡ (if legal then cost else NOT_LEGAL) }
 {
     if legal { cost } else { NOT_LEGAL }

@@ -1,18 +1,21 @@
 //! What one station of a window may send, and what that costs.
 
-ghost use Rattle.std.specs.Prelude.{ℕ, ◌≡◌, ◌+◌, ◌<◌, ◌≤◌, ◌⊎◌, ◌↔◌, ◌^◌, IfOk, IsTrue, MatchOption, false, length, slice_index, slice_index_or, true};
+ghost use Rattle.std.specs.Prelude.{ℕ, ◌≡◌, ◌+◌, ◌<◌, ◌≤◌, ◌⊎◌, ◌↔◌, ◌^◌, ◌&&◌, Bool, IfOk, IfSome, IsTrue, MatchOption, false, length, slice_index, slice_index_or, true};
 ghost use Rattle.signal_base.specs.declared.limits.TheConstants.{MOST_SECONDS};
 ghost use Rattle.definitions.specs.codes.Allowed.{CanBeEncoded, has_station};
 ghost use Rattle.definitions.specs.answers.Blocks.{HasWalk, IsBlock, IsUnion};
+ghost use Rattle.definitions.specs.heard.Dut1.{has_dut1};
 ghost use Rattle.definitions.specs.sequences.Windows.{IsWindow};
 ghost use Rattle.slot_columns.specs.Parts.{most_cost};
 ghost use Rattle.slot_columns.specs.declared.limits.TheConstants.{SECONDS_PER_MINUTE};
 ghost use Rattle.span_unions.specs.Unions.{AreRegular};
 ghost use Rattle.walk_costs.specs.Walks.{ShowsAnnouncement, cost_of, later_minutes};
 ghost use Rattle.field_tables.specs.Hours.{sequence_at};
+ghost use Rattle.field_tables.specs.Leaps.{IsLeapCost};
 ghost use Rattle.field_tables.specs.Sums.{IsOf};
 ghost use Rattle.block_costs.specs.declared.minutes.TheConstants.{HOUR_MINUTES};
 
+use crate::bound::cost_of_sets;
 use crate::minutes::Flags;
 use crate::shown::mark_stretch;
 use block_costs::{BlocksFault, HOUR_MINUTES, MinuteCosts, StationBlocks};
@@ -20,7 +23,7 @@ use civil::Civil;
 use definitions::Block;
 use leap_unions::{LeapFault, LeapUnions, Sets};
 use minute_parts::{Parts, PartsFault};
-use signal_base::Window;
+use signal_base::{Station, Window};
 use span_unions::{Unions, UnionsFault};
 use std::alloc::{AllocError, Global};
 use std::marker::Model;
@@ -68,6 +71,15 @@ impl From<LeapFault> for SumsFault {
     fn from(_fault: LeapFault) -> SumsFault {
         SumsFault::NoMemory
     }
+}
+
+/// What an announced sequence costs a station.
+#[derive(Clone, Copy, Debug, PartialEq, Eq)]
+pub struct LeapCost {
+    /// What it costs.
+    pub cost: u32,
+    /// Whether it shows the announcement at the station.
+    pub shows: bool,
 }
 
 /// A station's walks and blocks with what they cost. Contracts see the parts of its telegrams and the grid of costs.
@@ -156,6 +168,25 @@ impl StationSums {
         }
     }
 
+    /// What an announced sequence costs the station that begins shortly before a leap second may be inserted. None of other
+    /// sequences, and where a value of DUT1 is told in all of its seconds that tell it.
+    pub fn leap_cost(&self, p: u8, first: u32) -> Option<LeapCost>
+        requires second { p < SECONDS_PER_MINUTE }
+        requires encoded { first + 1 + later_minutes (length self.now.grid.rows) p ≤ self.now.parts.end }
+        ensures { IfSome result (IsLeapCost self.now p first) }
+    {
+        let walks = self.blocks.walks();
+        let walk = self.leaps.walk(walks.unions(), p, first)?;
+        let columns = walks.columns();
+        if !is_untold(columns.station(), walk.next_day) {
+            return None;
+        }
+        Some(LeapCost {
+            cost: cost_of_sets(columns, &walk.sets),
+            shows: walk.shows,
+        })
+    }
+
     /// In each slot the union of what the walkable sequences of an announced block allow the station, or None where no
     /// sequence of the block is walkable. `end` is the first minute that not all stations of the window can encode.
     pub fn leap_unions(
@@ -176,5 +207,15 @@ impl StationSums {
     {
         let unions = self.blocks.walks().unions();
         self.leaps.unions_of(civil, unions, window, end, block)
+    }
+}
+
+// Whether a walk of the station tells no value of DUT1: the station sends none, or the walk goes on to the next day.
+fn is_untold(station: Station, next_day: bool) -> bool
+    ensures { result ≡ true → (one_day : Bool) → (next_day ≡ true → one_day ≡ false) → (has_dut1 station && one_day) ≡ false }
+{
+    match station {
+        Station::Dcf77 | Station::Jjy => true,
+        Station::Msf | Station::Wwvb => next_day,
     }
 }

@@ -1,11 +1,10 @@
 //! What the sequences and blocks of a window cost, by sums that were made once for a log.
 
 ghost use Rattle.std.specs.Prelude.{◌≡◌, ◌<◌, ◌≤◌, ◌↔◌, IfOk, IfSome, IsTrue, false, true};
-ghost use Rattle.definitions.specs.answers.Blocks.{IsBlock};
 ghost use Rattle.definitions.specs.heard.Costs.{sequence_cost};
 ghost use Rattle.definitions.specs.sequences.Walks.{IsWalkable};
 ghost use Rattle.definitions.specs.sequences.Windows.{IsWindow};
-ghost use Rattle.field_tables.specs.Blocks.{HasShortWalks};
+ghost use Rattle.field_tables.specs.Blocks.{AreMinutesOf, HasShortWalks};
 ghost use Rattle.field_tables.specs.Agreement.{AgreeOn};
 ghost use Rattle.field_tables.specs.Grids.{AreGrids, grid_costs};
 ghost use Rattle.field_tables.specs.Sums.{AreSums, costs_by};
@@ -105,7 +104,7 @@ impl WindowSums {
 
     /// Whether it is known that the walks of a block have 60 seconds in each minute. Where none is announced it is.
     pub fn has_short_walks(&self, civil: &Civil, block: &Block) -> bool
-        requires { IsBlock self.now.window block.now }
+        requires { AreMinutesOf self.now.window block.now }
         ensures short { result ≡ true → HasShortWalks self.now.window block.now }
         ensures announced { result ≡ false → block.now.announced ≡ true }
     {

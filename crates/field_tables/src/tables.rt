@@ -8,12 +8,12 @@ ghost use Rattle.definitions.specs.heard.Costs.{sequence_cost, set_cost};
 ghost use Rattle.definitions.specs.answers.Blocks.{HasWalk, IsBlock, IsMinuteBound, IsUnion, IsUnionBound};
 ghost use Rattle.block_costs.specs.declared.minutes.TheConstants.{HOUR_MINUTES};
 ghost use Rattle.field_tables.specs.Grids.{AreGrids};
-ghost use Rattle.field_tables.specs.Hours.{IsRowOf, bound_of, minute_at};
+ghost use Rattle.field_tables.specs.Hours.{IsRowOf, bound_of, minute_at, up_to};
 ghost use Rattle.field_tables.specs.Scored.{costs_of};
 
 use crate::day::DayCosts;
 use crate::hour::HourCosts;
-use crate::minutes::{MinuteRow, NOT_LEGAL, entry_of};
+use crate::minutes::{MinuteRow, bound_of, entry_of, none_legal};
 use crate::station::SumsFault;
 use crate::sums::WindowSums;
 use block_costs::HOUR_MINUTES;
@@ -168,6 +168,11 @@ impl<'a> Tables<'a> {
         if minute.announced && self.sums.has_regular_walks(self.civil, minute) {
             return self.sums.minutes(minute).bound(0);
         }
+        if minute.announced {
+            if let Some(entry) = self.sums.leap_entry(minute) {
+                return bound_of(entry);
+            }
+        }
         let q = Sequence {
             first: minute.lo,
             second: minute.second,
@@ -204,17 +209,26 @@ impl<'a> Tables<'a> {
         if self.sums.has_regular_walks(self.civil, block) {
             return self.sums.minutes(block);
         }
-        self.row_by_minutes(block)
+        // Of an hour in which walks reach a leap end most begin too early for it.
+        let cut = self.sums.early_until(block);
+        let early = up_to(block, cut);
+        if cut > block.lo && self.sums.has_regular_walks(self.civil, &early) {
+            return self.row_after(block, cut, &self.sums.minutes(&early));
+        }
+        self.row_after(block, block.lo, &none_legal())
     }
 
-    // The same, one by one.
-    fn row_by_minutes(&self, block: &Block) -> MinuteRow
+    // The bounds of the minutes of a block, where those of the minutes before `cut` are known: those of the others one by one.
+    fn row_after(&self, block: &Block, cut: u32, known: &MinuteRow) -> MinuteRow
         requires block { IsBlock self.now.window block.now }
         requires few { block.now.hi ≤ block.now.lo + HOUR_MINUTES }
+        requires begun { block.now.lo ≤ cut }
+        requires ends { cut ≤ block.now.hi }
+        requires known { IsRowOf (costs_of self.now) self.now.window (up_to block.now cut) known.now }
         ensures { IsRowOf (costs_of self.now) self.now.window block.now result }
     {
-        let mut entries = [NOT_LEGAL; HOUR_MINUTES];
-        for i in 0..(block.hi - block.lo) as usize {
+        let mut entries = known.entries;
+        for i in (cut - block.lo) as usize..(block.hi - block.lo) as usize {
             entries[i] = self.entry_at(block, i as u32);
         }
         MinuteRow { entries }
@@ -252,5 +266,18 @@ impl<'a> Tables<'a> {
             day: *block,
             row,
         })
+    }
+}
+
+// The minutes of a block before one of them.
+fn up_to(block: &Block, cut: u32) -> Block
+    ensures { result ≡ up_to block.now cut }
+{
+    Block {
+        announced: block.announced,
+        second: block.second,
+        span: block.span,
+        lo: block.lo,
+        hi: cut,
     }
 }

@@ -4,13 +4,16 @@ ghost use Rattle.std.specs.Prelude.{◌≡◌, ◌≤◌};
 ghost use Rattle.std.specs.Option.{ForSome};
 ghost use Rattle.std.specs.List.{AllByRecursion};
 ghost use Rattle.definitions.specs.answers.Blocks.{IsBlock, first_of};
-ghost use Rattle.definitions.specs.declared.block.Span.TheVariants.{Hour};
+ghost use Rattle.definitions.specs.declared.block.Span.TheVariants.{Day, Hour};
 ghost use Rattle.definitions.specs.sequences.Walks.{IsSequence};
 ghost use Rattle.signal_base.specs.declared.limits.TheConstants.{GREATEST_COST};
 
-use bounds::{Bounded, block_key, bound, bounded_children, bounded_minutes, hour_costs};
+use bounds::{
+    Bounded, block_key, bound, bounded_children, bounded_hours, bounded_minutes, day_costs,
+    hour_costs,
+};
 use definitions::{Block, Span};
-use field_tables::Tables;
+use field_tables::{DayCosts, Tables};
 use sequence::ceiling_key;
 use signal_base::GREATEST_COST;
 
@@ -85,9 +88,26 @@ impl Visits {
         if depth == 0 {
             return;
         }
+        if let Some(costs) = day_costs(&*tables, &found.block) {
+            self.visit_hours(&*tables, &costs);
+            return;
+        }
         let mut children = bounded_children(&*tables, &found.block);
         while let Some(child) = children.next() {
             self.visit(&*tables, &child, depth - 1);
+        }
+    }
+
+    // Visits the hours of a day.
+    fn visit_hours(&mut self, tables: &Tables, costs: &DayCosts<'_>)
+        requires tables { costs.now.tables ≡ tables.now }
+        requires day { costs.now.block.span ≡ Day }
+    {
+        let mut hours = bounded_hours(costs);
+        while let Some(hour) = hours.next() {
+            if self.come_to(&hour).is_some() {
+                self.visit_minutes(&*tables, &hour.block);
+            }
         }
     }
 

@@ -2,12 +2,9 @@ use Rattle.std.proofs.Common.{subst, sym}
 use Rattle.std.specs.List.{AllByRecursion}
 use Rattle.definitions.specs.answers.Blocks.{IsBlock}
 use Rattle.definitions.proofs.BlockLaws.{children_are_blocks}
-use Rattle.bounds.proofs.DayLaws.{day_is}
 use Rattle.bounds.proofs.rows.bounded_children.Goals as goal
 
 pub invariant_of-result : goal.invariant_of-result
 invariant_of-result c =
-    let window = c.args.tables.now.window in (
-      subst (λ bs. AllByRecursion (IsBlock window) bs) (sym c.children.ensures) (children_are_blocks window c.args.block.now c.know_the_window.ensures.century c.requires),
-      day_is c.args.tables.now c.args.block.now c.children.result c.day_of.result c.children.ensures c.day_of.ensures.tables c.day_of.ensures.block c.day_of.ensures.span,
-    )
+    let window = c.args.tables.now.window in
+    subst (λ bs. AllByRecursion (IsBlock window) bs) (sym c.children.ensures) (children_are_blocks window c.args.block.now c.know_the_window.ensures.century c.requires)

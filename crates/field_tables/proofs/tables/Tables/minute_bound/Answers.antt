@@ -21,3 +21,12 @@ returns-then-has_regular_walks-clause-bound c =
 
 pub returns-then-legal-clause-bound : goal.returns-then-legal-clause-bound
 returns-then-legal-clause-bound c = (c.legal.ensures.0 c.if-legal.true, c.cost.ensures.cost)
+
+pub returns-in-Some-clause-bound : goal.returns-in-Some-clause-bound
+returns-in-Some-clause-bound c =
+    let inside = c.self.inside in
+    let b = c.args.minute.now in
+    let found = bound_of c.in-Some.entry in
+    let by_sums = subst (λ (x : Window). IsMinuteBound (costs_by inside.sums) x b found) c.self.invariant.same c.in-Some.ensures.bound in
+    rw c.bound_of.ensures (subst (λ (s : Scored). IsMinuteBound (costs_of s) s.window b found) c.self.view_is
+    (bound_agrees inside.window (costs_by inside.sums) (grid_costs inside.grids.now) b found c.self.invariant.agree by_sums))

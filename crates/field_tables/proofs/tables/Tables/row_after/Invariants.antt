@@ -3,7 +3,7 @@ use Rattle.std.proofs.Common.{ℕ, ◌≡◌, ◌<◌, length, get_or}
 use Rattle.block_costs.specs.declared.minutes.TheConstants.{HOUR_MINUTES}
 use Rattle.field_tables.specs.Scored.{costs_of}
 use Rattle.field_tables.proofs.RowLaws.{IsEntry}
-use Rattle.field_tables.proofs.tables.Tables.row_by_minutes.Given as goal
+use Rattle.field_tables.proofs.tables.Tables.row_after.Given as goal
 
 abbrev pub invariant-loop-i : goal.invariant-loop-i
 invariant-loop-i l = record {

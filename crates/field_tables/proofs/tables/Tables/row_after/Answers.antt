@@ -1,8 +1,16 @@
-use Rattle.std.proofs.Common.{◌≢◌, ◌<◌, length, get_or, arith, ◌∙◌, below_more, get_or-set_other, get_or-set_same}
+use Rattle.std.proofs.Common.{◌≢◌, ◌+◌, ◌<◌, length, get_or, arith, ◌∙◌, below_more, get_or-set_other, get_or-set_same}
 use Rattle.std.proofs.Math.ListN.{length-set, set}
 use Rattle.field_tables.specs.Scored.{costs_of}
 use Rattle.field_tables.proofs.RowLaws.{IsEntry}
-use Rattle.field_tables.proofs.tables.Tables.row_by_minutes.Goals as goal
+use Rattle.field_tables.proofs.tables.Tables.row_after.Goals as goal
+
+pub loop-i-init : goal.loop-i-init
+loop-i-init c = record {
+  long = omega arith;
+  done = λ j lt. (
+      let within : c.args.block.now.lo + j < c.args.cut = omega (arith, lt) in
+      (c.requires.known.bound j within, c.requires.known.small j within));
+}
 
 pub loop-i-preserved : goal.loop-i-preserved
 loop-i-preserved c =
