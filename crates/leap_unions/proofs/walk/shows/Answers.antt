@@ -1,4 +1,4 @@
-use Rattle.std.proofs.Common.{◌≡◌, ◌+◌, ℕ, List, slice_index, sym, ◌∙◌, arith}
+use Rattle.std.proofs.Common.{sym, ◌∙◌}
 use Rattle.leap_unions.proofs.WalkLaws.{plain_sets}
 use Rattle.leap_unions.proofs.walk.shows.Goals as goal
 

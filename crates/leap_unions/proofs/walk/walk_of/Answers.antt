@@ -1,9 +1,8 @@
-use Rattle.std.proofs.Common.{◌≡◌, ◌≢◌, ◌+◌, ◌-◌, ◌*◌, ◌<◌, ℕ, inl, inr, true, List, slice_index, sym, ap, ◌∙◌, subst, arith}
+use Rattle.std.proofs.Common.{◌≡◌, ◌≢◌, ◌+◌, ◌-◌, ◌*◌, ◌<◌, ℕ, inl, inr, true, slice_index, sym, ap, ◌∙◌, subst, arith}
 use Rattle.std.proofs.lemmas.Bool.{cases_Bool}
 use Rattle.signal_base.specs.declared.station.Station.{Station}
 use Rattle.definitions.specs.codes.Allowed.{allowed}
 use Rattle.definitions.specs.sequences.Walks.{set_at}
-use Rattle.leap_unions.specs.Pieces.{announced_from}
 use Rattle.leap_unions.specs.Walks.{plain_from}
 use Rattle.leap_unions.proofs.NominalLaws.{from_second}
 use Rattle.leap_unions.proofs.WalkLaws.{next_day}

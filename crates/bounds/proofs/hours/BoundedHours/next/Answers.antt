@@ -1,5 +1,5 @@
 -- The next hour is the first of those that are left.
-use Rattle.std.proofs.Common.{◌+◌, ◌<◌, ◌∙◌, Some, ap, sym, subst, arith}
+use Rattle.std.proofs.Common.{◌∙◌, Some, ap, sym, subst, arith}
 use Rattle.definitions.specs.declared.block.Block.{Block}
 use Rattle.definitions.specs.answers.Blocks.{IsBlock, IsUnionBound, first_of}
 use Rattle.definitions.specs.sequences.Walks.{IsSequence}
