@@ -169,7 +169,7 @@ impl StationSums {
     }
 
     /// What an announced sequence costs the station that begins shortly before a leap second may be inserted. None of other
-    /// sequences, and where a value of DUT1 is told in all of its seconds that tell it.
+    /// sequences, and where the station sends DUT1 and the walk isn't known to go on to the next UTC day.
     pub fn leap_cost(&self, p: u8, first: u32) -> Option<LeapCost>
         requires second { p < SECONDS_PER_MINUTE }
         requires encoded { first + 1 + later_minutes (length self.now.grid.rows) p ≤ self.now.parts.end }
