@@ -1,5 +1,5 @@
 -- Receivers with their logs, put in the order of stations: what contracts see of them, and the bank that they are.
-use Rattle.std.proofs.Common.{◌≡◌, ℕ, suc, Bool, true, false, List, [], ◌∷◌, length, map, refl, ap, ◌∙◌, subst}
+use Rattle.std.proofs.Common.{◌≡◌, ℕ, suc, List, [], ◌∷◌, length, map, refl, ap, ◌∙◌, subst}
 use Rattle.std.specs.List.{zip}
 use Rattle.std.specs.List.Sorted.{IsPermutation}
 use Rattle.std.proofs.lemmas.List.Sorted.{IsPermutation-map}
@@ -17,8 +17,8 @@ use Rattle.bank_config.specs.Configuration.{PlainConfig, PlainReceiver, plain_re
 use Rattle.due.specs.declared.due.Due.{Due}
 use Rattle.due.specs.declared.due.Due.TheVariants as dues
 use Rattle.due.specs.Banks.{Bank, IsBankAnswer, bank_of, by_station, duts_of, ordered, receivers_of, window_of}
-use Rattle.due.specs.Orders.{BankOrder}
-use Rattle.due.specs.Rules.{IsTold, told_of}
+use Rattle.due.specs.Orders.{BankOrder, Report, Sentences, Wanted}
+use Rattle.due.specs.Rules.{IsReported, reported}
 use Rattle.due.proofs.StationLaws.{same_costs, same_window}
 use Rattle.bank.specs.Order.{IsInOrder, entries_in_order, in_station_order}
 use Rattle.bank.proofs.OrderLaws.{map_in_order}
@@ -86,23 +86,23 @@ bank_in_order config logs other others is =
         → ◌≡◌ {A = Bank} (record { receivers = rs; table = t; ceiling = m }) (record { receivers = ss; table = u; ceiling = n })
     same_bank e f g = cc
 
--- what is told of it is told of the bank
+-- what is reported of it is reported of the bank
 same_duts : (window : Window) (bank : Bank) (answer : Answer) → duts_of window (ordered bank) answer ≡ duts_of window bank answer
 same_duts window bank answers.Nothing = refl
 same_duts window bank (answers.Decided cost q next) = ap (λ (costs : Costs). map (λ station. record { station = station; dut = dut_of station (costs station) window.seconds q }) (stations_of window.stations)) (same_costs window bank)
 same_duts window bank (answers.Undecided cost q r) = refl
 
-same_told : (as_feed : Bool) (window : Window) (bank : Bank) (answer : Answer) → told_of as_feed window (ordered bank) answer ≡ told_of as_feed window bank answer
-same_told true window bank answers.Nothing = refl
-same_told true window bank (answers.Decided cost q next) = refl
-same_told true window bank (answers.Undecided cost q r) = refl
-same_told false window bank answer = ap (λ duts. dues.Report window answer duts) (same_duts window bank answer)
+same_report : (wanted : Wanted) (window : Window) (bank : Bank) (answer : Answer) → reported wanted window (ordered bank) answer ≡ reported wanted window bank answer
+same_report Sentences window bank answers.Nothing = refl
+same_report Sentences window bank (answers.Decided cost q next) = refl
+same_report Sentences window bank (answers.Undecided cost q r) = refl
+same_report (Report certificate) window bank answer = ap (λ duts. dues.Report window answer duts) (same_duts window bank answer)
 
-pub told_in_order : (o : BankOrder) (bank : Bank) (due : Due) → IsTold o (ordered bank) due → IsTold o bank due
-told_in_order o bank due told =
+pub reported_in_order : (o : BankOrder) (bank : Bank) (due : Due) → IsReported o (ordered bank) due → IsReported o bank due
+reported_in_order o bank due is =
     let window = same_window o.asked bank.receivers in (
-      told.0,
-      subst (λ (costs : Costs). IsWindowAnswer (window_of o.asked bank.receivers) costs bank.ceiling told.0) (same_costs (window_of o.asked bank.receivers) bank)
-          (subst (λ (w : Window). IsBankAnswer w (ordered bank) told.0) window told.1),
-      told.2 ∙ ap (λ (w : Window). told_of o.as_feed w (ordered bank) told.0) window ∙ same_told o.as_feed (window_of o.asked bank.receivers) bank told.0,
+      is.0,
+      subst (λ (costs : Costs). IsWindowAnswer (window_of o.asked bank.receivers) costs bank.ceiling is.0) (same_costs (window_of o.asked bank.receivers) bank)
+          (subst (λ (w : Window). IsBankAnswer w (ordered bank) is.0) window is.1),
+      is.2 ∙ ap (λ (w : Window). reported o.wanted w (ordered bank) is.0) window ∙ same_report o.wanted (window_of o.asked bank.receivers) bank is.0,
     )

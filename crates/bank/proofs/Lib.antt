@@ -1,6 +1,7 @@
 pub mod FirstTwoLaws
 pub mod TaskLaws
 pub mod ReadingLaws
+mod RefusalLaws
 pub mod ContentLaws
 pub mod LoadLaws
 pub mod LogListLaws
@@ -8,11 +9,13 @@ pub mod HearingLaws
 pub mod WindowLaws
 pub mod GridLaws
 pub mod PartLaws
-pub mod VerdictLaws
+pub mod DecodedLaws
 pub mod DutLaws
+pub mod RiseLaws
 pub mod OrderLaws
 pub mod EntryLaws
 pub mod FindingLaws
 pub mod EndingLaws
+pub mod ExactLaws
 pub mod RunLaws
 pub mod TrialLaws

@@ -6,7 +6,7 @@ use Rattle.bank_files.specs.Fault.{HasFault}
 use Rattle.bank_files.specs.Seen.{SameCounts, Seen}
 use Rattle.bank_config.specs.Configuration.{PlainConfig, PlainReceiver}
 use Rattle.due.specs.Configurations.{IsBadConfiguration, IsConfiguration}
-use Rattle.due.specs.Rules.{configuration}
+use Rattle.due.specs.Inputs.{Configuration}
 use Rattle.bank.specs.Ending.{MayHold}
 use Rattle.bank.specs.declared.loading.Unloaded.{Unloaded}
 use Rattle.bank.specs.declared.loading.Unloaded.TheVariants.{Failed, NoMemory, Refused}
@@ -33,10 +33,10 @@ module _ (old mid : Seen) (file : List ℕ) (config : PlainConfig) (same : mid.t
   pub all_read : (logs : List Records) → AreRead mid config.receivers logs → IsLoaded old file config logs
   all_read logs are =
       let all = good_contents mid 1 config.receivers logs (λ _. read.0) are in
-      let first : all.0 configuration ≡ read.0 = all.1 0 (omega arith) in (
+      let first : all.0 Configuration ≡ read.0 = all.1.0 in (
         all.0,
         record {
-          found = found_same (old.told file) (all.0 configuration) read.0 first read.1;
+          found = found_same (old.told file) (all.0 Configuration) read.0 first read.1;
           says = subst (λ (b : List ℕ). IsConfiguration b config) (sym first) read.2;
           good = all.2;
           agree = λ n f r. subst (λ (told : List ℕ → Told). Finds (told f) (λ held. all.0 n ≡ held)) same (all.3 n f r);
@@ -47,12 +47,12 @@ module _ (old mid : Seen) (file : List ℕ) (config : PlainConfig) (same : mid.t
   pub logs_not_read : (new : Seen) (why : Unloaded) → SameCounts old mid → AreNotRead mid new 1 config.receivers why → IsNotLoaded old new file why
   logs_not_read new (Refused refusal) counts is =
       let all = refused_contents mid 1 config.receivers refusal (λ _. read.0) is.0 in
-      let first : all.0 configuration ≡ read.0 = all.1 0 (omega arith) in (
+      let first : all.0 Configuration ≡ read.0 = all.1.0 in (
         inr (
           config,
           all.0,
           record {
-            found = found_same (old.told file) (all.0 configuration) read.0 first read.1;
+            found = found_same (old.told file) (all.0 Configuration) read.0 first read.1;
             says = subst (λ (b : List ℕ). IsConfiguration b config) (sym first) read.2;
             bad = all.2;
             agree = λ n f r. subst (λ (told : List ℕ → Told). Finds (told f) (λ held. all.0 n ≡ held)) same (all.3 n f r);
@@ -62,7 +62,7 @@ module _ (old mid : Seen) (file : List ℕ) (config : PlainConfig) (same : mid.t
       )
   logs_not_read new Failed counts is =
       let all = failing_contents mid new 1 config.receivers (λ _. read.0) is in
-      let first : all.0 configuration ≡ read.0 = all.1 0 (omega arith) in
+      let first : all.0 Configuration ≡ read.0 = all.1.0 in
       inr (
         config,
         all.0,

@@ -1,100 +1,124 @@
--- What the receivers of each station heard, as they come one by one.
-use Rattle.std.proofs.Common.{◌≡◌, ℕ, suc, ◌+◌, ◌<◌, List, [], ◌∷◌, ◌++◌, All, length, drop, get_or, add-one, refl, sym, ap, ◌∙◌, subst, arith}
-use Rattle.std.proofs.lemmas.List.Elements.{All-append, All-cons, All-nil}
-use Rattle.std.proofs.lemmas.List.{length-append}
-use Rattle.std.proofs.Math.Seq.{drop-cons}
-use Rattle.std.specs.List.{remove}
+-- What the receivers of a station heard is a part of what all of them heard, where they stand in the order of their stations.
+use Rattle.std.proofs.Common.{◌≡◌, ℕ, suc, ◌+◌, ◌<◌, ◌≤◌, ◌==◌, nat_lt, ◌⊎◌, inl, inr, true, false, if◌then◌else◌, List, [], ◌∷◌, All, length, map, take, drop, get_or, refl, sym, ap, ◌∙◌, subst, arith}
+use Rattle.std.proofs.lemmas.Bool.{cases_lt}
+use Rattle.std.proofs.lemmas.Bool.Decides.{nat_tests}
+use Rattle.std.proofs.lemmas.List.{length-drop, length-take}
+use Rattle.std.specs.List.Sorted.{IsNonDecreasingBy}
 use Rattle.signal_base.specs.declared.station.Station.{Station}
 use Rattle.signal_base.specs.declared.station.Station.TheVariants.{Dcf77, Msf, Wwvb, Jjy}
 use Rattle.signal_base.specs.declared.tuning.Tuning.{Tuning}
-use Rattle.signal_base.specs.Limits.{IsTuned}
+use Rattle.signal_base.specs.Number.{number_of}
 use Rattle.definitions.specs.heard.Logs.{Records}
 use Rattle.definitions.specs.heard.Receivers.{Reception, heard_of, receptions}
 use Rattle.align.specs.Receivers.{receivers}
-use Rattle.bank.specs.declared.grids.ByStation.{ByStation}
-use Rattle.bank.specs.declared.grids.Heard.{Heard}
-use Rattle.bank.specs.Hearing.{IsHeard, PushesOne, PushesTo, count_of, heard_seen, part_of}
+use Rattle.bank.specs.declared.hearing.Bank.{Bank}
+use Rattle.bank.specs.Hearing.{IsBank, count_before, count_of, heard_in, part_of}
 
-one_more : (ts : List Tuning) (logs : List Records) (t : Tuning) (log : Records) (rest : List Reception) → length logs ≡ length ts
-    → receptions (ts ++ t ∷ []) (logs ++ log ∷ []) ++ rest ≡ receptions ts logs ++ record { tuning = t; log = log } ∷ rest
-one_more [] [] t log rest e = refl
-one_more [] (l ∷ logs) t log rest e = absurd (omega arith)
-one_more (s ∷ ts) [] t log rest e = absurd (omega arith)
-one_more (s ∷ ts) (l ∷ logs) t log rest e = ap (λ (rs : List Reception). record { tuning = s; log = l } ∷ rs) (one_more ts logs t log rest (omega arith))
+-- a list that rises rises behind its first
+rest_rises : (s : Station) (ss : List Station) → IsNonDecreasingBy number_of (s ∷ ss) → IsNonDecreasingBy number_of ss
+rest_rises s ss up i j d first last = up (suc i) (suc j) d (omega arith) (omega arith)
 
-same_part : (old new : Heard) (t : Tuning) (log : Records) (rest : List Reception) → PushesOne old new t log → IsHeard old
-    → heard_seen new ++ rest ≡ heard_seen old ++ record { tuning = t; log = log } ∷ rest
-same_part old new t log rest p is = rw (p.0, p.1) (one_more old.tunings.items old.logs.items t log rest is.logs)
+-- each has at least this number
+abbrev AtLeast : ℕ → List Station → Type 0
+AtLeast n ss = (i : ℕ) (d : Station) → i < length ss → n ≤ number_of (get_or ss i d)
 
-other_part : (old new : Heard) (rest : List Reception) → new ≡ old → heard_seen new ++ rest ≡ heard_seen old ++ rest
-other_part old new rest e = ap (λ (h : Heard). heard_seen h ++ rest) e
+rest_at_least : (n : ℕ) (s : Station) (ss : List Station) → AtLeast n (s ∷ ss) → AtLeast n ss
+rest_at_least n s ss all i d below = all (suc i) d (omega arith)
 
-still : (old new : Heard) (t : Tuning) (log : Records) → PushesOne old new t log → IsTuned t → IsHeard old → IsHeard new
-still old new t log p tuned is = record {
-  logs = let a = ap length p.0 in let b = ap length p.1 in let e = length-append old.tunings.items (t ∷ []) in let f = length-append old.logs.items (log ∷ []) in omega (arith, is.logs);
-  tuned = subst (λ (ts : List Tuning). All IsTuned ts) (sym p.0) (All-append IsTuned old.tunings.items (t ∷ []) is.tuned (All-cons IsTuned t [] tuned (All-nil IsTuned)));
-}
+first_is_least : (s : Station) (ss : List Station) → IsNonDecreasingBy number_of (s ∷ ss) → AtLeast (number_of s) ss
+first_is_least s ss up i d below = up 0 (suc i) d (omega arith) (omega arith)
 
--- one more receiver of a station
-pub heard_more : (old new : ByStation) (s : Station) (t : Tuning) (log : Records) (ss : List Station) (ts : List Tuning) (logs : List Records) → PushesTo old new s t log
-    → ((station : Station) → IsHeard (part_of old station)) → (station : Station)
-    → heard_seen (part_of new station) ++ heard_of station (receivers ss (receptions ts logs))
-    ≡ heard_seen (part_of old station) ++ heard_of station (receivers (s ∷ ss) (receptions (t ∷ ts) (log ∷ logs)))
-heard_more old new Dcf77 t log ss ts logs p is Dcf77 = same_part old.dcf77 new.dcf77 t log (heard_of Dcf77 (receivers ss (receptions ts logs))) p.0 (is Dcf77)
-heard_more old new Dcf77 t log ss ts logs p is Msf = other_part old.msf new.msf (heard_of Msf (receivers ss (receptions ts logs))) p.1
-heard_more old new Dcf77 t log ss ts logs p is Wwvb = other_part old.wwvb new.wwvb (heard_of Wwvb (receivers ss (receptions ts logs))) p.2
-heard_more old new Dcf77 t log ss ts logs p is Jjy = other_part old.jjy new.jjy (heard_of Jjy (receivers ss (receptions ts logs))) p.3
-heard_more old new Msf t log ss ts logs p is Dcf77 = other_part old.dcf77 new.dcf77 (heard_of Dcf77 (receivers ss (receptions ts logs))) p.1
-heard_more old new Msf t log ss ts logs p is Msf = same_part old.msf new.msf t log (heard_of Msf (receivers ss (receptions ts logs))) p.0 (is Msf)
-heard_more old new Msf t log ss ts logs p is Wwvb = other_part old.wwvb new.wwvb (heard_of Wwvb (receivers ss (receptions ts logs))) p.2
-heard_more old new Msf t log ss ts logs p is Jjy = other_part old.jjy new.jjy (heard_of Jjy (receivers ss (receptions ts logs))) p.3
-heard_more old new Wwvb t log ss ts logs p is Dcf77 = other_part old.dcf77 new.dcf77 (heard_of Dcf77 (receivers ss (receptions ts logs))) p.1
-heard_more old new Wwvb t log ss ts logs p is Msf = other_part old.msf new.msf (heard_of Msf (receivers ss (receptions ts logs))) p.2
-heard_more old new Wwvb t log ss ts logs p is Wwvb = same_part old.wwvb new.wwvb t log (heard_of Wwvb (receivers ss (receptions ts logs))) p.0 (is Wwvb)
-heard_more old new Wwvb t log ss ts logs p is Jjy = other_part old.jjy new.jjy (heard_of Jjy (receivers ss (receptions ts logs))) p.3
-heard_more old new Jjy t log ss ts logs p is Dcf77 = other_part old.dcf77 new.dcf77 (heard_of Dcf77 (receivers ss (receptions ts logs))) p.1
-heard_more old new Jjy t log ss ts logs p is Msf = other_part old.msf new.msf (heard_of Msf (receivers ss (receptions ts logs))) p.2
-heard_more old new Jjy t log ss ts logs p is Wwvb = other_part old.wwvb new.wwvb (heard_of Wwvb (receivers ss (receptions ts logs))) p.3
-heard_more old new Jjy t log ss ts logs p is Jjy = same_part old.jjy new.jjy t log (heard_of Jjy (receivers ss (receptions ts logs))) p.0 (is Jjy)
+module _ (station : Station) where
+  -- where none is before the station, none is counted as such
+  none_before : (ss : List Station) → AtLeast (number_of station) ss → count_before station ss ≡ 0
+  none_before [] all = refl
+  none_before (s ∷ ss) all =
+      let first : number_of station ≤ number_of s = all 0 s (omega arith) in
+      let behind : nat_lt (number_of s) (number_of station) ≡ false = grind (arith, nat_tests) in
+      rw behind (none_before ss (rest_at_least (number_of station) s ss all))
 
-pub still_heard : (old new : ByStation) (s : Station) (t : Tuning) (log : Records) → PushesTo old new s t log → IsTuned t
-    → ((station : Station) → IsHeard (part_of old station)) → (station : Station) → IsHeard (part_of new station)
-still_heard old new Dcf77 t log p tuned is Dcf77 = still old.dcf77 new.dcf77 t log p.0 tuned (is Dcf77)
-still_heard old new Dcf77 t log p tuned is Msf = subst IsHeard (sym p.1) (is Msf)
-still_heard old new Dcf77 t log p tuned is Wwvb = subst IsHeard (sym p.2) (is Wwvb)
-still_heard old new Dcf77 t log p tuned is Jjy = subst IsHeard (sym p.3) (is Jjy)
-still_heard old new Msf t log p tuned is Dcf77 = subst IsHeard (sym p.1) (is Dcf77)
-still_heard old new Msf t log p tuned is Msf = still old.msf new.msf t log p.0 tuned (is Msf)
-still_heard old new Msf t log p tuned is Wwvb = subst IsHeard (sym p.2) (is Wwvb)
-still_heard old new Msf t log p tuned is Jjy = subst IsHeard (sym p.3) (is Jjy)
-still_heard old new Wwvb t log p tuned is Dcf77 = subst IsHeard (sym p.1) (is Dcf77)
-still_heard old new Wwvb t log p tuned is Msf = subst IsHeard (sym p.2) (is Msf)
-still_heard old new Wwvb t log p tuned is Wwvb = still old.wwvb new.wwvb t log p.0 tuned (is Wwvb)
-still_heard old new Wwvb t log p tuned is Jjy = subst IsHeard (sym p.3) (is Jjy)
-still_heard old new Jjy t log p tuned is Dcf77 = subst IsHeard (sym p.1) (is Dcf77)
-still_heard old new Jjy t log p tuned is Msf = subst IsHeard (sym p.2) (is Msf)
-still_heard old new Jjy t log p tuned is Wwvb = subst IsHeard (sym p.3) (is Wwvb)
-still_heard old new Jjy t log p tuned is Jjy = still old.jjy new.jjy t log p.0 tuned (is Jjy)
+  -- where all are behind the station, none is of it
+  none_of : (ss : List Station) (n : ℕ) → number_of station < n → AtLeast n ss → count_of station ss ≡ 0
+  none_of [] n below all = refl
+  none_of (s ∷ ss) n below all =
+      let first : n ≤ number_of s = all 0 s (omega arith) in
+      let other : (number_of s == number_of station) ≡ false = grind arith in
+      rw other (none_of ss n below (rest_at_least n s ss all))
 
-count_one : (old new : Heard) (t : Tuning) (log : Records) → PushesOne old new t log → length new.tunings.items ≡ length old.tunings.items + 1
-count_one old new t log p = ap length p.0 ∙ length-append old.tunings.items (t ∷ [])
+  none_heard : (ss : List Station) (rs : List Reception) (n : ℕ) → number_of station < n → AtLeast n ss → heard_of station (receivers ss rs) ≡ []
+  none_heard [] rs n below all = refl
+  none_heard (s ∷ ss) [] n below all = refl
+  none_heard (s ∷ ss) (r ∷ rs) n below all =
+      let first : n ≤ number_of s = all 0 s (omega arith) in
+      let other : (number_of s == number_of station) ≡ false = grind arith in
+      rw other (none_heard ss rs n below (rest_at_least n s ss all))
 
-pub count_more : (old new : ByStation) (s : Station) (t : Tuning) (log : Records) → PushesTo old new s t log → count_of new ≡ count_of old + 1
-count_more old new Dcf77 t log p = let e = count_one old.dcf77 new.dcf77 t log p.0 in let e0 = ap (λ (h : Heard). length h.tunings.items) p.1 in let e1 = ap (λ (h : Heard). length h.tunings.items) p.2 in let e2 = ap (λ (h : Heard). length h.tunings.items) p.3 in omega arith
-count_more old new Msf t log p = let e = count_one old.msf new.msf t log p.0 in let e0 = ap (λ (h : Heard). length h.tunings.items) p.1 in let e1 = ap (λ (h : Heard). length h.tunings.items) p.2 in let e2 = ap (λ (h : Heard). length h.tunings.items) p.3 in omega arith
-count_more old new Wwvb t log p = let e = count_one old.wwvb new.wwvb t log p.0 in let e0 = ap (λ (h : Heard). length h.tunings.items) p.1 in let e1 = ap (λ (h : Heard). length h.tunings.items) p.2 in let e2 = ap (λ (h : Heard). length h.tunings.items) p.3 in omega arith
-count_more old new Jjy t log p = let e = count_one old.jjy new.jjy t log p.0 in let e0 = ap (λ (h : Heard). length h.tunings.items) p.1 in let e1 = ap (λ (h : Heard). length h.tunings.items) p.2 in let e2 = ap (λ (h : Heard). length h.tunings.items) p.3 in omega arith
+  -- those of the station are the part that is counted
+  pub heard_part : (ss : List Station) (rs : List Reception) → length rs ≡ length ss → IsNonDecreasingBy number_of ss
+      → heard_of station (receivers ss rs) ≡ part_of station ss rs
+  heard_part [] [] each up = refl
+  heard_part [] (r ∷ rs) each up = absurd (omega arith)
+  heard_part (s ∷ ss) [] each up = absurd (omega arith)
+  heard_part (s ∷ ss) (r ∷ rs) each up = by_place (cases_lt (number_of s) (number_of station)) (cases_lt (number_of station) (number_of s))
+    where
+      by_place : (number_of s < number_of station) ⊎ (number_of station ≤ number_of s) → (number_of station < number_of s) ⊎ (number_of s ≤ number_of station)
+          → heard_of station (receivers (s ∷ ss) (r ∷ rs)) ≡ part_of station (s ∷ ss) (r ∷ rs)
+      by_place (inl before) at =
+          let other : (number_of s == number_of station) ≡ false = grind arith in
+          let is : nat_lt (number_of s) (number_of station) ≡ true = grind (arith, nat_tests) in
+          rw (other, is) (heard_part ss rs (omega arith) (rest_rises s ss up))
+      by_place (inr not_before) (inl behind) =
+          let other : (number_of s == number_of station) ≡ false = grind arith in
+          let is : nat_lt (number_of s) (number_of station) ≡ false = grind (arith, nat_tests) in
+          let none = none_of ss (number_of s) behind (first_is_least s ss up) in
+          rw (other, is, none) (none_heard ss rs (number_of s) behind (first_is_least s ss up))
+      by_place (inr not_before) (inr not_behind) =
+          let same : (number_of s == number_of station) ≡ true = grind arith in
+          let is : nat_lt (number_of s) (number_of station) ≡ false = grind (arith, nat_tests) in
+          let least : AtLeast (number_of station) ss = λ i d below. let low = first_is_least s ss up i d below in omega arith in
+          let none = none_before ss least in
+          let rest = heard_part ss rs (omega arith) (rest_rises s ss up) in
+          rw (same, is, none) (ap (λ hs. r ∷ hs) (rw none at rest))
 
--- the next of some receivers, whose logs are taken from the front
-pub next_of : (ss : List Station) (ts : List Tuning) (logs : List Records) (i : ℕ) (s : Station) (t : Tuning) (log : Records) (rest : List Records) (station : Station)
-    → drop i ss ≡ s ∷ drop (i + 1) ss → drop i ts ≡ t ∷ drop (i + 1) ts → logs ≡ log ∷ rest
-    → heard_of station (receivers (drop i ss) (receptions (drop i ts) logs)) ≡ heard_of station (receivers (s ∷ drop (i + 1) ss) (receptions (t ∷ drop (i + 1) ts) (log ∷ rest)))
-next_of ss ts logs i s t log rest station e f g = rw (e, f, g) refl
+-- a part of what was heard is what the parts of the two lists say
+no_logs : (ts : List Tuning) → receptions ts [] ≡ []
+no_logs [] = refl
+no_logs (t ∷ ts) = refl
 
-pub drop_next : {X : Type 0} (xs : List X) (i : ℕ) (x : X) → i < length xs → x ≡ get_or xs i x → drop i xs ≡ x ∷ drop (i + 1) xs
-drop_next xs i x below at =
-    subst (λ (n : ℕ). drop i xs ≡ x ∷ drop n xs) (sym (add-one i)) (drop-cons xs i x below ∙ ap (λ y. y ∷ drop (suc i) xs) (sym at))
+drop_both : (n : ℕ) (ts : List Tuning) (logs : List Records) → drop n (receptions ts logs) ≡ receptions (drop n ts) (drop n logs)
+drop_both 0 ts logs = refl
+drop_both (suc n) [] logs = refl
+drop_both (suc n) (t ∷ ts) [] = sym (no_logs (drop n ts))
+drop_both (suc n) (t ∷ ts) (l ∷ ls) = drop_both n ts ls
 
-pub front_is : {X : Type 0} (xs : List X) (x : X) (rest : List X) → 0 < length xs → x ≡ get_or xs 0 x → rest ≡ remove xs 0 → xs ≡ x ∷ rest
-front_is [] x rest some is left = absurd (omega arith)
-front_is (y ∷ ys) x rest some is left = let e : x ≡ y = is in let f : rest ≡ ys = left in cc
+take_both : (n : ℕ) (ts : List Tuning) (logs : List Records) → take n (receptions ts logs) ≡ receptions (take n ts) (take n logs)
+take_both 0 ts logs = refl
+take_both (suc n) [] logs = refl
+take_both (suc n) (t ∷ ts) [] = refl
+take_both (suc n) (t ∷ ts) (l ∷ ls) = ap (λ hs. record { tuning = t; log = l } ∷ hs) (take_both n ts ls)
+
+pub part_of_both : (station : Station) (ss : List Station) (ts : List Tuning) (logs : List Records)
+    → part_of station ss (receptions ts logs) ≡ receptions (part_of station ss ts) (part_of station ss logs)
+part_of_both station ss ts logs =
+    ap (take (count_of station ss)) (drop_both (count_before station ss) ts logs)
+    ∙ take_both (count_of station ss) (drop (count_before station ss) ts) (drop (count_before station ss) logs)
+
+pub receptions_length : (ts : List Tuning) (logs : List Records) → length logs ≡ length ts → length (receptions ts logs) ≡ length ts
+receptions_length [] logs each = refl
+receptions_length (t ∷ ts) [] each = absurd (omega arith)
+receptions_length (t ∷ ts) (l ∷ ls) each = ap suc (receptions_length ts ls (omega arith))
+
+-- each receiver listens to one of the four stations
+pub counts_add_up : (ss : List Station) → count_of Dcf77 ss + count_of Msf ss + count_of Wwvb ss + count_of Jjy ss ≡ length ss
+counts_add_up [] = refl
+counts_add_up (Dcf77 ∷ ss) = let rest = counts_add_up ss in omega (arith, rest)
+counts_add_up (Msf ∷ ss) = let rest = counts_add_up ss in omega (arith, rest)
+counts_add_up (Wwvb ∷ ss) = let rest = counts_add_up ss in omega (arith, rest)
+counts_add_up (Jjy ∷ ss) = let rest = counts_add_up ss in omega (arith, rest)
+
+-- what the receivers of a station heard, of a bank that is in order
+pub heard_in_bank : (b : Bank) → IsBank b → (station : Station) → heard_of station (receivers b.stations.items (receptions b.tunings.items b.logs.items)) ≡ heard_in station b
+heard_in_bank b is station =
+    heard_part station b.stations.items (receptions b.tunings.items b.logs.items)
+    (receptions_length b.tunings.items b.logs.items (is.logs ∙ sym is.tunings) ∙ is.tunings) is.in_order
+    ∙ part_of_both station b.stations.items b.tunings.items b.logs.items

@@ -1,26 +1,16 @@
--- How a run over files ends. `old` and `new` are the files as the run found them and as it left them.
-use Rattle.std.specs.Prelude.{ℕ, ◌≡◌, ◌⊎◌, List, Result, Ok, Err}
-use Rattle.bank_files.specs.Told.{Told, Untold, Missing, Holds, Finds, Tells, AppendsFront, appended, output_name}
-use Rattle.bank_files.specs.Seen.{Seen, SameCounts, ReadFails, WriteFails}
-use Rattle.due.specs.declared.due.Due.{Due}
+-- How a run over files ends, whatever its command: what it reads, owes and writes is its plan. `old` and `new` are the files as
+-- the run found them and as it left them.
+use Rattle.std.specs.Prelude.{ℕ, ◌≡◌, ◌≢◌, ◌⊎◌, Bool, if◌then◌else◌, List, [], ◌∷◌, Result, Ok, Err, OnOk, OnErr}
+use Rattle.bank_files.specs.Told.{Told, Untold, Missing, Holds, Finds, Tells, AppendsFront, appended, emptied}
+use Rattle.bank_files.specs.Seen.{KeepsCounts, ReadFails, SameCounts, Seen, WriteFails}
 use Rattle.due.specs.declared.status.Status.{Status}
 use Rattle.due.specs.declared.status.Status.TheVariants as statuses
-use Rattle.due.specs.Dues.{status_of, text_of}
-use Rattle.due.specs.Rules.{IsDue, IsRead}
+use Rattle.due.specs.Inputs.{Contents, Input}
+use Rattle.due.specs.Outputs.{EachOf, Output, SomeOf}
+use Rattle.due.specs.Plans.{Plan}
 use Rattle.due.specs.Status.{code_of}
 use Rattle.bank.specs.declared.stop.Stop.{Stop}
 use Rattle.bank.specs.declared.stop.Stop.TheVariants.{Failed, NoMemory}
-
--- What a run reads is given by number, as in the rules of what is due: 0 for the configuration, and the number of a receiver
--- for its log.
-
--- what is read agrees with what is told of the files that the run reads: each that is told is there, and holds it
-abbrev pub Agrees : Seen → List (List ℕ) → (ℕ → List ℕ) → Type 0
-Agrees old words contents = (number : ℕ) (file : List ℕ) → IsRead words contents number file → Finds (old.told file) (λ bytes. contents number ≡ bytes)
-
--- the files that the run reads are told, and hold this
-abbrev pub AreTold : Seen → List (List ℕ) → (ℕ → List ℕ) → Type 0
-AreTold old words contents = (number : ℕ) (file : List ℕ) → IsRead words contents number file → old.told file ≡ Holds (contents number)
 
 -- the bytes are those of a file, where it is told what it holds
 abbrev pub MayHold : Told → List ℕ → Type 0
@@ -28,42 +18,95 @@ MayHold Untold bytes = Unit {0}
 MayHold Missing bytes = Unit {0}
 MayHold (Holds held) bytes = bytes ≡ held
 
--- what is read may be so: each file that is told to hold something holds it
-abbrev pub MayBeRead : Seen → List (List ℕ) → (ℕ → List ℕ) → Type 0
-MayBeRead old words contents = (number : ℕ) (file : List ℕ) → IsRead words contents number file → MayHold (old.told file) (contents number)
+-- An output's file as its text begins: emptied, where it is written anew.
+abbrev pub begun : Output → Told → Told
+begun o told = if o.anew then emptied told else told
 
--- this is the text at the end of standard output, and this the number of its status
-abbrev pub IsTold : Seen → Seen → Due → ℕ → Type 0
-IsTold old new due code =
-    (code ≡ code_of (status_of due)) × Tells (appended (old.told output_name) (text_of due)) (new.told output_name)
+-- the whole text of an output is at the end of its file
+abbrev pub IsWhole : Seen → Seen → Output → Type 0
+IsWhole old new o = Tells (appended (begun o (old.told o.file)) o.text) (new.told o.file)
 
--- what is told is due for some contents that agree with what is told of the files
-abbrev pub TellsDue : Seen → Seen → List (List ℕ) → ℕ → Type 0
-TellsDue old new words code =
-    (contents : ℕ → List ℕ) × (due : Due) × Agrees old words contents × IsDue words contents due × IsTold old new due code
+-- the file of an output is as before
+abbrev pub IsUntouched : Seen → Seen → Output → Type 0
+IsUntouched old new o = Tells (old.told o.file) (new.told o.file)
 
--- standard output is as before
-abbrev pub PrintsNothing : Seen → Seen → Type 0
-PrintsNothing old new = Tells (old.told output_name) (new.told output_name)
+-- it is as before, or it was begun, and a front of the text is at its end
+abbrev pub HasFront : Seen → Seen → Output → Type 0
+HasFront old new o = IsUntouched old new o ⊎ AppendsFront (begun o (old.told o.file)) o.text (new.told o.file)
 
--- a front of what is due for such contents is at the end of standard output
-abbrev pub PrintsFront : Seen → Seen → List (List ℕ) → Type 0
-PrintsFront old new words =
-    (contents : ℕ → List ℕ) × (due : Due) × Agrees old words contents × IsDue words contents due
-    × AppendsFront (old.told output_name) (text_of due) (new.told output_name)
+-- Outputs were written in their order until one failed: all before that one are whole, and all behind it are as before.
+abbrev pub CameTo : Seen → Seen → List Output → Type 0
+CameTo old new [] = ⊥
+CameTo old new (o ∷ os) = (HasFront old new o × EachOf (IsUntouched old new) os) ⊎ (IsWhole old new o × CameTo old new os)
 
--- reading a file that the run reads has failed
-abbrev pub SomeReadFails : Seen → Seen → List (List ℕ) → Type 0
-SomeReadFails old new words =
-    (contents : ℕ → List ℕ) × (number : ℕ) × (file : List ℕ) × MayBeRead old words contents × IsRead words contents number file
-    × ReadFails file old new
+-- every file but those of the outputs is as before
+abbrev pub LeavesOthers : Seen → Seen → List Output → Type 0
+LeavesOthers old new outputs = (file : List ℕ) → EachOf (λ o. file ≢ o.file) outputs → Tells (old.told file) (new.told file)
 
--- a run told what is due, a file of it failed, or memory ran out
-abbrev pub Ends : Seen → Seen → List (List ℕ) → Result Status Stop → Type 0
-Ends old new words (Ok status) = TellsDue old new words (code_of status) × SameCounts old new
-Ends old new words (Err Failed) =
-    (WriteFails output_name old new ⊎ SomeReadFails old new words) × (PrintsNothing old new ⊎ PrintsFront old new words)
-Ends old new words (Err NoMemory) = PrintsNothing old new × SameCounts old new
+-- Outputs are written one after the other. Where that succeeded, each stands whole, and no count rose. Where it failed, they came
+-- so far, and a count of write faults tells of it.
+pub record WritesAll {E : Type 0} (outputs : List Output) (old new : Seen) (result : Result (Unit {0}) E) : Type 0 where
+  pub whole : OnOk result (EachOf (IsWhole old new) outputs)
+  pub front : OnErr result (CameTo old new outputs)
+  pub cause : OnErr result (SomeOf (λ o. WriteFails o.file old new) outputs)
+  pub same_counts : OnOk result (SameCounts old new)
+  pub others : LeavesOthers old new outputs
+  pub counts : KeepsCounts old new
+
+-- every file is as before
+abbrev pub WritesNothing : Seen → Seen → Type 0
+WritesNothing old new = (file : List ℕ) → Tells (old.told file) (new.told file)
+
+-- every file but these is as before, and no count of faults fell
+pub record OnlyWritesAmong (files : List (List ℕ)) (old new : Seen) : Type 0 where
+  pub others : (other : List ℕ) → EachOf (λ file. other ≢ file) files → Tells (old.told other) (new.told other)
+  pub counts : KeepsCounts old new
+
+module _ {D : Type 0} (plan : Plan D) where
+  -- what is read agrees with what is told of the files that the run reads: each that is told is there, and holds it
+  abbrev pub Agrees : Seen → Contents → Type 0
+  Agrees old contents = (input : Input) (file : List ℕ) → plan.reads contents input file → Finds (old.told file) (λ bytes. contents input ≡ bytes)
+
+  -- the files that the run reads are told, and hold this
+  abbrev pub AreTold : Seen → Contents → Type 0
+  AreTold old contents = (input : Input) (file : List ℕ) → plan.reads contents input file → old.told file ≡ Holds (contents input)
+
+  -- what is read may be so: each file that is told to hold something holds it
+  abbrev pub MayBeRead : Seen → Contents → Type 0
+  MayBeRead old contents = (input : Input) (file : List ℕ) → plan.reads contents input file → MayHold (old.told file) (contents input)
+
+  -- due for some contents that agree with what is told of the files
+  abbrev pub IsFound : Seen → D → Type 0
+  IsFound old due = (contents : Contents) × Agrees old contents × plan.owes contents due
+
+  -- all that is written where this is due stands whole, nothing else has changed, and this is the number of its status
+  abbrev pub Delivers : Seen → Seen → D → ℕ → Type 0
+  Delivers old new due code =
+      (code ≡ code_of (plan.status due)) × EachOf (IsWhole old new) (plan.outputs due) × LeavesOthers old new (plan.outputs due)
+
+  -- so it is with what is due for some contents that agree with what is told of the files
+  abbrev pub DeliversDue : Seen → Seen → ℕ → Type 0
+  DeliversDue old new code = (due : D) × IsFound old due × Delivers old new due code
+
+  -- writing what is due for such contents was begun, and came so far
+  abbrev pub WritesFront : Seen → Seen → Type 0
+  WritesFront old new =
+      (due : D) × IsFound old due × CameTo old new (plan.outputs due) × LeavesOthers old new (plan.outputs due)
+
+  -- reading a file that the run reads has failed
+  abbrev pub SomeReadFails : Seen → Seen → Type 0
+  SomeReadFails old new =
+      (contents : Contents) × (input : Input) × (file : List ℕ) × MayBeRead old contents × plan.reads contents input file × ReadFails file old new
+
+  -- writing a file that is written where such is due has failed
+  abbrev pub SomeWriteFails : Seen → Seen → Type 0
+  SomeWriteFails old new = (due : D) × IsFound old due × SomeOf (λ o. WriteFails o.file old new) (plan.outputs due)
+
+  -- a run delivered what is due, a file of it failed, or memory ran out
+  abbrev pub Ends : Seen → Seen → Result Status Stop → Type 0
+  Ends old new (Ok status) = DeliversDue old new (code_of status) × SameCounts old new
+  Ends old new (Err Failed) = (SomeWriteFails old new ⊎ SomeReadFails old new) × (WritesNothing old new ⊎ WritesFront old new)
+  Ends old new (Err NoMemory) = WritesNothing old new × SameCounts old new
 
 -- the status of a run that ended so
 abbrev pub status_after : Result Status Stop → Status

@@ -1,11 +1,11 @@
--- A bank as the rules see it, and its parts by station.
-use Rattle.std.specs.Prelude.{ℕ, ◌≡◌, ◌+◌, ◌==◌, ◌≤◌, Bool, List, [], ◌∷◌, ◌++◌, All, filter, length, map, sum_by, min, Option, Some, None}
+-- A bank as the rules see it, and the grids of its stations.
+use Rattle.std.specs.Prelude.{ℕ, suc, ◌≡◌, ◌+◌, ◌==◌, nat_lt, ◌≤◌, Bool, if◌then◌else◌, List, [], ◌∷◌, All, drop, filter, length, map, sum_by, take, min, Option, Some, None}
 use Rattle.std.specs.List.{flat_map, list_any}
+use Rattle.std.specs.List.Sorted.{IsNonDecreasingBy}
 use Rattle.signal_base.specs.declared.limits.TheConstants.{GREATEST_COST, MOST_RECEIVERS}
 use Rattle.signal_base.specs.declared.station.Station.{Station}
 use Rattle.signal_base.specs.declared.station.Station.TheVariants.{Dcf77, Msf, Wwvb, Jjy}
 use Rattle.signal_base.specs.declared.station.Stations.{Stations}
-use Rattle.signal_base.specs.declared.tuning.Tuning.{Tuning}
 use Rattle.signal_base.specs.declared.window.Window.{Window}
 use Rattle.signal_base.specs.Limits.{IsPriced, IsTuned}
 use Rattle.signal_base.specs.Number.{number_of}
@@ -17,8 +17,6 @@ use Rattle.align.specs.Receivers.{receivers}
 use Rattle.symbol_cost.specs.Grid.{Grid, HasCosts}
 use Rattle.due.specs.Banks.{Bank as PlainBank, bit_where, first_times}
 use Rattle.bank.specs.declared.hearing.Bank.{Bank}
-use Rattle.bank.specs.declared.grids.Heard.{Heard}
-use Rattle.bank.specs.declared.grids.ByStation.{ByStation}
 
 -- the bank that is scored
 abbrev pub bank_seen : Bank → PlainBank
@@ -29,7 +27,7 @@ bank_seen b =
       ceiling = b.ceiling;
     }
 
--- its numbers are in their ranges, and its lists have one entry for each receiver
+-- its numbers are in their ranges, and its lists have one entry for each receiver, in the order of their stations
 pub record IsBank (b : Bank) : Type 0 where
   pub some_receiver : 1 ≤ length b.stations.items
   pub few_receivers : length b.stations.items ≤ MOST_RECEIVERS
@@ -38,6 +36,7 @@ pub record IsBank (b : Bank) : Type 0 where
   pub tuned : All IsTuned b.tunings.items
   pub priced : IsPriced b.table
   pub ceiling : b.ceiling ≤ GREATEST_COST
+  pub in_order : IsNonDecreasingBy number_of b.stations.items
 
 -- the times of the logs' first records
 abbrev pub times_of : List Records → List ℕ
@@ -60,36 +59,22 @@ stations_among stations =
           + bit_where (is_among stations Wwvb) 4 + bit_where (is_among stations Jjy) 8;
     }
 
+-- how many receivers listen to a station, and how many to those before it
+abbrev pub count_of : Station → List Station → ℕ
+count_of station [] = 0
+count_of station (s ∷ ss) = if number_of s == number_of station then suc (count_of station ss) else count_of station ss
+
+abbrev pub count_before : Station → List Station → ℕ
+count_before station [] = 0
+count_before station (s ∷ ss) = if nat_lt (number_of s) (number_of station) then suc (count_before station ss) else count_before station ss
+
+-- the part of a list of which the receivers of a station are, where it has one entry for each receiver
+abbrev pub part_of : {X : Type 0} → Station → List Station → List X → List X
+part_of station stations xs = take (count_of station stations) (drop (count_before station stations) xs)
+
 -- what the receivers of a station heard
-abbrev pub heard_seen : Heard → List Reception
-heard_seen heard = receptions heard.tunings.items heard.logs.items
-
--- the part of a station
-abbrev pub part_of : ByStation → Station → Heard
-part_of parts Dcf77 = parts.dcf77
-part_of parts Msf = parts.msf
-part_of parts Wwvb = parts.wwvb
-part_of parts Jjy = parts.jjy
-
--- its lists have one entry for each receiver, each tuned in the ranges
-pub record IsHeard (heard : Heard) : Type 0 where
-  pub logs : length heard.logs.items ≡ length heard.tunings.items
-  pub tuned : All IsTuned heard.tunings.items
-
--- A receiver of a station comes to its part, and the other parts are as before.
-abbrev pub PushesOne : Heard → Heard → Tuning → Records → Type 0
-PushesOne old new tuning log = (new.tunings.items ≡ old.tunings.items ++ tuning ∷ []) × (new.logs.items ≡ old.logs.items ++ log ∷ [])
-
-abbrev pub PushesTo : ByStation → ByStation → Station → Tuning → Records → Type 0
-PushesTo old new Dcf77 tuning log = PushesOne old.dcf77 new.dcf77 tuning log × (new.msf ≡ old.msf) × (new.wwvb ≡ old.wwvb) × (new.jjy ≡ old.jjy)
-PushesTo old new Msf tuning log = PushesOne old.msf new.msf tuning log × (new.dcf77 ≡ old.dcf77) × (new.wwvb ≡ old.wwvb) × (new.jjy ≡ old.jjy)
-PushesTo old new Wwvb tuning log = PushesOne old.wwvb new.wwvb tuning log × (new.dcf77 ≡ old.dcf77) × (new.msf ≡ old.msf) × (new.jjy ≡ old.jjy)
-PushesTo old new Jjy tuning log = PushesOne old.jjy new.jjy tuning log × (new.dcf77 ≡ old.dcf77) × (new.msf ≡ old.msf) × (new.wwvb ≡ old.wwvb)
-
--- how many receivers there are of all stations together
-abbrev pub count_of : ByStation → ℕ
-count_of parts =
-    length parts.dcf77.tunings.items + length parts.msf.tunings.items + length parts.wwvb.tunings.items + length parts.jjy.tunings.items
+abbrev pub heard_in : Station → Bank → List Reception
+heard_in station b = receptions (part_of station b.stations.items b.tunings.items) (part_of station b.stations.items b.logs.items)
 
 -- Those of some stations that are in the window have a grid each, of the window's slots and of these costs, and the grids
 -- are made from no more than n receivers.

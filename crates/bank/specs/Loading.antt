@@ -6,8 +6,8 @@ use Rattle.bank_files.specs.Told.{Finds}
 use Rattle.bank_files.specs.Seen.{ReadFails, SameCounts, Seen}
 use Rattle.bank_config.specs.Configuration.{PlainConfig, PlainReceiver}
 use Rattle.due.specs.Configurations.{IsBadConfiguration, IsConfiguration, logs_of}
+use Rattle.due.specs.Inputs.{Configuration, Contents, Input}
 use Rattle.due.specs.LogFiles.{AreGood, IsBad, IsFirstBad, IsGood, IsLogRead, LogFile}
-use Rattle.due.specs.Rules.{configuration}
 use Rattle.bank.specs.Ending.{MayHold}
 use Rattle.bank.specs.Order.{IsInOrder}
 use Rattle.bank.specs.declared.loading.Unloaded.{Unloaded}
@@ -59,23 +59,23 @@ AreNotRead old new number rs Failed = FailsAmong old new rs
 AreNotRead old new number rs NoMemory = SameCounts old new
 
 -- The logs that are read for some contents agree with what is told of their files.
-abbrev pub LogsAgree : Seen → (ℕ → List ℕ) → List LogFile → Type 0
+abbrev pub LogsAgree : Seen → Contents → List LogFile → Type 0
 LogsAgree old contents logs =
-    (number : ℕ) (file : List ℕ) → IsLogRead contents logs number file → Finds (old.told file) (λ bytes. contents number ≡ bytes)
+    (input : Input) (file : List ℕ) → IsLogRead contents logs input file → Finds (old.told file) (λ bytes. contents input ≡ bytes)
 
-abbrev pub LogsMayBeRead : Seen → (ℕ → List ℕ) → List LogFile → Type 0
+abbrev pub LogsMayBeRead : Seen → Contents → List LogFile → Type 0
 LogsMayBeRead old contents logs =
-    (number : ℕ) (file : List ℕ) → IsLogRead contents logs number file → MayHold (old.told file) (contents number)
+    (input : Input) (file : List ℕ) → IsLogRead contents logs input file → MayHold (old.told file) (contents input)
 
 -- this is the configuration, and these are its logs, for some contents that agree with what is told of the files
-pub record Loads (old : Seen) (file : List ℕ) (config : PlainConfig) (logs : List Records) (contents : ℕ → List ℕ) : Type 0 where
-  pub found : Finds (old.told file) (λ bytes. contents configuration ≡ bytes)
-  pub says : IsConfiguration (contents configuration) config
+pub record Loads (old : Seen) (file : List ℕ) (config : PlainConfig) (logs : List Records) (contents : Contents) : Type 0 where
+  pub found : Finds (old.told file) (λ bytes. contents Configuration ≡ bytes)
+  pub says : IsConfiguration (contents Configuration) config
   pub good : AreGood contents (logs_of config) logs
   pub agree : LogsAgree old contents (logs_of config)
 
 abbrev pub IsLoaded : Seen → List ℕ → PlainConfig → List Records → Type 0
-IsLoaded old file config logs = (contents : ℕ → List ℕ) × Loads old file config logs contents
+IsLoaded old file config logs = (contents : Contents) × Loads old file config logs contents
 
 -- the same, with the receivers and their logs in the order of stations
 abbrev pub IsLoadedInOrder : Seen → List ℕ → PlainConfig → List Records → Type 0
@@ -83,33 +83,33 @@ IsLoadedInOrder old file ordered ordered_logs =
     (config : PlainConfig) × (logs : List Records) × IsLoaded old file config logs × IsInOrder config logs ordered ordered_logs
 
 -- for some such contents the configuration or the first bad log is refused so
-pub record RefusesConfiguration (old : Seen) (file : List ℕ) (refusal : Refusal) (contents : ℕ → List ℕ) : Type 0 where
-  pub found : Finds (old.told file) (λ bytes. contents configuration ≡ bytes)
-  pub bad : IsBadConfiguration (contents configuration) refusal
+pub record RefusesConfiguration (old : Seen) (file : List ℕ) (refusal : Refusal) (contents : Contents) : Type 0 where
+  pub found : Finds (old.told file) (λ bytes. contents Configuration ≡ bytes)
+  pub bad : IsBadConfiguration (contents Configuration) refusal
 
-pub record RefusesLog (old : Seen) (file : List ℕ) (refusal : Refusal) (config : PlainConfig) (contents : ℕ → List ℕ) : Type 0 where
-  pub found : Finds (old.told file) (λ bytes. contents configuration ≡ bytes)
-  pub says : IsConfiguration (contents configuration) config
+pub record RefusesLog (old : Seen) (file : List ℕ) (refusal : Refusal) (config : PlainConfig) (contents : Contents) : Type 0 where
+  pub found : Finds (old.told file) (λ bytes. contents Configuration ≡ bytes)
+  pub says : IsConfiguration (contents Configuration) config
   pub bad : IsFirstBad contents (logs_of config) refusal
   pub agree : LogsAgree old contents (logs_of config)
 
 abbrev pub IsRefusedLoading : Seen → List ℕ → Refusal → Type 0
 IsRefusedLoading old file refusal =
-    ((contents : ℕ → List ℕ) × RefusesConfiguration old file refusal contents)
-    ⊎ ((config : PlainConfig) × (contents : ℕ → List ℕ) × RefusesLog old file refusal config contents)
+    ((contents : Contents) × RefusesConfiguration old file refusal contents)
+    ⊎ ((config : PlainConfig) × (contents : Contents) × RefusesLog old file refusal config contents)
 
 -- a log of a good configuration couldn't be read, for some contents that may be so
-pub record FailsAtLog (old new : Seen) (file : List ℕ) (config : PlainConfig) (contents : ℕ → List ℕ) (number : ℕ) (log : List ℕ) : Type 0 where
-  pub may_hold : MayHold (old.told file) (contents configuration)
-  pub says : IsConfiguration (contents configuration) config
-  pub read : IsLogRead contents (logs_of config) number log
+pub record FailsAtLog (old new : Seen) (file : List ℕ) (config : PlainConfig) (contents : Contents) (input : Input) (log : List ℕ) : Type 0 where
+  pub may_hold : MayHold (old.told file) (contents Configuration)
+  pub says : IsConfiguration (contents Configuration) config
+  pub read : IsLogRead contents (logs_of config) input log
   pub may_be_read : LogsMayBeRead old contents (logs_of config)
   pub fails : ReadFails log old new
 
 abbrev pub FailsLoading : Seen → Seen → List ℕ → Type 0
 FailsLoading old new file =
     ReadFails file old new
-    ⊎ ((config : PlainConfig) × (contents : ℕ → List ℕ) × (number : ℕ) × (log : List ℕ) × FailsAtLog old new file config contents number log)
+    ⊎ ((config : PlainConfig) × (contents : Contents) × (input : Input) × (log : List ℕ) × FailsAtLog old new file config contents input log)
 
 -- nothing is loaded: the configuration or a log is refused, a file couldn't be read, or memory ran out
 abbrev pub IsNotLoaded : Seen → Seen → List ℕ → Unloaded → Type 0

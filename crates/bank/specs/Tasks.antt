@@ -1,18 +1,26 @@
 -- What a run is asked to do, by its words.
-use Rattle.std.specs.Prelude.{ℕ, ◌≡◌, ◌<◌, ◌≤◌, List, Ok}
+use Rattle.std.specs.Prelude.{ℕ, ◌≡◌, ◌<◌, ◌≤◌, List, None, Ok}
 use Rattle.definitions.specs.time.Calendar.{century_minutes}
 use Rattle.definitions.specs.codes.Allowed.{encoded_year}
 use Rattle.formats.specs.Orders.Order.{Encode, Trial}
 use Rattle.formats.specs.OrderRanges.{IsAsked, IsFile}
 use Rattle.formats.specs.declared.words.TheConstants.{LEAST_WORKERS, MOST_WORKERS}
-use Rattle.due.specs.Orders.{order_in}
+use Rattle.due.specs.Orders.{Wanted as PlainWanted, order_in}
+use Rattle.due.specs.Orders as plain
 use Rattle.due.specs.Rules.{AsksBank}
+use Rattle.bank.specs.declared.words.Wanted.{Wanted}
+use Rattle.bank.specs.declared.words.Wanted.TheVariants.{Report, Sentences}
 use Rattle.bank.specs.declared.words.Task.{Task}
 use Rattle.bank.specs.declared.words.Task.TheVariants.{Decode, List as Lists, Try}
 
+-- what is wanted of a bank: certificates aren't written yet
+abbrev pub wanted_seen : Wanted → PlainWanted
+wanted_seen Report = plain.Report None
+wanted_seen Sentences = plain.Sentences
+
 -- the words ask for this
 abbrev pub Asks : List (List ℕ) → Task → Type 0
-Asks words (Decode config asked as_feed workers) = AsksBank words (record { config = config.now; asked = asked; as_feed = as_feed })
+Asks words (Decode config asked wanted workers) = AsksBank words (record { config = config.now; asked = asked; wanted = wanted_seen wanted })
 Asks words (Lists station minute announced) = order_in words ≡ Ok (Encode station minute announced)
 Asks words (Try number workers) = order_in words ≡ Ok (Trial number workers)
 
@@ -22,6 +30,6 @@ AreWorkers n = (LEAST_WORKERS ≤ n) × (n ≤ MOST_WORKERS)
 
 -- a file is named, numbers are in their ranges, and a minute is one that its station can send
 abbrev pub IsInRange : Task → Type 0
-IsInRange (Decode config asked as_feed workers) = IsFile config.now × IsAsked asked × AreWorkers workers
+IsInRange (Decode config asked wanted workers) = IsFile config.now × IsAsked asked × AreWorkers workers
 IsInRange (Lists station minute announced) = (minute < century_minutes) × (encoded_year station minute ≤ 2099)
 IsInRange (Try number workers) = AreWorkers workers

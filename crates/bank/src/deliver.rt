@@ -1,18 +1,28 @@
-//! Telling what is due. Nothing here reads a file or takes memory.
+//! Writing what is due. Nothing here reads a file or takes memory.
 
 ghost use Rattle.bank_files.specs.Seen.{Writes};
 ghost use Rattle.bank_files.specs.Told.{output_name};
 ghost use Rattle.due.specs.Dues.{text_of};
-ghost use Rattle.bank.specs.Finding.{CanBeTold};
+ghost use Rattle.due.specs.Outputs.{outputs_of};
+ghost use Rattle.bank.specs.Ending.{WritesAll};
+ghost use Rattle.bank.specs.Finding.{CanBeWritten};
 
 use bank_files::{Failed, Files};
 use civil::Civil;
 use due::Due;
 use texts::{write_feed, write_listing, write_refusal, write_report, write_trial};
 
-/// Writes the text of what is due to standard output.
+/// Writes all that a run writes where this is due: its text, to standard output.
 pub fn deliver<F: Files>(files: &mut F, civil: &Civil, due: &Due) -> Result<(), Failed>
-    requires { CanBeTold due.now }
+    requires { CanBeWritten due.now }
+    ensures { WritesAll (outputs_of due.now) (F.view files.old) (F.view files.new) result }
+{
+    print(files, civil, due)
+}
+
+// Writes the text of what is due to standard output.
+fn print<F: Files>(files: &mut F, civil: &Civil, due: &Due) -> Result<(), Failed>
+    requires { CanBeWritten due.now }
     ensures { Writes output_name (F.view files.old) (F.view files.new) (text_of due.now) result }
 {
     match due {

@@ -3,18 +3,19 @@
 ghost use Rattle.std.specs.Prelude.{◌≡◌, ◌≢◌, Err, IfErr, IfOk, IsErrOf, List, ℕ};
 ghost use Rattle.bank_files.specs.Seen.{OnlyReads, SameCounts};
 ghost use Rattle.due.specs.Banks.{Bank, duts_of};
-ghost use Rattle.due.specs.Rules.{told_of};
+ghost use Rattle.due.specs.Plans.{run_plan};
+ghost use Rattle.due.specs.Rules.{reported};
 ghost use Rattle.texts.specs.Reportable.{IsReportable};
-ghost use Rattle.bank.specs.Ending.{SomeReadFails};
-ghost use Rattle.bank.specs.Finding.{CanBeTold, IsFound};
-ghost use Rattle.bank.specs.Tasks.{Asks, IsInRange};
+ghost use Rattle.bank.specs.Ending.{IsFound, SomeReadFails};
+ghost use Rattle.bank.specs.Finding.{CanBeWritten};
+ghost use Rattle.bank.specs.Tasks.{Asks, IsInRange, wanted_seen};
 
 use crate::hearing::bank_of;
 use crate::loading::{Unloaded, load};
 use crate::stop::Stop;
 use crate::trial::trial_due;
-use crate::verdict::{Verdict, judge};
-use crate::words::Task;
+use crate::decoding::{Decoded, decode};
+use crate::words::{Task, Wanted};
 use bank_files::Files;
 use civil::Civil;
 use due::Due;
@@ -24,8 +25,7 @@ use std::alloc::Global;
 use std::thread::Threads;
 use workers::Gate;
 
-/// What is due for what a run is asked to do. All files are read here, and all memory that a run takes behind its calendar
-/// is taken here.
+/// What is due for what a run is asked to do. All files are read here, and all memory but the calendar's is taken here.
 pub fn find_due<R: Threads + Sync, F: Files, G: Gate + Sync>(
     rt: &R,
     alloc: Global,
@@ -35,9 +35,9 @@ pub fn find_due<R: Threads + Sync, F: Files, G: Gate + Sync>(
     gate: &G,
 ) -> Result<Due, Stop>
     requires { IsInRange task.now }
-    ensures due { IfOk result (λ due. (words : List (List ℕ)) → Asks words task.now → IsFound (F.view files.old) words due) }
-    ensures told { IfOk result CanBeTold }
-    ensures failed { IsErrOf result Stop.Failed → (words : List (List ℕ)) → Asks words task.now → SomeReadFails (F.view files.old) (F.view files.new) words }
+    ensures due { IfOk result (λ due. (words : List (List ℕ)) → Asks words task.now → IsFound (run_plan words) (F.view files.old) due) }
+    ensures can_be_written { IfOk result CanBeWritten }
+    ensures failed { IsErrOf result Stop.Failed → (words : List (List ℕ)) → Asks words task.now → SomeReadFails (run_plan words) (F.view files.old) (F.view files.new) }
     ensures same_counts { result ≢ Err Stop.Failed → SameCounts (F.view files.old) (F.view files.new) }
     ensures only { OnlyReads (F.view files.old) (F.view files.new) }
 {
@@ -55,13 +55,13 @@ pub fn find_due<R: Threads + Sync, F: Files, G: Gate + Sync>(
         Task::Decode {
             config,
             asked,
-            as_feed,
+            wanted,
             workers,
         } => match load(alloc, files, config) {
             Ok(loaded) => {
                 let bank = bank_of(alloc, loaded)?;
-                let verdict = judge(rt, alloc, civil, bank, asked, *workers, gate)?;
-                Ok(told_of(*as_feed, verdict))
+                let decoded = decode(rt, alloc, civil, &bank, asked, *workers, gate)?;
+                Ok(reported(*wanted, decoded))
             }
             Err(unloaded) => match unloaded {
                 Unloaded::Refused { refusal } => Ok(Due::Refused { refusal }),
@@ -72,19 +72,19 @@ pub fn find_due<R: Threads + Sync, F: Files, G: Gate + Sync>(
     }
 }
 
-// How the answer for a bank is told: as its report, or where it is decided and a feed is asked for, as sentences.
-fn told_of(as_feed: bool, verdict: Verdict) -> Due
-    requires { IsReportable verdict.window verdict.answer }
-    ensures told { (bank : Bank) → verdict.duts ≡ duts_of verdict.window bank verdict.answer
-        → result ≡ told_of as_feed verdict.window bank verdict.answer }
-    ensures can_be_told { CanBeTold result }
+// How the answer for a bank is reported: by its report, or where it is decided and sentences are wanted, by these.
+fn reported(wanted: Wanted, decoded: Decoded) -> Due
+    requires { IsReportable decoded.window decoded.answer }
+    ensures reported { (bank : Bank) → decoded.duts ≡ duts_of decoded.window bank decoded.answer
+        → result ≡ reported (wanted_seen wanted) decoded.window bank decoded.answer }
+    ensures can_be_written { CanBeWritten result }
 {
-    let Verdict {
+    let Decoded {
         window,
         answer,
         duts,
-    } = verdict;
-    if as_feed {
+    } = decoded;
+    if wanted == Wanted::Sentences {
         if let Answer::Decided { sequence, .. } = answer {
             return Due::Feed { window, sequence };
         }

@@ -3,11 +3,14 @@
 
 #[cfg(test)]
 mod bank_tests;
+mod command;
+mod decoding;
 mod deliver;
 mod find;
 mod first_two;
 mod grids;
 mod hearing;
+mod job;
 mod loading;
 mod order;
 mod program;
@@ -15,13 +18,13 @@ mod stop;
 #[cfg(test)]
 mod tests;
 mod trial;
-mod verdict;
 mod words;
 
+pub use decoding::{Decoded, decode, decode_window};
 pub use first_two::{DecideFault, decide};
-pub use grids::{ByStation, Heard, by_station, grids_of};
+pub use grids::grids_of;
 pub use hearing::{Bank, bank_of, window_of};
+pub use job::{Job, perform};
 pub use loading::{Loaded, Unloaded, load};
 pub use program::run;
 pub use stop::Stop;
-pub use verdict::{Verdict, judge};

@@ -1,6 +1,8 @@
 //! Reading a configuration and the logs that it names. Nothing here writes to a file.
 
 ghost use Rattle.std.specs.Prelude.{◌≡◌, ◌≢◌, ◌≤◌, All, IfErr, IfOk, OnOk, length, map, string_bytes};
+ghost use Rattle.std.specs.List.Sorted.{IsNonDecreasingBy};
+ghost use Rattle.signal_base.specs.Number.{number_of};
 ghost use Rattle.bank_files.specs.Seen.{OnlyReads, SameCounts};
 ghost use Rattle.bank_files.specs.Told.{output_name};
 ghost use Rattle.bank_config.specs.Configuration.{plain_config, plain_receiver};
@@ -26,6 +28,7 @@ pub struct Loaded {
     pub config: Config,
     /// The receivers' logs, in the same order.
     pub logs: Vec<Log>,
+    ghost in_order: { IsNonDecreasingBy (λ r. number_of r.station) config.receivers.items },
 }
 
 /// Why a configuration and its logs aren't loaded.

@@ -2,7 +2,8 @@
 
 ghost use Rattle.std.specs.Prelude.{◌≡◌, IfOk, OnOk, length, map};
 ghost use Rattle.std.specs.List.{zip};
-ghost use Rattle.std.specs.List.Sorted.{IsPermutation};
+ghost use Rattle.std.specs.List.Sorted.{IsNonDecreasingBy, IsPermutation};
+ghost use Rattle.signal_base.specs.Number.{number_of};
 ghost use Rattle.bank_config.specs.Configuration.{plain_config};
 ghost use Rattle.bank_config.specs.InRange.{IsInRange};
 ghost use Rattle.bank.specs.Order.{IsInOrder, in_station_order};
@@ -53,6 +54,7 @@ fn pairs_of(
 // Sorts pairs by station.
 fn sort_by_station(pairs: &mut Vec<(Receiver, Log)>) -> Result<(), AllocError>
     ensures order { OnOk result (pairs.new.items ≡ in_station_order (λ e. e.0.station) pairs.old.items) }
+    ensures rises { OnOk result (IsNonDecreasingBy (λ e. number_of e.0.station) pairs.new.items) }
     ensures permutation { IsPermutation pairs.old.items pairs.new.items }
 {
     pairs.sort_by_key(|pair| pair.0.station.number())

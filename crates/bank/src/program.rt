@@ -1,21 +1,24 @@
 //! One run of the program.
 
-ghost use Rattle.std.specs.Prelude.{◌≡◌, ◌≢◌, ◌⊎◌, ℕ, List};
-ghost use Rattle.bank_files.specs.Seen.{OnlyWrites, SameCounts, WriteFails};
-ghost use Rattle.bank_files.specs.Told.{output_name};
+ghost use Rattle.std.specs.Prelude.{◌≡◌, ◌≢◌, ◌⊎◌, Err};
+ghost use Rattle.bank_files.specs.Seen.{SameCounts};
 ghost use Rattle.bank_words.specs.Seen.{texts_of};
 ghost use Rattle.due.specs.declared.due.Due.{Due};
+ghost use Rattle.due.specs.Inputs.{Contents};
+ghost use Rattle.due.specs.Orders.{order_in};
+ghost use Rattle.due.specs.Plans.{run_plan};
 ghost use Rattle.due.specs.Rules.{IsDue};
-ghost use Rattle.bank.specs.Ending.{AreTold, Ends, IsTold, PrintsFront, PrintsNothing, SomeReadFails, TellsDue, status_after};
+ghost use Rattle.bank.specs.Ending.{AreTold, Delivers, DeliversDue, Ends, OnlyWritesAmong, SomeReadFails, SomeWriteFails, WritesFront, WritesNothing, status_after};
 ghost use Rattle.bank.specs.Tasks.{Asks, IsInRange};
 
-use crate::deliver::deliver;
-use crate::find::find_due;
+use crate::command::Command;
+use crate::job::perform;
 use crate::stop::Stop;
 use crate::words::{Task, task_of, word_refusal};
 use bank_files::Files;
 use civil::Civil;
 use due::Status;
+use formats::WordFault;
 use std::alloc::Global;
 use std::thread::Threads;
 use texts::write_refusal;
@@ -41,33 +44,33 @@ pub fn run<R: Threads + Sync, F: Files, G: Gate + Sync>(
     files: &mut F,
     gate: &G,
 ) -> u8
-    // What is printed, and the status, are due for contents that agree with all that is told of the files read.
+    // What is written, and the status, are due for contents that agree with all that is told of the files read.
     ensures due { result ≢ 6 → result ≢ 7
-        → TellsDue (F.view files.old) (F.view files.new) (texts_of words.now) result }
-    // Where the contents of these files are told, nothing else is printed or answered.
+        → DeliversDue (run_plan (texts_of words.now)) (F.view files.old) (F.view files.new) result }
+    // Where the contents of these files are told, nothing else is written or answered.
     ensures exactly { result ≢ 6 → result ≢ 7
-        → (contents : ℕ → List ℕ) → AreTold (F.view files.old) (texts_of words.now) contents
+        → (contents : Contents) → AreTold (run_plan (texts_of words.now)) (F.view files.old) contents
         → (due : Due) → IsDue (texts_of words.now) contents due
-        → IsTold (F.view files.old) (F.view files.new) due result }
+        → Delivers (run_plan (texts_of words.now)) (F.view files.old) (F.view files.new) due result }
 
     // 6 stands for a failed file, and each failed file ends the run with 6.
-    ensures failed { result ≡ 6 → WriteFails output_name (F.view files.old) (F.view files.new)
-        ⊎ SomeReadFails (F.view files.old) (F.view files.new) (texts_of words.now) }
+    ensures failed { result ≡ 6 → SomeWriteFails (run_plan (texts_of words.now)) (F.view files.old) (F.view files.new)
+        ⊎ SomeReadFails (run_plan (texts_of words.now)) (F.view files.old) (F.view files.new) }
     ensures no_fault { result ≢ 6 → SameCounts (F.view files.old) (F.view files.new) }
-    ensures front { result ≡ 6 → PrintsNothing (F.view files.old) (F.view files.new)
-        ⊎ PrintsFront (F.view files.old) (F.view files.new) (texts_of words.now) }
-    ensures memory { result ≡ 7 → PrintsNothing (F.view files.old) (F.view files.new) }
+    ensures front { result ≡ 6 → WritesNothing (F.view files.old) (F.view files.new)
+        ⊎ WritesFront (run_plan (texts_of words.now)) (F.view files.old) (F.view files.new) }
+    ensures memory { result ≡ 7 → WritesNothing (F.view files.old) (F.view files.new) }
 
-    // Every other file is as before, and no count of faults fell.
-    ensures only { OnlyWrites output_name (F.view files.old) (F.view files.new) }
+    // Every file that the words don't ask to be written is as before, and no count of faults fell.
+    ensures only { OnlyWritesAmong (run_plan (texts_of words.now)).files (F.view files.old) (F.view files.new) }
 {
-    status_after(tell(rt, alloc, words, files, gate)).code()
+    status_after(carry_out(rt, alloc, words, files, gate)).code()
 }
 
-fn status_after(told: Result<Status, Stop>) -> Status
-    ensures { result ≡ status_after told }
+fn status_after(end: Result<Status, Stop>) -> Status
+    ensures { result ≡ status_after end }
 {
-    match told {
+    match end {
         Ok(status) => status,
         Err(Stop::Failed) => Status::Failed,
         Err(Stop::NoMemory) => Status::NoMemory,
@@ -75,40 +78,54 @@ fn status_after(told: Result<Status, Stop>) -> Status
 }
 
 // Judges the words, and does what they ask for.
-fn tell<R: Threads + Sync, F: Files, G: Gate + Sync>(
+fn carry_out<R: Threads + Sync, F: Files, G: Gate + Sync>(
     rt: &R,
     alloc: Global,
     words: &[String],
     files: &mut F,
     gate: &G,
 ) -> Result<Status, Stop>
-    ensures ends { Ends (F.view files.old) (F.view files.new) (texts_of words.now) result }
-    ensures only { OnlyWrites output_name (F.view files.old) (F.view files.new) }
+    ensures ends { Ends (run_plan (texts_of words.now)) (F.view files.old) (F.view files.new) result }
+    ensures only { OnlyWritesAmong (run_plan (texts_of words.now)).files (F.view files.old) (F.view files.new) }
 {
     match task_of(words) {
-        Err(fault) => {
-            write_refusal(files, &word_refusal(fault))?;
-            Ok(Status::BadWords)
-        }
-        Ok(task) => carry_out(rt, alloc, &task, files, gate),
+        Err(fault) => refuse(words, fault, files),
+        Ok(task) => carry_out_task(rt, alloc, words, &task, files, gate),
     }
 }
 
-// Finds what is due for what a run is asked to do, and delivers it.
-fn carry_out<R: Threads + Sync, F: Files, G: Gate + Sync>(
+// Writes the line that refused words get.
+fn refuse<F: Files>(words: &[String], fault: WordFault, files: &mut F) -> Result<Status, Stop>
+    requires { order_in (texts_of words.now) ≡ Err fault }
+    ensures ends { Ends (run_plan (texts_of words.now)) (F.view files.old) (F.view files.new) result }
+    ensures only { OnlyWritesAmong (run_plan (texts_of words.now)).files (F.view files.old) (F.view files.new) }
+{
+    write_refusal(files, &word_refusal(fault))?;
+    Ok(Status::BadWords)
+}
+
+// Does what the words ask for.
+fn carry_out_task<R: Threads + Sync, F: Files, G: Gate + Sync>(
     rt: &R,
     alloc: Global,
+    words: &[String],
     task: &Task,
     files: &mut F,
     gate: &G,
 ) -> Result<Status, Stop>
-    requires { IsInRange task.now }
-    ensures ends { (words : List (List ℕ)) → Asks words task.now
-        → Ends (F.view files.old) (F.view files.new) words result }
-    ensures only { OnlyWrites output_name (F.view files.old) (F.view files.new) }
+    requires asks { Asks (texts_of words.now) task.now }
+    requires in_range { IsInRange task.now }
+    ensures ends { Ends (run_plan (texts_of words.now)) (F.view files.old) (F.view files.new) result }
+    ensures only { OnlyWritesAmong (run_plan (texts_of words.now)).files (F.view files.old) (F.view files.new) }
 {
     let civil = Civil::make(alloc)?;
-    let due = find_due(rt, alloc, &civil, task, files, gate)?;
-    deliver(files, &civil, &due)?;
-    Ok(due.status())
+    let command = Command {
+        rt,
+        alloc,
+        civil: &civil,
+        words,
+        task,
+        gate,
+    };
+    perform(&command, files)
 }

@@ -4,14 +4,14 @@ ghost use Rattle.std.specs.Prelude.{◌≡◌, IfErr, IfOk, map};
 ghost use Rattle.formats.specs.OrderRanges.{IsAsked};
 ghost use Rattle.trial_log.specs.Trials.{trial_logs, trial_receivers, trial_station};
 ghost use Rattle.due.specs.Trials.{trial_asked, trial_bank};
-ghost use Rattle.bank.specs.Finding.{CanBeTold, IsTried};
+ghost use Rattle.bank.specs.Finding.{CanBeWritten, IsTried};
 ghost use Rattle.bank.specs.Hearing.{IsBank, bank_seen};
 ghost use Rattle.bank.specs.Tasks.{AreWorkers};
 ghost use Rattle.bank.specs.declared.stop.Stop.TheVariants.{NoMemory};
 
 use crate::hearing::Bank;
 use crate::stop::Stop;
-use crate::verdict::judge;
+use crate::decoding::decode;
 use civil::Civil;
 use definitions::CENTURY_MINUTES;
 use due::Due;
@@ -34,18 +34,18 @@ pub fn trial_due<R: Threads + Sync, G: Gate + Sync>(
 ) -> Result<Due, Stop>
     requires { AreWorkers workers }
     ensures due { IfOk result (IsTried number) }
-    ensures told { IfOk result CanBeTold }
+    ensures can_be_written { IfOk result CanBeWritten }
     ensures memory { IfErr result (λ stop. stop ≡ NoMemory) }
 {
     let trial = make(alloc, civil, number)?;
     let bank = bank_of_trial(alloc, number, trial.station, trial.logs.as_slice())?;
-    let verdict = judge(rt, alloc, civil, bank, &asked_of_trials(), workers, gate)?;
+    let decoded = decode(rt, alloc, civil, &bank, &asked_of_trials(), workers, gate)?;
     Ok(Due::Trial {
         number,
         station: trial.station,
         receivers: trial.receivers,
         sent: trial.sequence,
-        answer: verdict.answer,
+        answer: decoded.answer,
     })
 }
 

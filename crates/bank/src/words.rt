@@ -9,6 +9,15 @@ use bank_words::{Order, read_words};
 use formats::{Asked, Refusal, WordFault};
 use signal_base::Station;
 
+/// What is wanted of a bank. A certificate isn't built yet.
+#[derive(Clone, Copy, Debug, PartialEq, Eq)]
+pub enum Wanted {
+    /// The report of its answer.
+    Report,
+    /// The sentences of its answer, where it is decided.
+    Sentences,
+}
+
 /// What a run is asked to do. All texts are borrowed from the words.
 #[derive(Clone, Copy, Debug)]
 pub enum Task<'a> {
@@ -18,8 +27,8 @@ pub enum Task<'a> {
         config: &'a str,
         /// Which window is asked about.
         asked: Asked,
-        /// Whether a decided answer is told as sentences.
-        as_feed: bool,
+        /// What is wanted of its bank.
+        wanted: Wanted,
         /// How many workers search, 1 to 8.
         workers: u8,
     },
@@ -58,7 +67,7 @@ pub fn task_of(words: &[String]) -> Result<Task<'_>, WordFault>
             None => Ok(Task::Decode {
                 config,
                 asked,
-                as_feed: false,
+                wanted: Wanted::Report,
                 workers,
             }),
         },
@@ -70,7 +79,7 @@ pub fn task_of(words: &[String]) -> Result<Task<'_>, WordFault>
         } => Ok(Task::Decode {
             config,
             asked,
-            as_feed: true,
+            wanted: Wanted::Sentences,
             workers,
         }),
         Order::Encode {

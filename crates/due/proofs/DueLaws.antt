@@ -16,9 +16,10 @@ use Rattle.due.specs.declared.due.Due.{Due}
 use Rattle.due.specs.declared.due.Due.TheVariants as dues
 use Rattle.due.specs.Banks.{Bank, IsBankAnswer, bank_of, costs_in, window_of}
 use Rattle.due.specs.Configurations.{IsBadConfiguration, IsConfiguration, logs_of}
+use Rattle.due.specs.Inputs.{Configuration, Contents}
 use Rattle.due.specs.LogFiles.{AreGood, IsFirstBad}
-use Rattle.due.specs.Orders.{BankOrder, bank_order, built, order_in, word_refusal}
-use Rattle.due.specs.Rules.{AsksBank, IsDue, Bad_words, Listed, Tried, Bad_configuration, Bad_log, Answered, IsTold, configuration, told_of}
+use Rattle.due.specs.Orders.{BankOrder, Report, Sentences, bank_order, built, order_in, word_refusal}
+use Rattle.due.specs.Rules.{AsksBank, IsDue, Bad_words, Listed, Tried, Bad_configuration, Bad_log, Answered, IsReported, reported}
 use Rattle.due.specs.Trials.{trial_asked, trial_bank}
 use Rattle.due.proofs.WordLaws.{asked_of_bank, is_built, is_run}
 use Rattle.due.proofs.ConfigurationLaws as configurations
@@ -38,18 +39,18 @@ bank_has_answer asked bank century =
 whole_century : trial_asked.to ≤ century_minutes
 whole_century = omega arith
 
-module _ (contents : ℕ → List ℕ) where
+module _ (contents : Contents) where
   -- what is due for a good configuration
   abbrev IsDueFor : BankOrder → PlainConfig → Due → Type 0
   IsDueFor o config due =
       ((refusal : Refusal) × IsFirstBad contents (logs_of config) refusal × (due ≡ dues.Refused refusal))
-      ⊎ ((records : List Records) × AreGood contents (logs_of config) records × IsTold o (bank_of config records) due)
+      ⊎ ((records : List Records) × AreGood contents (logs_of config) records × IsReported o (bank_of config records) due)
 
   -- what is due where a bank is asked about
   abbrev IsDueOfBank : BankOrder → Due → Type 0
   IsDueOfBank o due =
-      ((refusal : Refusal) × IsBadConfiguration (contents configuration) refusal × (due ≡ dues.Refused refusal))
-      ⊎ ((config : PlainConfig) × IsConfiguration (contents configuration) config × IsDueFor o config due)
+      ((refusal : Refusal) × IsBadConfiguration (contents Configuration) refusal × (due ≡ dues.Refused refusal))
+      ⊎ ((config : PlainConfig) × IsConfiguration (contents Configuration) config × IsDueFor o config due)
 
   -- what is due for an order
   abbrev IsDueOfOrder : Order → Due → Type 0
@@ -84,11 +85,11 @@ module _ (contents : ℕ → List ℕ) where
   same_refusal : (r s : Refusal) (x y : Due) → r ≡ s → x ≡ dues.Refused r → y ≡ dues.Refused s → x ≡ y
   same_refusal r s x y e f g = cc
 
-  same_told : (o : BankOrder) (bank : Bank) (a b : Answer) (x y : Due) → a ≡ b → x ≡ told_of o.as_feed (window_of o.asked bank.receivers) bank a
-      → y ≡ told_of o.as_feed (window_of o.asked bank.receivers) bank b → x ≡ y
-  same_told o bank a b x y e f g = f ∙ ap (told_of o.as_feed (window_of o.asked bank.receivers) bank) e ∙ sym g
+  same_told : (o : BankOrder) (bank : Bank) (a b : Answer) (x y : Due) → a ≡ b → x ≡ reported o.wanted (window_of o.asked bank.receivers) bank a
+      → y ≡ reported o.wanted (window_of o.asked bank.receivers) bank b → x ≡ y
+  same_told o bank a b x y e f g = f ∙ ap (reported o.wanted (window_of o.asked bank.receivers) bank) e ∙ sym g
 
-  one_told : (o : BankOrder) (bank : Bank) (x y : Due) → o.asked.to ≤ century_minutes → IsTold o bank x → IsTold o bank y → x ≡ y
+  one_told : (o : BankOrder) (bank : Bank) (x y : Due) → o.asked.to ≤ century_minutes → IsReported o bank x → IsReported o bank y → x ≡ y
   one_told o bank x y century h k =
       same_told o bank h.0 k.0 x y (bank_answer_is_one o.asked bank h.0 k.0 century h.1 k.1) h.2 k.2
 
@@ -99,15 +100,15 @@ module _ (contents : ℕ → List ℕ) where
   one_due_for o config x y century (inr h) (inl k) = absurd (all_good_none_bad contents (logs_of config) h.0 k.0 h.1 k.1)
   one_due_for o config x y century (inr h) (inr k) =
       let same = all_good_once contents (logs_of config) h.0 k.0 h.1 k.1 in
-      one_told o (bank_of config k.0) x y century (subst (λ (all : List Records). IsTold o (bank_of config all) x) same h.2) k.2
+      one_told o (bank_of config k.0) x y century (subst (λ (all : List Records). IsReported o (bank_of config all) x) same h.2) k.2
 
   one_due_of_bank : (o : BankOrder) (x y : Due) → o.asked.to ≤ century_minutes → IsDueOfBank o x → IsDueOfBank o y → x ≡ y
   one_due_of_bank o x y century (inl h) (inl k) =
-      same_refusal h.0 k.0 x y (configurations.one_refusal (contents configuration) h.0 k.0 h.1 k.1) h.2 k.2
-  one_due_of_bank o x y century (inl h) (inr k) = absurd (configurations.not_both (contents configuration) k.0 h.0 k.1 h.1)
-  one_due_of_bank o x y century (inr h) (inl k) = absurd (configurations.not_both (contents configuration) h.0 k.0 h.1 k.1)
+      same_refusal h.0 k.0 x y (configurations.one_refusal (contents Configuration) h.0 k.0 h.1 k.1) h.2 k.2
+  one_due_of_bank o x y century (inl h) (inr k) = absurd (configurations.not_both (contents Configuration) k.0 h.0 k.1 h.1)
+  one_due_of_bank o x y century (inr h) (inl k) = absurd (configurations.not_both (contents Configuration) h.0 k.0 h.1 k.1)
   one_due_of_bank o x y century (inr h) (inr k) =
-      let same = configurations.one_configuration (contents configuration) h.0 k.0 h.1 k.1 in
+      let same = configurations.one_configuration (contents Configuration) h.0 k.0 h.1 k.1 in
       one_due_for o k.0 x y century (subst (λ config. IsDueFor o config x) same h.2) k.2
 
   same_order : {A : Type 0} (a b : A) (found : Option A) → found ≡ Some a → found ≡ Some b → a ≡ b
@@ -139,24 +140,24 @@ module _ (contents : ℕ → List ℕ) where
 
   -- something is due
   bank_owes : (words : List (List ℕ)) (o : BankOrder) → AsksBank words o → (due : Due) × IsDue words contents due
-  bank_owes words o asks = by_text (configurations.text_has_outcome (contents configuration))
+  bank_owes words o asks = by_text (configurations.text_has_outcome (contents Configuration))
     where
-      by_logs : (config : PlainConfig) → IsConfiguration (contents configuration) config → AreJudged contents (logs_of config) → (due : Due) × IsDue words contents due
+      by_logs : (config : PlainConfig) → IsConfiguration (contents Configuration) config → AreJudged contents (logs_of config) → (due : Due) × IsDue words contents due
       by_logs config is (inr bad) = (dues.Refused bad.0, Bad_log o asks config is bad.0 bad.1 refl)
       by_logs config is (inl good) =
           let bank = bank_of config good.0 in
           let found = bank_has_answer o.asked bank (asked_of_bank words o asks).century in
-          (told_of o.as_feed (window_of o.asked bank.receivers) bank found.0, Answered o asks config is good.0 good.1 (found.0, found.1, refl))
+          (reported o.wanted (window_of o.asked bank.receivers) bank found.0, Answered o asks config is good.0 good.1 (found.0, found.1, refl))
 
-      by_text : configurations.HasOutcome (contents configuration) → (due : Due) × IsDue words contents due
+      by_text : configurations.HasOutcome (contents Configuration) → (due : Due) × IsDue words contents due
       by_text (inr bad) = (dues.Refused bad.0, Bad_configuration o asks bad.0 bad.1 refl)
       by_text (inl good) = by_logs good.0 good.1 (all_judged contents (logs_of good.0))
 
   order_owes : (words : List (List ℕ)) (order : Order) → order_in words ≡ Ok order → built order ≡ Ok order → is_run_order order ≡ true → (due : Due) × IsDue words contents due
   order_owes words (Decode config asked workers certificate) is made run =
-      bank_owes words (record { config = config; asked = asked; as_feed = false }) (Decode config asked workers certificate, is, refl)
+      bank_owes words (record { config = config; asked = asked; wanted = Report certificate }) (Decode config asked workers certificate, is, refl)
   order_owes words (Feed config asked workers) is made run =
-      bank_owes words (record { config = config; asked = asked; as_feed = true }) (Feed config asked workers, is, refl)
+      bank_owes words (record { config = config; asked = asked; wanted = Sentences }) (Feed config asked workers, is, refl)
   order_owes words (Encode station minute announced) is made run = (dues.Listing station minute announced, Listed station minute announced is refl)
   order_owes words (Trial number workers) is made run =
       let found = bank_has_answer trial_asked (trial_bank number) whole_century in

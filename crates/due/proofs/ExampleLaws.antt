@@ -14,21 +14,22 @@ use Rattle.bank_config.specs.Configuration.{PlainConfig}
 use Rattle.due.specs.declared.due.Due.TheVariants.{Refused}
 use Rattle.due.specs.Configurations.{IsConfiguration, logs_of}
 use Rattle.due.specs.Examples.{held, two_receivers}
+use Rattle.due.specs.Inputs.{Contents, LogOf}
 use Rattle.due.specs.LogFiles.{Bad_line, IsGood, IsLogRead, Too_large}
-use Rattle.due.specs.Orders.{BankOrder, order_in, word_refusal}
+use Rattle.due.specs.Orders.{BankOrder, Report, Sentences, order_in, word_refusal}
 use Rattle.due.specs.Rules.{AsksBank, IsDue, Bad_words, Bad_log, IsRead, Reads_configuration, Reads_log}
 use Rattle.due.proofs.ConfigurationLaws.{one_configuration}
 use Rattle.due.proofs.LogFileLaws.{good_not_bad}
 
-pub refused : (words : List (List ℕ)) (fault : WordFault) → order_in words ≡ Err fault → (contents : ℕ → List ℕ) → IsDue words contents (Refused (word_refusal fault))
+pub refused : (words : List (List ℕ)) (fault : WordFault) → order_in words ≡ Err fault → (contents : Contents) → IsDue words contents (Refused (word_refusal fault))
 refused words fault is contents = Bad_words fault is refl
 
 -- what is asked without an option
 abbrev pub decoded : BankOrder
-decoded = record { config = codes "k.toml"; asked = asked_usually; as_feed = false }
+decoded = record { config = codes "k.toml"; asked = asked_usually; wanted = Report None }
 
 abbrev pub fed : BankOrder
-fed = record { config = codes "k.toml"; asked = asked_usually; as_feed = true }
+fed = record { config = codes "k.toml"; asked = asked_usually; wanted = Sentences }
 
 pub decode_asks : AsksBank (words_in (codes "decode k.toml")) decoded
 unfolding digits number_of
@@ -62,6 +63,9 @@ second_line = record {
   bad = ((12, High), (omega arith, refl), λ later. omega (arith, later));
 }
 
+same_receiver : (m n : ℕ) → LogOf m ≡ LogOf n → m ≡ n
+same_receiver m n e = cc
+
 module _ (config : List ℕ) (is : IsConfiguration config two_receivers) where
   pub second_bad : IsDue (words_in (codes "feed k.toml")) (held config good_log bad_log) (Refused (LogLine 2 (codes "south") 2 NotRising))
   second_bad =
@@ -78,16 +82,16 @@ module _ (config : List ℕ) (is : IsConfiguration config two_receivers) where
   first_bad second =
       Bad_log fed feed_asks two_receivers is (LogLine 1 (codes "north") 2 NotRising) (inl (Bad_line (omega arith) 2 NotRising second_line refl)) refl
 
-  pub second_read : (second : List ℕ) → IsRead (words_in (codes "feed k.toml")) (held config good_log second) 2 (codes "s.log")
+  pub second_read : (second : List ℕ) → IsRead (words_in (codes "feed k.toml")) (held config good_log second) (LogOf 2) (codes "s.log")
   second_read second = Reads_log fed feed_asks two_receivers is (inr ((12, Low) ∷ [], good, inl (refl, refl)))
 
-  none_behind : (second : List ℕ) → IsLogRead (held config bad_log second) (logs_of two_receivers) 2 (codes "s.log") → ⊥
-  none_behind second (inl h) = omega (arith, h.0)
+  none_behind : (second : List ℕ) → IsLogRead (held config bad_log second) (logs_of two_receivers) (LogOf 2) (codes "s.log") → ⊥
+  none_behind second (inl h) = absurd (omega (arith, same_receiver 2 1 h.0))
   none_behind second (inr h) =
       good_not_bad (record { receiver = 1; name = codes "north"; file = codes "n.log" }) bad_log h.0 (LogLine 1 (codes "north") 2 NotRising) h.1
       (Bad_line (omega arith) 2 NotRising second_line refl)
 
-  pub second_not_read : (second : List ℕ) → ¬ (IsRead (words_in (codes "feed k.toml")) (held config bad_log second) 2 (codes "s.log"))
-  second_not_read second (Reads_configuration o asks e f) = omega (arith, e)
+  pub second_not_read : (second : List ℕ) → ¬ (IsRead (words_in (codes "feed k.toml")) (held config bad_log second) (LogOf 2) (codes "s.log"))
+  second_not_read second (Reads_configuration o asks e f) = absurd cc
   second_not_read second (Reads_log o asks other says read) =
-      none_behind second (subst (λ (c : PlainConfig). IsLogRead (held config bad_log second) (logs_of c) 2 (codes "s.log")) (one_configuration config other two_receivers says is) read)
+      none_behind second (subst (λ (c : PlainConfig). IsLogRead (held config bad_log second) (logs_of c) (LogOf 2) (codes "s.log")) (one_configuration config other two_receivers says is) read)

@@ -8,6 +8,7 @@ use Rattle.formats.specs.declared.refusal.Refusal.{Refusal}
 use Rattle.formats.specs.declared.refusal.Refusal.TheVariants.{LogTooLarge, LogLine}
 use Rattle.formats.specs.LogLines.{HasOutcome}
 use Rattle.formats.proofs.OutcomeLaws.{text_has_outcome, one_log, one_fault, log_not_refused}
+use Rattle.due.specs.Inputs.{Contents, LogOf}
 use Rattle.due.specs.LogFiles.{LogFile, IsGood, IsBad, Too_large, Bad_line, AreGood, IsFirstBad}
 
 -- one log
@@ -43,7 +44,7 @@ judged log bytes = by_size (cases_lt LOG_LIMIT (length bytes))
     by_size (inl large) = inr (LogTooLarge log.receiver log.name, Too_large large refl)
     by_size (inr fits) = by_lines fits (text_has_outcome bytes)
 
-module _ (contents : ℕ → List ℕ) where
+module _ (contents : Contents) where
   same_cons : (a b : Records) (xs ys : List Records) → a ≡ b → xs ≡ ys → a ∷ xs ≡ b ∷ ys
   same_cons a b xs ys e f = cc
 
@@ -53,19 +54,19 @@ module _ (contents : ℕ → List ℕ) where
   all_good_once (log ∷ logs) [] b h k = absurd h
   all_good_once (log ∷ logs) (a ∷ xs) [] h k = absurd k
   all_good_once (log ∷ logs) (a ∷ xs) (b ∷ ys) h k =
-      same_cons a b xs ys (good_once (contents log.receiver) a b h.0 k.0) (all_good_once logs xs ys h.1 k.1)
+      same_cons a b xs ys (good_once (contents (LogOf log.receiver)) a b h.0 k.0) (all_good_once logs xs ys h.1 k.1)
 
   pub first_bad_once : (logs : List LogFile) (r s : Refusal) → IsFirstBad contents logs r → IsFirstBad contents logs s → r ≡ s
   first_bad_once [] r s h k = absurd h
-  first_bad_once (log ∷ logs) r s (inl h) (inl k) = bad_once log (contents log.receiver) r s h k
-  first_bad_once (log ∷ logs) r s (inl h) (inr k) = absurd (good_not_bad log (contents log.receiver) k.0 r k.1 h)
-  first_bad_once (log ∷ logs) r s (inr h) (inl k) = absurd (good_not_bad log (contents log.receiver) h.0 s h.1 k)
+  first_bad_once (log ∷ logs) r s (inl h) (inl k) = bad_once log (contents (LogOf log.receiver)) r s h k
+  first_bad_once (log ∷ logs) r s (inl h) (inr k) = absurd (good_not_bad log (contents (LogOf log.receiver)) k.0 r k.1 h)
+  first_bad_once (log ∷ logs) r s (inr h) (inl k) = absurd (good_not_bad log (contents (LogOf log.receiver)) h.0 s h.1 k)
   first_bad_once (log ∷ logs) r s (inr h) (inr k) = first_bad_once logs r s h.2 k.2
 
   pub all_good_none_bad : (logs : List LogFile) (all : List Records) (r : Refusal) → AreGood contents logs all → IsFirstBad contents logs r → ⊥
   all_good_none_bad [] all r h k = k
   all_good_none_bad (log ∷ logs) [] r h k = h
-  all_good_none_bad (log ∷ logs) (a ∷ xs) r h (inl k) = good_not_bad log (contents log.receiver) a r h.0 k
+  all_good_none_bad (log ∷ logs) (a ∷ xs) r h (inl k) = good_not_bad log (contents (LogOf log.receiver)) a r h.0 k
   all_good_none_bad (log ∷ logs) (a ∷ xs) r h (inr k) = all_good_none_bad logs xs r h.1 k.2
 
   abbrev pub AreJudged : List LogFile → Type 0
@@ -73,9 +74,9 @@ module _ (contents : ℕ → List ℕ) where
 
   pub all_judged : (logs : List LogFile) → AreJudged logs
   all_judged [] = inl ([], refl)
-  all_judged (log ∷ logs) = more (judged log (contents log.receiver)) (all_judged logs)
+  all_judged (log ∷ logs) = more (judged log (contents (LogOf log.receiver))) (all_judged logs)
     where
-      more : IsJudged log (contents log.receiver) → AreJudged logs → AreJudged (log ∷ logs)
+      more : IsJudged log (contents (LogOf log.receiver)) → AreJudged logs → AreJudged (log ∷ logs)
       more (inl h) (inl rest) = inl (h.0 ∷ rest.0, (h.1, rest.1))
       more (inl h) (inr bad) = inr (bad.0, inr (h.0, h.1, bad.1))
       more (inr bad) rest = inr (bad.0, inl bad.1)

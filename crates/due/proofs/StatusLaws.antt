@@ -13,6 +13,7 @@ use Rattle.due.specs.declared.due.Due.{Due}
 use Rattle.due.specs.declared.due.Due.TheVariants.{Refused, Report, Feed, Listing, Trial}
 use Rattle.due.specs.declared.status.Status.TheVariants.{Failed, NoMemory}
 use Rattle.due.specs.Dues.{answer_status, refusal_status, status_of}
+use Rattle.due.specs.Inputs.{Contents}
 use Rattle.due.specs.Orders.{built}
 use Rattle.due.specs.Rules.{IsDue, Bad_words}
 
@@ -42,10 +43,10 @@ no_failure_is_due (Listing station minute announced) = (λ e. cc, λ e. cc)
 no_failure_is_due (Trial number station receivers sent answer) = answer_is_due answer
 
 -- orders that speak of a certificate
-pub check_is_refused : (words : List (List ℕ)) (contents : ℕ → List ℕ) (config certificate : List ℕ) (asked : Asked)
+pub check_is_refused : (words : List (List ℕ)) (contents : Contents) (config certificate : List ℕ) (asked : Asked)
     → order_of run_commands words ≡ Ok (Check config certificate asked) → IsDue words contents (Refused WordsUsage)
 check_is_refused words contents config certificate asked e = Bad_words Usage (ap (λ c. c >>= built) e) refl
 
-pub certificate_is_refused : (words : List (List ℕ)) (contents : ℕ → List ℕ) (config certificate : List ℕ) (asked : Asked) (workers : ℕ)
+pub certificate_is_refused : (words : List (List ℕ)) (contents : Contents) (config certificate : List ℕ) (asked : Asked) (workers : ℕ)
     → order_of run_commands words ≡ Ok (Decode config asked workers (Some certificate)) → IsDue words contents (Refused WordsUsage)
 certificate_is_refused words contents config certificate asked workers e = Bad_words Usage (ap (λ c. c >>= built) e) refl

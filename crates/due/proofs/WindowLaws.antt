@@ -24,6 +24,7 @@ use Rattle.formats.proofs.OutcomeLaws.{log_is_orderly}
 use Rattle.bank_config.specs.Configuration.{PlainConfig, PlainReceiver}
 use Rattle.due.specs.Banks.{bit_where, first_time, first_times, is_heard, receivers_of, start_of, stations_heard, window_of}
 use Rattle.due.specs.Configurations.{logs_from, logs_of}
+use Rattle.due.specs.Inputs.{Contents, LogOf}
 use Rattle.due.specs.LogFiles.{AreGood}
 
 -- four bits of a mask
@@ -98,13 +99,13 @@ first_is_early : (log : Records) (times : List ℕ) → IsOrderly log → AreEar
 first_is_early [] times orderly early = early
 first_is_early (r ∷ rs) times orderly early = (omega (arith, All-head (λ r. r.0 < TIME_LIMIT) r rs orderly.below), early)
 
-module _ (contents : ℕ → List ℕ) where
+module _ (contents : Contents) where
   are_early : (number : ℕ) (rs : List PlainReceiver) (logs : List Records) → AreGood contents (logs_from number rs) logs
       → AreEarly (flat_map (λ r. first_times r.heard.log) (receivers_of rs logs))
   are_early number [] logs good = tt
   are_early number (r ∷ rs) [] good = tt
   are_early number (r ∷ rs) (log ∷ logs) good =
-      first_is_early log (flat_map (λ r. first_times r.heard.log) (receivers_of rs logs)) (log_is_orderly (contents number) log good.0.is_log)
+      first_is_early log (flat_map (λ r. first_times r.heard.log) (receivers_of rs logs)) (log_is_orderly (contents (LogOf number)) log good.0.is_log)
       (are_early (number + 1) rs logs good.1)
 
   some_is_heard : (number : ℕ) (rs : List PlainReceiver) (logs : List Records) → 1 ≤ length rs → AreGood contents (logs_from number rs) logs

@@ -6,6 +6,7 @@ use Rattle.definitions.specs.declared.level.Level.TheVariants.{High, Low}
 use Rattle.definitions.specs.examples.Receivers.{heard, rises_at}
 use Rattle.definitions.specs.heard.Receivers.{Receiver}
 use Rattle.bank_config.specs.Configuration.{PlainConfig}
+use Rattle.due.specs.Inputs.{Configuration, Contents, LogOf}
 -- the digits of a number, which examples open by this name
 pub use Rattle.std.specs.Fmt.{digits}
 
@@ -34,5 +35,6 @@ two_receivers =
     }
 
 -- what a configuration and the logs of two receivers hold
-abbrev pub held : List ℕ → List ℕ → List ℕ → ℕ → List ℕ
-held config first second number = if number == 0 then config else if number == 1 then first else second
+abbrev pub held : List ℕ → List ℕ → List ℕ → Contents
+held config first second Configuration = config
+held config first second (LogOf receiver) = if receiver == 1 then first else second

@@ -1,3 +1,4 @@
+pub mod Inputs
 pub mod Orders
 pub mod LogFiles
 pub mod Configurations
@@ -5,5 +6,7 @@ pub mod Banks
 pub mod Trials
 pub mod Status
 pub mod Dues
+pub mod Outputs
 pub mod Rules
+pub mod Plans
 pub mod Examples

@@ -1,6 +1,5 @@
 -- The logs that a run reads. Each is read and then judged, in the order of their receivers, so that the first bad
--- one decides. What was read is given by the number of the receiver: two receivers may name the same file, and on a machine
--- that may hold something else when it is read again.
+-- one decides.
 use Rattle.std.specs.Prelude.{ℕ, ◌≡◌, ◌<◌, ◌≤◌, ◌⊎◌, List, [], ◌∷◌, length}
 use Rattle.definitions.specs.heard.Logs.{Records}
 use Rattle.formats.specs.declared.limits.TheConstants.{LOG_LIMIT}
@@ -8,6 +7,7 @@ use Rattle.formats.specs.declared.fault.LineFault.{LineFault}
 use Rattle.formats.specs.declared.refusal.Refusal.{Refusal}
 use Rattle.formats.specs.declared.refusal.Refusal.TheVariants.{LogTooLarge, LogLine}
 use Rattle.formats.specs.LogLines.{IsLog, IsRefused}
+use Rattle.due.specs.Inputs.{Contents, Input, LogOf}
 
 -- a log that is read: the number of its receiver, from 1, the receiver's name and the file's
 pub record LogFile : Type 0 where
@@ -27,21 +27,21 @@ pub data IsBad (log : LogFile) (bytes : List ℕ) (refusal : Refusal) : Type 0 w
       → refusal ≡ LogLine log.receiver log.name number fault → IsBad log bytes refusal
 
 -- all logs are good, of these records
-abbrev pub AreGood : (ℕ → List ℕ) → List LogFile → List Records → Type 0
+abbrev pub AreGood : Contents → List LogFile → List Records → Type 0
 AreGood contents [] records = records ≡ []
 AreGood contents (log ∷ logs) [] = ⊥
-AreGood contents (log ∷ logs) (first ∷ rest) = IsGood (contents log.receiver) first × AreGood contents logs rest
+AreGood contents (log ∷ logs) (first ∷ rest) = IsGood (contents (LogOf log.receiver)) first × AreGood contents logs rest
 
 -- the first bad log is refused so
-abbrev pub IsFirstBad : (ℕ → List ℕ) → List LogFile → Refusal → Type 0
+abbrev pub IsFirstBad : Contents → List LogFile → Refusal → Type 0
 IsFirstBad contents [] refusal = ⊥
 IsFirstBad contents (log ∷ logs) refusal =
-    IsBad log (contents log.receiver) refusal
-    ⊎ ((records : Records) × IsGood (contents log.receiver) records × IsFirstBad contents logs refusal)
+    IsBad log (contents (LogOf log.receiver)) refusal
+    ⊎ ((records : Records) × IsGood (contents (LogOf log.receiver)) records × IsFirstBad contents logs refusal)
 
--- this file is read for the receiver of this number: it is the log of one, and all before it are good
-abbrev pub IsLogRead : (ℕ → List ℕ) → List LogFile → ℕ → List ℕ → Type 0
-IsLogRead contents [] receiver file = ⊥
-IsLogRead contents (log ∷ logs) receiver file =
-    ((receiver ≡ log.receiver) × (file ≡ log.file))
-    ⊎ ((records : Records) × IsGood (contents log.receiver) records × IsLogRead contents logs receiver file)
+-- this file is read as this input: it is the log of a receiver, and all before it are good
+abbrev pub IsLogRead : Contents → List LogFile → Input → List ℕ → Type 0
+IsLogRead contents [] input file = ⊥
+IsLogRead contents (log ∷ logs) input file =
+    ((input ≡ LogOf log.receiver) × (file ≡ log.file))
+    ⊎ ((records : Records) × IsGood (contents (LogOf log.receiver)) records × IsLogRead contents logs input file)

@@ -1,5 +1,5 @@
 -- What the words of a run ask for, and what is refused of them.
-use Rattle.std.specs.Prelude.{ℕ, Bool, true, false, List, Option, Some, None, Ok, Err}
+use Rattle.std.specs.Prelude.{ℕ, List, Option, Some, None, Ok, Err}
 use Rattle.formats.specs.declared.words.Asked.{Asked}
 use Rattle.formats.specs.declared.words.WordFault.{WordFault}
 use Rattle.formats.specs.declared.words.WordFault.TheVariants.{Usage, BadNumber, BadMinute, EmptyRange}
@@ -26,15 +26,19 @@ word_refusal (BadNumber option) = WordsBad option
 word_refusal (BadMinute option) = WordsBad option
 word_refusal EmptyRange = WordsEmptyRange
 
--- what is asked about the bank of a configuration: the configuration's file, the window, and whether the answer is told as
--- sentences of a feed
+-- what is wanted of a bank: the report of its answer, with a certificate of this name or without, or the answer's sentences
+pub data Wanted : Type 0 where
+  Report : (certificate : Option (List ℕ)) → Wanted
+  Sentences : Wanted
+
+-- what is asked about the bank of a configuration: the configuration's file, the window, and what is wanted
 pub record BankOrder : Type 0 where
   pub config : List ℕ
   pub asked : Asked
-  pub as_feed : Bool
+  pub wanted : Wanted
 
 -- what an order asks about a bank, if it does; how many workers search doesn't matter
 abbrev pub bank_order : Order → Option BankOrder
-bank_order (Decode config asked workers certificate) = Some (record { config = config; asked = asked; as_feed = false })
-bank_order (Feed config asked workers) = Some (record { config = config; asked = asked; as_feed = true })
+bank_order (Decode config asked workers certificate) = Some (record { config = config; asked = asked; wanted = Report certificate })
+bank_order (Feed config asked workers) = Some (record { config = config; asked = asked; wanted = Sentences })
 bank_order other = None

@@ -1,6 +1,5 @@
 -- The rules of what a run owes for its words and for the bytes that it reads; and which files it reads.
--- What is read is given by number: 0 for the configuration, and for the log of a receiver the number of that, from 1.
-use Rattle.std.specs.Prelude.{ℕ, ◌≡◌, Bool, true, List, Some, Ok, Err}
+use Rattle.std.specs.Prelude.{ℕ, ◌≡◌, Bool, List, Some, Ok, Err}
 use Rattle.signal_base.specs.declared.station.Station.{Station}
 use Rattle.signal_base.specs.declared.window.Window.{Window}
 use Rattle.definitions.specs.declared.answer.Answer.{Answer}
@@ -15,33 +14,30 @@ use Rattle.trial_log.specs.Trials.{trial_receivers, trial_sequence, trial_statio
 use Rattle.due.specs.declared.due.Due.{Due}
 use Rattle.due.specs.declared.due.Due.TheVariants as dues
 use Rattle.due.specs.Banks.{Bank, IsBankAnswer, bank_of, duts_of, window_of}
+use Rattle.due.specs.Inputs.{Configuration, Contents, Input}
 use Rattle.due.specs.Configurations.{IsBadConfiguration, IsConfiguration, logs_of}
 use Rattle.due.specs.LogFiles.{AreGood, IsFirstBad, IsLogRead}
-use Rattle.due.specs.Orders.{BankOrder, bank_order, order_in, word_refusal}
+use Rattle.due.specs.Orders.{BankOrder, Sentences, Wanted, bank_order, order_in, word_refusal}
 use Rattle.due.specs.Trials.{trial_asked, trial_bank}
 
--- the number as which the configuration is read
-abbrev pub configuration : ℕ
-configuration = 0
+-- how an answer is reported: by its report, or where it is decided and sentences are wanted, by these
+abbrev pub reported : Wanted → Window → Bank → Answer → Due
+reported Sentences window bank (answers.Decided cost q next) = dues.Feed window q
+reported wanted window bank answer = dues.Report window answer (duts_of window bank answer)
 
--- how an answer is told: as its report, or where it is decided and a feed is asked for, as sentences
-abbrev pub told_of : Bool → Window → Bank → Answer → Due
-told_of true window bank (answers.Decided cost q next) = dues.Feed window q
-told_of as_feed window bank answer = dues.Report window answer (duts_of window bank answer)
-
--- this is told of a bank for what is asked
-abbrev pub IsTold : BankOrder → Bank → Due → Type 0
-IsTold o bank due =
+-- this is what is asked about a bank
+abbrev pub IsReported : BankOrder → Bank → Due → Type 0
+IsReported o bank due =
     let window = window_of o.asked bank.receivers in
-    (answer : Answer) × IsBankAnswer window bank answer × (due ≡ told_of o.as_feed window bank answer)
+    (answer : Answer) × IsBankAnswer window bank answer × (due ≡ reported o.wanted window bank answer)
 
 -- the words ask this of a bank
 abbrev pub AsksBank : List (List ℕ) → BankOrder → Type 0
 AsksBank words o = (order : Order) × (order_in words ≡ Ok order) × (bank_order order ≡ Some o)
 
 -- This is due, by the first rule that fits: refused words; a listing; a trial; and of a bank a refused configuration, the
--- first refused log, and what is told of the answer.
-pub data IsDue (words : List (List ℕ)) (contents : ℕ → List ℕ) (due : Due) : Type 0 where
+-- first refused log, and what is reported of the answer.
+pub data IsDue (words : List (List ℕ)) (contents : Contents) (due : Due) : Type 0 where
   Bad_words : (fault : WordFault) → order_in words ≡ Err fault → due ≡ dues.Refused (word_refusal fault) → IsDue words contents due
   Listed : (station : Station) → (minute : ℕ) → (announced : Bool) → order_in words ≡ Ok (Encode station minute announced)
       → due ≡ dues.Listing station minute announced → IsDue words contents due
@@ -49,18 +45,18 @@ pub data IsDue (words : List (List ℕ)) (contents : ℕ → List ℕ) (due : Du
       → (answer : Answer) → IsBankAnswer (window_of trial_asked (trial_bank number).receivers) (trial_bank number) answer
       → due ≡ dues.Trial number (trial_station number) (trial_receivers number) (trial_sequence number) answer → IsDue words contents due
   Bad_configuration : (o : BankOrder) → AsksBank words o
-      → (refusal : Refusal) → IsBadConfiguration (contents configuration) refusal → due ≡ dues.Refused refusal → IsDue words contents due
+      → (refusal : Refusal) → IsBadConfiguration (contents Configuration) refusal → due ≡ dues.Refused refusal → IsDue words contents due
   Bad_log : (o : BankOrder) → AsksBank words o
-      → (config : PlainConfig) → IsConfiguration (contents configuration) config
+      → (config : PlainConfig) → IsConfiguration (contents Configuration) config
       → (refusal : Refusal) → IsFirstBad contents (logs_of config) refusal → due ≡ dues.Refused refusal → IsDue words contents due
   Answered : (o : BankOrder) → AsksBank words o
-      → (config : PlainConfig) → IsConfiguration (contents configuration) config
+      → (config : PlainConfig) → IsConfiguration (contents Configuration) config
       → (records : List Records) → AreGood contents (logs_of config) records
-      → IsTold o (bank_of config records) due → IsDue words contents due
+      → IsReported o (bank_of config records) due → IsDue words contents due
 
--- the run reads this file as this number: the configuration, and the logs of a good one as long as all before them are good
-pub data IsRead (words : List (List ℕ)) (contents : ℕ → List ℕ) (number : ℕ) (file : List ℕ) : Type 0 where
-  Reads_configuration : (o : BankOrder) → AsksBank words o → number ≡ configuration → file ≡ o.config → IsRead words contents number file
+-- the run reads this file as this input: the configuration, and the logs of a good one as long as all before them are good
+pub data IsRead (words : List (List ℕ)) (contents : Contents) (input : Input) (file : List ℕ) : Type 0 where
+  Reads_configuration : (o : BankOrder) → AsksBank words o → input ≡ Configuration → file ≡ o.config → IsRead words contents input file
   Reads_log : (o : BankOrder) → AsksBank words o
-      → (config : PlainConfig) → IsConfiguration (contents configuration) config
-      → IsLogRead contents (logs_of config) number file → IsRead words contents number file
+      → (config : PlainConfig) → IsConfiguration (contents Configuration) config
+      → IsLogRead contents (logs_of config) input file → IsRead words contents input file

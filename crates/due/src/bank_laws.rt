@@ -14,6 +14,7 @@ ghost use Rattle.formats.specs.OrderRanges.{IsAsked};
 ghost use Rattle.formats.specs.declared.words.Asked.{Asked};
 ghost use Rattle.bank_config.specs.Configuration.{PlainConfig};
 ghost use Rattle.due.specs.Banks.{Bank, IsBankAnswer, by_station, costs_in, first_time, is_heard, ordered, receivers_of, stations_heard, window_of};
+ghost use Rattle.due.specs.Inputs.{Contents};
 ghost use Rattle.due.specs.Configurations.{logs_of};
 ghost use Rattle.due.specs.LogFiles.{AreGood};
 
@@ -27,7 +28,7 @@ pub fn bank_has_one_answer()
 
 /// The window that is asked about is in its ranges, where some receiver is configured and all logs are good.
 pub fn window_is_in_range()
-    ensures { (contents : ℕ → List ℕ) (config : PlainConfig) (records : List Records) (asked : Asked) → IsAsked asked
+    ensures { (contents : Contents) (config : PlainConfig) (records : List Records) (asked : Asked) → IsAsked asked
         → 1 ≤ length config.receivers → AreGood contents (logs_of config) records → IsWindow (window_of asked (receivers_of config.receivers records)) }
 {}
 

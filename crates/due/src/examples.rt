@@ -23,7 +23,10 @@ ghost use Rattle.due.specs.Banks.{Bank, IsBankAnswer, by_station, duts_of, first
 ghost use Rattle.due.specs.Configurations.{IsConfiguration, logs_of};
 ghost use Rattle.due.specs.Dues.{status_of, text_of};
 ghost use Rattle.due.specs.Examples.{falls_once, held, mixed, silent, two_receivers};
-ghost use Rattle.due.specs.Rules.{AsksBank, IsDue, IsRead, told_of};
+ghost use Rattle.due.specs.Inputs.{Contents, LogOf};
+ghost use Rattle.due.specs.Orders as orders;
+ghost use Rattle.due.specs.Outputs.{outputs_of};
+ghost use Rattle.due.specs.Rules.{AsksBank, IsDue, IsRead, reported};
 ghost use Rattle.due.specs.Status.{code_of};
 ghost use Rattle.due.specs.Trials.{trial_asked, trial_bank, trial_receiver};
 
@@ -56,41 +59,46 @@ pub fn statuses_of_what_is_due()
 
 /// Words that are refused, whatever the files hold.
 pub fn words_that_are_refused()
-    ensures none { (contents : ℕ → List ℕ) → IsDue [] contents (Refused WordsUsage) }
-    ensures place { (contents : ℕ → List ℕ) → IsDue (words_in (codes "decode")) contents (Refused WordsUsage) }
-    ensures dash { (contents : ℕ → List ℕ) → IsDue (words_in (codes "feed -")) contents (Refused WordsUsage) }
-    ensures beyond { (contents : ℕ → List ℕ) → IsDue (words_in (codes "follow k.toml")) contents (Refused WordsUsage) }
-    ensures check { (contents : ℕ → List ℕ) → IsDue (words_in (codes "check k.toml x.cert")) contents (Refused WordsUsage) }
-    ensures certificate { (contents : ℕ → List ℕ) → IsDue (words_in (codes "decode k.toml --certificate x.cert")) contents (Refused WordsUsage) }
-    ensures seconds { (contents : ℕ → List ℕ) → IsDue (words_in (codes "decode k.toml --seconds 59")) contents (Refused (WordsBad Seconds)) }
-    ensures number { (contents : ℕ → List ℕ) → IsDue (words_in (codes "trial 4294967296")) contents (Refused (WordsBad Number)) }
-    ensures minute { (contents : ℕ → List ℕ) → IsDue (words_in (codes "encode msf 1")) contents (Refused (WordsBad Minute)) }
-    ensures empty { (contents : ℕ → List ℕ)
+    ensures none { (contents : Contents) → IsDue [] contents (Refused WordsUsage) }
+    ensures place { (contents : Contents) → IsDue (words_in (codes "decode")) contents (Refused WordsUsage) }
+    ensures dash { (contents : Contents) → IsDue (words_in (codes "feed -")) contents (Refused WordsUsage) }
+    ensures beyond { (contents : Contents) → IsDue (words_in (codes "follow k.toml")) contents (Refused WordsUsage) }
+    ensures check { (contents : Contents) → IsDue (words_in (codes "check k.toml x.cert")) contents (Refused WordsUsage) }
+    ensures certificate { (contents : Contents) → IsDue (words_in (codes "decode k.toml --certificate x.cert")) contents (Refused WordsUsage) }
+    ensures seconds { (contents : Contents) → IsDue (words_in (codes "decode k.toml --seconds 59")) contents (Refused (WordsBad Seconds)) }
+    ensures number { (contents : Contents) → IsDue (words_in (codes "trial 4294967296")) contents (Refused (WordsBad Number)) }
+    ensures minute { (contents : Contents) → IsDue (words_in (codes "encode msf 1")) contents (Refused (WordsBad Minute)) }
+    ensures empty { (contents : Contents)
         → IsDue (words_in (codes "feed k.toml --from 2024-06-10T23:59Z --to 2024-06-10T00:00Z")) contents (Refused WordsEmptyRange) }
     ensures text { text_of (Refused (WordsBad Seconds)) ≡ line (codes "words: bad --seconds") }
 {}
 
 /// A listing is due for the minute that the words name, with a leap second or without.
 pub fn listings_that_are_due()
-    ensures plain { (contents : ℕ → List ℕ) → IsDue (words_in (codes "encode wwvb 2024-02-29T12:34Z")) contents (Listing Wwvb 12_708_754 false) }
-    ensures leap { (contents : ℕ → List ℕ) → IsDue (words_in (codes "encode msf 2016-12-31T23:59Z --leap 1")) contents (Listing Msf 8_942_399 true) }
+    ensures plain { (contents : Contents) → IsDue (words_in (codes "encode wwvb 2024-02-29T12:34Z")) contents (Listing Wwvb 12_708_754 false) }
+    ensures leap { (contents : Contents) → IsDue (words_in (codes "encode msf 2016-12-31T23:59Z --leap 1")) contents (Listing Msf 8_942_399 true) }
 {}
 
 /// What words ask of a bank: a report, or a feed.
 pub fn what_is_asked()
-    ensures decode { AsksBank (words_in (codes "decode k.toml")) (record { config = codes "k.toml"; asked = asked_usually; as_feed = false }) }
+    ensures decode { AsksBank (words_in (codes "decode k.toml")) (record { config = codes "k.toml"; asked = asked_usually; wanted = orders.Report None }) }
     ensures feed { AsksBank (words_in (codes "feed k.toml --seconds 60 --start 7"))
-        (record { config = codes "k.toml"; asked = asked (Some 7) 60 0 52_596_000; as_feed = true }) }
+        (record { config = codes "k.toml"; asked = asked (Some 7) 60 0 52_596_000; wanted = orders.Sentences }) }
 {}
 
-/// A decode tells a report; so does a feed, unless the answer is decided.
-pub fn what_is_told()
+/// What a run writes is one text, which is added to standard output.
+pub fn what_is_written()
+    ensures refused { outputs_of (Refused WordsUsage) ≡ record { file = codes "-"; anew = false; text = line (codes "words: usage") } ∷ [] }
+{}
+
+/// A decode reports an answer; so does a feed, unless the answer is decided.
+pub fn what_is_reported()
     ensures decoded { (window : Window) (bank : Bank) (q : Sequence) (next : Option ℕ)
-        → told_of false window bank (answer.Decided 7 q next) ≡ Report window (answer.Decided 7 q next) (duts_of window bank (answer.Decided 7 q next)) }
-    ensures fed { (window : Window) (bank : Bank) (q : Sequence) (next : Option ℕ) → told_of true window bank (answer.Decided 7 q next) ≡ Feed window q }
+        → reported (orders.Report None) window bank (answer.Decided 7 q next) ≡ Report window (answer.Decided 7 q next) (duts_of window bank (answer.Decided 7 q next)) }
+    ensures fed { (window : Window) (bank : Bank) (q : Sequence) (next : Option ℕ) → reported orders.Sentences window bank (answer.Decided 7 q next) ≡ Feed window q }
     ensures tie { (window : Window) (bank : Bank) (q r : Sequence)
-        → told_of true window bank (answer.Undecided 7 q r) ≡ Report window (answer.Undecided 7 q r) [] }
-    ensures nothing { (window : Window) (bank : Bank) → told_of true window bank answer.Nothing ≡ Report window answer.Nothing [] }
+        → reported orders.Sentences window bank (answer.Undecided 7 q r) ≡ Report window (answer.Undecided 7 q r) [] }
+    ensures nothing { (window : Window) (bank : Bank) → reported orders.Sentences window bank answer.Nothing ≡ Report window answer.Nothing [] }
 {}
 
 /// A configuration that is refused, whatever the logs hold: for its size, and for the weight of its first receiver.
@@ -119,9 +127,9 @@ pub fn bad_logs()
     ensures first { (config second : List ℕ) → IsConfiguration config two_receivers
         → IsDue (words_in (codes "feed k.toml")) (held config (line (codes "12 L") ++ line (codes "12 H")) second) (Refused (LogLine 1 (codes "north") 2 NotRising)) }
     ensures read { (config second : List ℕ) → IsConfiguration config two_receivers
-        → IsRead (words_in (codes "feed k.toml")) (held config (line (codes "12 L")) second) 2 (codes "s.log") }
+        → IsRead (words_in (codes "feed k.toml")) (held config (line (codes "12 L")) second) (LogOf 2) (codes "s.log") }
     ensures not_read { (config second : List ℕ) → IsConfiguration config two_receivers
-        → ¬ (IsRead (words_in (codes "feed k.toml")) (held config (line (codes "12 L") ++ line (codes "12 H")) second) 2 (codes "s.log")) }
+        → ¬ (IsRead (words_in (codes "feed k.toml")) (held config (line (codes "12 L") ++ line (codes "12 H")) second) (LogOf 2) (codes "s.log")) }
     ensures text { text_of (Refused (LogLine 2 (codes "south") 2 NotRising)) ≡ line (codes "log 2 south: line 2: not rising") }
 {}
 
@@ -158,6 +166,6 @@ pub fn bank_of_a_trial()
 
 /// What is due of trial 5: two receivers of MSF heard what was sent from 2009-07-04T05:35Z on, from second 5 of that minute.
 pub fn trial_that_is_due()
-    ensures { (contents : ℕ → List ℕ) (a : Answer) → IsBankAnswer (window_of trial_asked (trial_bank 5).receivers) (trial_bank 5) a
+    ensures { (contents : Contents) (a : Answer) → IsBankAnswer (window_of trial_asked (trial_bank 5).receivers) (trial_bank 5) a
         → IsDue (words_in (codes "trial 5 --workers 2")) contents (Trial 5 Msf 2 (record { first = 5_000_015; second = 5; announced = false }) a) }
 {}

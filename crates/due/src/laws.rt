@@ -19,43 +19,44 @@ ghost use Rattle.due.specs.Configurations.{IsBadConfiguration, IsConfiguration};
 ghost use Rattle.due.specs.Dues.{status_of};
 ghost use Rattle.due.specs.LogFiles.{AreGood, IsFirstBad, LogFile};
 ghost use Rattle.due.specs.Orders.{BankOrder, order_in};
-ghost use Rattle.due.specs.Rules.{AsksBank, IsDue, IsRead, configuration};
+ghost use Rattle.due.specs.Inputs.{Configuration, Contents, Input};
+ghost use Rattle.due.specs.Rules.{AsksBank, IsDue, IsRead};
 
 /// For all words and contents of files there is something due.
 pub fn something_is_due()
-    ensures { (words : List (List ℕ)) (contents : ℕ → List ℕ) → (due : Due) × IsDue words contents due }
+    ensures { (words : List (List ℕ)) (contents : Contents) → (due : Due) × IsDue words contents due }
 {}
 
 /// And there is only one thing due, so one text and one status.
 pub fn due_is_one()
-    ensures { (words : List (List ℕ)) (contents : ℕ → List ℕ) (a b : Due)
+    ensures { (words : List (List ℕ)) (contents : Contents) (a b : Due)
         → IsDue words contents a → IsDue words contents b → a ≡ b }
 {}
 
 /// Where two contents agree on all that is read for the one, the same is due for both, and the same files are read.
 pub fn reads_decide()
-    ensures due { (words : List (List ℕ)) (some other : ℕ → List ℕ)
-        → ((number : ℕ) (file : List ℕ) → IsRead words some number file → some number ≡ other number)
+    ensures due { (words : List (List ℕ)) (some other : Contents)
+        → ((input : Input) (file : List ℕ) → IsRead words some input file → some input ≡ other input)
         → (due : Due) → IsDue words some due ↔ IsDue words other due }
-    ensures reads { (words : List (List ℕ)) (some other : ℕ → List ℕ)
-        → ((number : ℕ) (file : List ℕ) → IsRead words some number file → some number ≡ other number)
-        → (number : ℕ) (file : List ℕ) → IsRead words some number file ↔ IsRead words other number file }
+    ensures reads { (words : List (List ℕ)) (some other : Contents)
+        → ((input : Input) (file : List ℕ) → IsRead words some input file → some input ≡ other input)
+        → (input : Input) (file : List ℕ) → IsRead words some input file ↔ IsRead words other input file }
 {}
 
 /// Words that ask something of a bank read its configuration first, and as that nothing else; where it is bad, they read no
 /// log. Words that are refused, ask for a listing or ask for a trial read no file.
 pub fn configuration_is_read_first()
-    ensures read { (words : List (List ℕ)) (contents : ℕ → List ℕ) (o : BankOrder) → AsksBank words o → IsRead words contents configuration o.config }
-    ensures only { (words : List (List ℕ)) (contents : ℕ → List ℕ) (o : BankOrder) (file : List ℕ) → AsksBank words o
-        → IsRead words contents configuration file → file ≡ o.config }
-    ensures bad { (words : List (List ℕ)) (contents : ℕ → List ℕ) (o : BankOrder) (refusal : Refusal) (number : ℕ) (file : List ℕ) → AsksBank words o
-        → IsBadConfiguration (contents configuration) refusal → IsRead words contents number file → (number ≡ configuration) × (file ≡ o.config) }
-    ensures refused { (words : List (List ℕ)) (contents : ℕ → List ℕ) (fault : WordFault) (number : ℕ) (file : List ℕ)
-        → order_in words ≡ Err fault → ¬ (IsRead words contents number file) }
-    ensures listing { (words : List (List ℕ)) (contents : ℕ → List ℕ) (station : Station) (minute : ℕ) (announced : Bool) (number : ℕ) (file : List ℕ)
-        → order_in words ≡ Ok (Encode station minute announced) → ¬ (IsRead words contents number file) }
-    ensures trial { (words : List (List ℕ)) (contents : ℕ → List ℕ) (trial workers number : ℕ) (file : List ℕ)
-        → order_in words ≡ Ok (Trial trial workers) → ¬ (IsRead words contents number file) }
+    ensures read { (words : List (List ℕ)) (contents : Contents) (o : BankOrder) → AsksBank words o → IsRead words contents Configuration o.config }
+    ensures only { (words : List (List ℕ)) (contents : Contents) (o : BankOrder) (file : List ℕ) → AsksBank words o
+        → IsRead words contents Configuration file → file ≡ o.config }
+    ensures bad { (words : List (List ℕ)) (contents : Contents) (o : BankOrder) (refusal : Refusal) (input : Input) (file : List ℕ) → AsksBank words o
+        → IsBadConfiguration (contents Configuration) refusal → IsRead words contents input file → (input ≡ Configuration) × (file ≡ o.config) }
+    ensures refused { (words : List (List ℕ)) (contents : Contents) (fault : WordFault) (input : Input) (file : List ℕ)
+        → order_in words ≡ Err fault → ¬ (IsRead words contents input file) }
+    ensures listing { (words : List (List ℕ)) (contents : Contents) (station : Station) (minute : ℕ) (announced : Bool) (input : Input) (file : List ℕ)
+        → order_in words ≡ Ok (Encode station minute announced) → ¬ (IsRead words contents input file) }
+    ensures trial { (words : List (List ℕ)) (contents : Contents) (trial workers : ℕ) (input : Input) (file : List ℕ)
+        → order_in words ≡ Ok (Trial trial workers) → ¬ (IsRead words contents input file) }
 {}
 
 /// Accepted words that ask something of a bank ask one thing, in its ranges.
@@ -72,9 +73,9 @@ pub fn no_failure_is_due()
 
 /// Words that speak of a certificate are refused: those of a check, and those of a decode that is asked for one.
 pub fn certificates_are_refused()
-    ensures check { (words : List (List ℕ)) (contents : ℕ → List ℕ) (config certificate : List ℕ) (asked : Asked)
+    ensures check { (words : List (List ℕ)) (contents : Contents) (config certificate : List ℕ) (asked : Asked)
         → order_of run_commands words ≡ Ok (Check config certificate asked) → IsDue words contents (Refused WordsUsage) }
-    ensures decode { (words : List (List ℕ)) (contents : ℕ → List ℕ) (config certificate : List ℕ) (asked : Asked) (workers : ℕ)
+    ensures decode { (words : List (List ℕ)) (contents : Contents) (config certificate : List ℕ) (asked : Asked) (workers : ℕ)
         → order_of run_commands words ≡ Ok (Decode config asked workers (Some certificate)) → IsDue words contents (Refused WordsUsage) }
 {}
 
@@ -90,12 +91,12 @@ pub fn configuration_has_one_outcome()
 /// Logs that are read in their order are all good, of one list of records each, or there is a first bad one, which is
 /// refused in one way.
 pub fn logs_have_one_outcome()
-    ensures some { (contents : ℕ → List ℕ) (logs : List LogFile)
+    ensures some { (contents : Contents) (logs : List LogFile)
         → ((all : List Records) × AreGood contents logs all) ⊎ ((refusal : Refusal) × IsFirstBad contents logs refusal) }
-    ensures one_list { (contents : ℕ → List ℕ) (logs : List LogFile) (a b : List Records)
+    ensures one_list { (contents : Contents) (logs : List LogFile) (a b : List Records)
         → AreGood contents logs a → AreGood contents logs b → a ≡ b }
-    ensures one_refusal { (contents : ℕ → List ℕ) (logs : List LogFile) (a b : Refusal)
+    ensures one_refusal { (contents : Contents) (logs : List LogFile) (a b : Refusal)
         → IsFirstBad contents logs a → IsFirstBad contents logs b → a ≡ b }
-    ensures not_both { (contents : ℕ → List ℕ) (logs : List LogFile) (all : List Records) (refusal : Refusal)
+    ensures not_both { (contents : Contents) (logs : List LogFile) (all : List Records) (refusal : Refusal)
         → AreGood contents logs all → ¬ (IsFirstBad contents logs refusal) }
 {}

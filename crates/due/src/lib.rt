@@ -19,7 +19,8 @@ pub use duts::{Duts, MOST_STATIONS};
 pub use examples::{
     bad_configurations, bad_logs, bank_of_a_trial, first_times_of_logs, listings_that_are_due,
     logs_of_two_receivers, numbers_of_statuses, stations_of_a_bank, statuses_of_what_is_due,
-    trial_that_is_due, what_is_asked, what_is_told, windows_of_a_bank, words_that_are_refused,
+    trial_that_is_due, what_is_asked, what_is_reported, what_is_written, windows_of_a_bank,
+    words_that_are_refused,
 };
 pub use laws::{
     certificates_are_refused, configuration_has_one_outcome, configuration_is_read_first,

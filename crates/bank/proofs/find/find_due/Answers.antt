@@ -13,7 +13,7 @@ use Rattle.bank.specs.Loading.{IsNotLoaded}
 use Rattle.bank.specs.Tasks.{Asks}
 use Rattle.bank.proofs.EntryLaws.{bank_in_order, told_in_order}
 use Rattle.bank.proofs.FindingLaws.{answer_found, failure_found, listing_found, refusal_found, trial_found}
-use Rattle.bank.proofs.RunLaws.{verdict_told}
+use Rattle.bank.proofs.RunLaws.{decoded_reported}
 use Rattle.bank.proofs.find.find_due.Goals as goal
 
 pub returns-in-List-clause-due : goal.returns-in-List-clause-due
@@ -28,17 +28,17 @@ returns-in-Try-clause-due g c =
     IfOk-weaker c.trial_due.result (IsTried t.number) (λ (due : Due). (words : List (List ℕ)) → Asks words c.args.task.now → IsFound old words due)
     (λ due is words asks. trial_found old words t.number t.workers due (subst (λ (task : Task). Asks words task) t.is asks) is) c.trial_due.ensures.due
 
-pub returns-in_ok-verdict-in-Ok-clause-due : goal.returns-in_ok-verdict-in-Ok-clause-due
-returns-in_ok-verdict-in-Ok-clause-due g c = λ words asks.
+pub returns-in_ok-decoded-in-Ok-clause-due : goal.returns-in_ok-decoded-in-Ok-clause-due
+returns-in_ok-decoded-in-Ok-clause-due g c = λ words asks.
     let d = c.in-Decode in
     let o : BankOrder = record { config = d.config.now; asked = d.asked; as_feed = d.as_feed } in
     let seen = bank_seen c.in_ok-bank-in-Ok.bank in
-    let is = c.in_ok-verdict-in-Ok.ensures.verdict in
+    let is = c.in_ok-decoded-in-Ok.ensures.decoded in
     let (config, logs, loaded, order) = c.in-Ok.ensures.loaded in
     let same = c.in_ok-bank-in-Ok.ensures.bank ∙ bank_in_order config logs (plain_config c.in-Ok.loaded.config) c.in-Ok.loaded.logs.items order in
     answer_found words o (subst (λ (t : Task). Asks words t) d.is asks) (g.F.Files.view c.args.files.now) config logs c.told_of.result loaded
     (told_in_order o (bank_of config logs) c.told_of.result
-    (verdict_told o (ordered (bank_of config logs)) seen c.in_ok-verdict-in-Ok.verdict c.told_of.result same is (c.told_of.ensures.told seen is.duts_are)))
+    (decoded_reported o (ordered (bank_of config logs)) seen c.in_ok-decoded-in-Ok.decoded c.told_of.result same is (c.told_of.ensures.told seen is.duts_are)))
 
 pub returns-in-Refused-clause-due : goal.returns-in-Refused-clause-due
 returns-in-Refused-clause-due g c = λ words asks.

@@ -1,11 +1,14 @@
 -- The receivers of a configuration with their logs.
 use Rattle.std.proofs.Common.{List, length, All, map, ap, sym, ◌∙◌, subst, arith}
 use Rattle.signal_base.specs.declared.tuning.Tuning.{Tuning}
+use Rattle.std.specs.List.Sorted.{IsNonDecreasingBy}
 use Rattle.signal_base.specs.Limits.{IsTuned}
+use Rattle.signal_base.specs.Number.{number_of}
 use Rattle.definitions.specs.heard.Receivers.{Receiver}
 use Rattle.due.specs.Banks.{Bank}
 use Rattle.bank.proofs.HearingLaws.{all_tuned, receivers_from}
 use Rattle.bank.proofs.LogListLaws.{length_map}
+use Rattle.bank.proofs.RiseLaws.{rises_map}
 use Rattle.bank.proofs.hearing.bank_of.Goals as goal
 
 pub returns-clause-bank : goal.returns-clause-bank
@@ -30,4 +33,5 @@ returns-clause-in_range c =
       tuned = subst (λ (ts : List Tuning). All IsTuned ts) (sym tunings) (all_tuned rs c.requires.in_range.receivers);
       priced = c.requires.in_range.priced;
       ceiling = c.requires.in_range.ceiling;
+      in_order = subst (IsNonDecreasingBy number_of) (sym stations) (rises_map (λ r. r.station) number_of rs c.args.loaded.in_order);
     }

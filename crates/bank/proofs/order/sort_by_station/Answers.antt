@@ -13,3 +13,7 @@ returns-clause-order c =
     sorted (λ e. e.0.station) c.args.pairs.now.items c.sort_by_key.new.self.items (IsNonDecreasingBy-from_sort_by_key (λ e. number_of e.0.station) _ rises (λ a r q k. search rules))
     (c.sort_by_key.ensures.stable (λ e. number_of e.0.station) (answers_always _ (λ a r. r ≡ number_of a.0.now.0.station) _ (λ f a r f' k. search rules))))
     c.sort_by_key.ensures.sorted
+
+pub returns-clause-rises : goal.returns-clause-rises
+returns-clause-rises c =
+    on_ok_weaker c.sort_by_key.result (λ rises. IsNonDecreasingBy-from_sort_by_key (λ e. number_of e.0.station) _ rises (λ a r q k. search rules)) c.sort_by_key.ensures.sorted

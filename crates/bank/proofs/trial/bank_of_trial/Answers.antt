@@ -1,11 +1,14 @@
 -- Each text is the log of its receiver.
-use Rattle.std.proofs.Common.{◌≡◌, ℕ, List, [], ◌∷◌, ◌++◌, ◌+◌, length, map, zero-add, refl, sym, ap, ◌∙◌, subst, arith}
+use Rattle.std.proofs.Common.{◌≡◌, ℕ, List, [], ◌∷◌, ◌++◌, ◌+◌, ◌-◌, All, length, map, zero-add, refl, sym, ap, ◌∙◌, subst, arith}
 use Rattle.std.specs.List.{range_with_len}
 use Rattle.std.proofs.lemmas.List.{length-append}
 use Rattle.std.proofs.lemmas.List.Elements.{All-append, All-cons, All-nil}
+use Rattle.std.proofs.lemmas.List.Sorted.{IsNonDecreasingBy-push}
 use Rattle.std.proofs.lemmas.List.FromFn.{map-range_with_len_more}
+use Rattle.signal_base.specs.declared.station.Station.{Station}
 use Rattle.signal_base.specs.declared.tuning.Tuning.{Tuning}
 use Rattle.signal_base.specs.Limits.{IsTuned}
+use Rattle.signal_base.specs.Number.{number_of}
 use Rattle.definitions.specs.heard.Receivers.{Receiver}
 use Rattle.formats.specs.LogLines.{IsLog}
 use Rattle.trial_log.specs.Trials.{trial_receivers, trial_records}
@@ -26,6 +29,7 @@ loop-i-preserved c =
     let ss = c.loop-i.stations.items in
     let ts = c.loop-i.tunings.items in
     let logs = c.loop-i.logs.items in
+    let IsSame : Station → Type 0 = λ s. s ≡ c.args.station in
     let tuning : Tuning = record { delay = 0; weight = 1 } in
     let e = text_is c.args.texts.now (λ t. t.items) number i c.index-texts-i.result c.requires.texts (omega arith) c.index-texts-i.is in
     let is = c.in-Ok.ensures.every_log (trial_records number i) (subst (λ (b : List ℕ). IsLog b (trial_records number i)) (sym (c.as_slice.ensures.value ∙ e)) (c.trials_are_logs.ensures.heard number i)) in
@@ -42,6 +46,9 @@ loop-i-preserved c =
       logs = ap length c.in_ok-push-3.ensures.items ∙ length-append logs (c.in-Ok.log ∷ []) ∙ ap (λ n. n + 1) inv.logs;
       tuned = rw c.in_ok-push-2.ensures.items
           (All-append IsTuned ts (tuning ∷ []) inv.tuned (All-cons IsTuned tuning [] (record { delay = omega arith; some_weight = omega arith; weight = omega arith }) (All-nil IsTuned)));
+      same = rw c.in_ok-push.ensures.items (All-append IsSame ss (c.args.station ∷ []) inv.same (All-cons IsSame c.args.station [] refl (All-nil IsSame)));
+      in_order = rw c.in_ok-push.ensures.items
+          (IsNonDecreasingBy-push number_of ss c.args.station inv.in_order (λ d some. let last = ap number_of (inv.same (length ss - 1) d (omega arith)) in omega arith));
     }
 
 pub returns-clause-bank : goal.returns-clause-bank
@@ -63,4 +70,5 @@ returns-clause-in_range c =
       tuned = inv.tuned;
       priced = c.default.ensures.priced;
       ceiling = omega arith;
+      in_order = inv.in_order;
     }

@@ -1,6 +1,8 @@
 use Rattle.std.proofs.Common.{◌≡◌, All, length, map}
 use Rattle.std.specs.List.{range_with_len}
+use Rattle.std.specs.List.Sorted.{IsNonDecreasingBy}
 use Rattle.signal_base.specs.Limits.{IsTuned}
+use Rattle.signal_base.specs.Number.{number_of}
 use Rattle.definitions.specs.heard.Receivers.{receptions}
 use Rattle.align.specs.Receivers.{receivers}
 use Rattle.due.specs.Trials.{trial_receiver}
@@ -13,4 +15,6 @@ invariant-loop-i l = record {
   tunings : length l.tunings.items ≡ l.i;
   logs : length l.logs.items ≡ l.i;
   tuned : All IsTuned l.tunings.items;
+  same : All (λ s. s ≡ l.station) l.stations.items;
+  in_order : IsNonDecreasingBy number_of l.stations.items;
 }

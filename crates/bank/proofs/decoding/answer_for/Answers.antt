@@ -4,8 +4,8 @@ use Rattle.definitions.specs.declared.answer.Answer.{Answer}
 use Rattle.definitions.specs.declared.sequence.Sequence.{Sequence}
 use Rattle.definitions.specs.answers.Answers.{IsWindowAnswer}
 use Rattle.field_tables.specs.Grids.{grid_costs}
-use Rattle.bank.proofs.VerdictLaws.{reportable, same_least}
-use Rattle.bank.proofs.verdict.answer_for.Goals as goal
+use Rattle.bank.proofs.DecodedLaws.{reportable, same_least}
+use Rattle.bank.proofs.decoding.answer_for.Goals as goal
 
 pub returns-clause-answer : goal.returns-clause-answer
 returns-clause-answer g c = λ costs have.

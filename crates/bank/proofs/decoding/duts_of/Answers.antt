@@ -8,7 +8,7 @@ use Rattle.symbol_cost.specs.Grid.{Grid, cost_at}
 use Rattle.plain_costs.proofs.GridLaws.{heard_station}
 use Rattle.due.specs.Banks.{costs_in, duts_of}
 use Rattle.bank.proofs.DutLaws.{at_most_four_grids, told_all}
-use Rattle.bank.proofs.verdict.duts_of.Goals as goal
+use Rattle.bank.proofs.decoding.duts_of.Goals as goal
 
 pub dut1-dut-requires-clause-heard : goal.dut1-dut-requires-clause-heard
 dut1-dut-requires-clause-heard c =

@@ -1,7 +1,7 @@
 use Rattle.std.proofs.Common.{◌≡◌, take, map, length}
 use Rattle.definitions.specs.heard.Costs.{dut_of}
 use Rattle.symbol_cost.specs.Grid.{cost_at}
-use Rattle.bank.proofs.verdict.duts_of.Given as goal
+use Rattle.bank.proofs.decoding.duts_of.Given as goal
 
 abbrev pub invariant-loop-i : goal.invariant-loop-i
 invariant-loop-i l = record {

@@ -10,7 +10,7 @@ ghost use Rattle.field_tables.specs.Grids.{AreGrids, HaveCosts};
 ghost use Rattle.texts.specs.Reportable.{IsReportable};
 ghost use Rattle.due.specs.Banks.{Bank as PlainBank, costs_in, duts_of};
 ghost use Rattle.bank.specs.declared.stop.Stop.TheVariants.{NoMemory};
-ghost use Rattle.bank.specs.Finding.{IsVerdict};
+ghost use Rattle.bank.specs.Finding.{IsDecoded};
 ghost use Rattle.bank.specs.Hearing.{IsBank, bank_seen};
 ghost use Rattle.bank.specs.Tasks.{AreWorkers};
 
@@ -32,7 +32,7 @@ use workers::Gate;
 
 /// The answer for a bank, and what was asked.
 #[derive(Debug, Drop)]
-pub struct Verdict {
+pub struct Decoded {
     /// The window.
     pub window: Window,
     /// The answer.
@@ -43,37 +43,60 @@ pub struct Verdict {
 
 /// Decodes what a bank heard in the window that is asked about. How many workers search, and in which order they come to
 /// what, doesn't matter.
-pub fn judge<R: Threads + Sync, G: Gate + Sync>(
+pub fn decode<R: Threads + Sync, G: Gate + Sync>(
     rt: &R,
     alloc: Global,
     civil: &Civil,
-    bank: Bank,
+    bank: &Bank,
     asked: &Asked,
     workers: u8,
     gate: &G,
-) -> Result<Verdict, Stop>
-    requires bank { IsBank bank }
+) -> Result<Decoded, Stop>
+    requires bank { IsBank bank.now }
     requires asked { IsAsked asked.now }
     requires workers { AreWorkers workers }
-    ensures verdict { IfOk result (IsVerdict asked.now (bank_seen bank)) }
-    ensures reportable { IfOk result (λ verdict. IsReportable verdict.window verdict.answer) }
+    ensures decoded { IfOk result (IsDecoded asked.now (bank_seen bank.now)) }
+    ensures reportable { IfOk result (λ decoded. IsReportable decoded.window decoded.answer) }
     ensures memory { IfErr result (λ stop. stop ≡ NoMemory) }
 {
-    let window = window_of(&bank, asked);
-    let ceiling = bank.ceiling;
+    let window = window_of(bank, asked);
     let grids = grids_of(alloc, bank, &window)?;
-    let answer = answer_for(
+    decode_window(
         rt,
         alloc,
         civil,
         grids.as_slice(),
-        &window,
-        ceiling,
+        window,
+        bank.ceiling,
         workers,
         gate,
-    )?;
-    let duts = duts_of(civil, grids.as_slice(), &window, &answer);
-    Ok(Verdict {
+    )
+}
+
+/// Decodes what the grids of a window's stations say.
+pub fn decode_window<R: Threads + Sync, G: Gate + Sync>(
+    rt: &R,
+    alloc: Global,
+    civil: &Civil,
+    grids: &[CostGrid],
+    window: Window,
+    ceiling: u32,
+    workers: u8,
+    gate: &G,
+) -> Result<Decoded, Stop>
+    requires window { IsWindow window }
+    requires grids { AreGrids window grids.now }
+    requires ceiling { ceiling ≤ GREATEST_COST }
+    requires workers { AreWorkers workers }
+    ensures window { IfOk result (λ decoded. decoded.window ≡ window) }
+    ensures answer { IfOk result (λ decoded. (costs : Costs) → HaveCosts window grids.now costs → IsWindowAnswer window costs ceiling decoded.answer) }
+    ensures duts { IfOk result (λ decoded. (bank : PlainBank) → HaveCosts window grids.now (costs_in window bank) → decoded.duts ≡ duts_of window bank decoded.answer) }
+    ensures reportable { IfOk result (λ decoded. IsReportable decoded.window decoded.answer) }
+    ensures memory { IfErr result (λ stop. stop ≡ NoMemory) }
+{
+    let answer = answer_for(rt, alloc, civil, grids, &window, ceiling, workers, gate)?;
+    let duts = duts_of(civil, grids, &window, &answer);
+    Ok(Decoded {
         window,
         answer,
         duts,

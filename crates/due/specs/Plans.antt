@@ -1,0 +1,34 @@
+-- What a command reads, owes and writes, in one value, so that how a run ends is said once for all commands.
+use Rattle.std.specs.Prelude.{ℕ, ◌≢◌, List, [], ◌∷◌}
+use Rattle.due.specs.declared.due.Due.{Due}
+use Rattle.due.specs.declared.status.Status.{Status}
+use Rattle.due.specs.Dues.{status_of}
+use Rattle.due.specs.Inputs.{Contents, Input}
+use Rattle.due.specs.Outputs.{EachOf, Output, outputs_of, standard_output}
+use Rattle.due.specs.Rules.{IsDue, IsRead}
+
+-- D is what can be due.
+pub record Plan (D : Type 0) : Type 1 where
+  -- this is due for what is read
+  pub owes : Contents → D → Type 0
+  -- for what is read, this file is read as this input
+  pub reads : Contents → Input → List ℕ → Type 0
+  -- the status with which a run ends that wrote what is due
+  pub status : D → Status
+  -- what it writes, in this order
+  pub outputs : D → List Output
+  -- the files that it may write, whatever is due, and that it writes no other
+  pub files : List (List ℕ)
+  pub no_other : (due : D) (file : List ℕ) → EachOf (λ name. file ≢ name) files → EachOf (λ o. file ≢ o.file) (outputs due)
+
+-- the plan of a run for its words
+abbrev pub run_plan : List (List ℕ) → Plan Due
+run_plan words =
+    record {
+      owes = IsDue words;
+      reads = IsRead words;
+      status = status_of;
+      outputs = outputs_of;
+      files = standard_output ∷ [];
+      no_other = λ due file other. other;
+    }
