@@ -43,9 +43,7 @@ impl<R: Threads + Sync, G: Gate + Sync> Job for Command<'_, R, G> {
     ghost can_be_written = { CanBeWritten };
 
     fn find<F: Files>(&self, files: &mut F) -> Result<Due, Stop> {
-        find_due(
-            self.rt, self.alloc, self.civil, self.task, files, self.gate,
-        )
+        find_due(self.rt, self.alloc, self.civil, self.task, files, self.gate)
     }
 
     fn deliver<F: Files>(&self, files: &mut F, due: &Due) -> Result<(), Failed> {

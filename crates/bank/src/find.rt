@@ -10,11 +10,11 @@ ghost use Rattle.bank.specs.Ending.{IsFound, SomeReadFails};
 ghost use Rattle.bank.specs.Finding.{CanBeWritten};
 ghost use Rattle.bank.specs.Tasks.{Asks, IsInRange, wanted_seen};
 
+use crate::decoding::{Decoded, decode};
 use crate::hearing::bank_of;
 use crate::loading::{Unloaded, load};
 use crate::stop::Stop;
 use crate::trial::trial_due;
-use crate::decoding::{Decoded, decode};
 use crate::words::{Task, Wanted};
 use bank_files::Files;
 use civil::Civil;

@@ -9,9 +9,9 @@ ghost use Rattle.bank.specs.Hearing.{IsBank, bank_seen};
 ghost use Rattle.bank.specs.Tasks.{AreWorkers};
 ghost use Rattle.bank.specs.declared.stop.Stop.TheVariants.{NoMemory};
 
+use crate::decoding::decode;
 use crate::hearing::Bank;
 use crate::stop::Stop;
-use crate::decoding::decode;
 use civil::Civil;
 use definitions::CENTURY_MINUTES;
 use due::Due;

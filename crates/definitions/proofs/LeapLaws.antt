@@ -119,9 +119,9 @@ pub leap_ends_lie_before_half_years : (t : ℕ) → is_leap_end t ≡ begins_hal
 unfolding begins ends day_at
 leap_ends_lie_before_half_years t = elim (cases_eq (t % 1440) 1439) [
   | inl last ↦
-    let day : (t + 1) / 1440 ≡ suc (t / 1440) = omega (arith, last) in
-    let hour : (t + 1) % 1440 / 60 ≡ 0 = omega (arith, last) in
-    let minute : (t + 1) % 60 ≡ 0 = omega (arith, last) in
-    rw (eq-eqb (t % 1440) 1439 last, day, hour, minute) (sym (at_midnight (next_day (day_at (t / 1440))) ∙ begins_after (day_at (t / 1440)) (dated (t / 1440))))
+      let day : (t + 1) / 1440 ≡ suc (t / 1440) = omega (arith, last) in
+      let hour : (t + 1) % 1440 / 60 ≡ 0 = omega (arith, last) in
+      let minute : (t + 1) % 60 ≡ 0 = omega (arith, last) in
+      rw (eq-eqb (t % 1440) 1439 last, day, hour, minute) (sym (at_midnight (next_day (day_at (t / 1440))) ∙ begins_after (day_at (t / 1440)) (dated (t / 1440))))
   | inr early ↦ rw (ne_eqb (t % 1440) 1439 early) (sym (at_another_time (utc_fields (t + 1)) (not_midnight (t + 1) (λ e. early (omega (arith, e))))))
 ]

@@ -1,5 +1,5 @@
 -- Something is due for all words and contents, and only one thing.
-use Rattle.std.proofs.Common.{◌≡◌, ℕ, ◌≤◌, ◌⊎◌, inl, inr, true, false, List, Option, Some, Ok, Err, refl, sym, ◌∙◌, ap, subst, arith}
+use Rattle.std.proofs.Common.{◌≡◌, ℕ, ◌≤◌, ◌⊎◌, inl, inr, true, List, Option, Some, Ok, Err, refl, sym, ◌∙◌, ap, subst, arith}
 use Rattle.definitions.specs.declared.answer.Answer.{Answer}
 use Rattle.definitions.specs.time.Calendar.{century_minutes}
 use Rattle.definitions.specs.heard.Logs.{Records}

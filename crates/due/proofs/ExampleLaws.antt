@@ -1,5 +1,5 @@
 -- What examples of refused words and of logs have in common.
-use Rattle.std.proofs.Common.{◌≡◌, ℕ, ◌<◌, inl, inr, false, true, List, [], ◌∷◌, ◌++◌, length, codes, None, Err, refl, subst, arith}
+use Rattle.std.proofs.Common.{◌≡◌, ℕ, ◌<◌, inl, inr, List, [], ◌∷◌, ◌++◌, length, codes, None, Err, refl, subst, arith}
 use Rattle.std.specs.Fmt.{digits}
 use Rattle.definitions.specs.declared.level.Level.TheVariants.{High, Low}
 use Rattle.formats.specs.Bytes.{line}
