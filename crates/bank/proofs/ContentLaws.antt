@@ -8,10 +8,10 @@ use Rattle.bank_files.specs.Seen.{ReadFails, Seen}
 use Rattle.bank_config.specs.Configuration.{PlainReceiver}
 use Rattle.due.specs.Configurations.{logs_from}
 use Rattle.due.specs.Inputs.{Configuration, Contents, Input, LogOf}
-use Rattle.due.specs.LogFiles.{AreGood, IsBad, IsFirstBad, IsGood, IsLogRead}
+use Rattle.due.specs.LogFiles.{AreGood, IsBad, IsFirstBad, IsGood, IsLogRead, LogFile}
 use Rattle.due.proofs.LogFileLaws.{good_not_bad}
 use Rattle.bank.specs.Ending.{MayHold}
-use Rattle.bank.specs.Loading.{AreRead, FailsAmong, IsRefusedAmong, LogsAgree, LogsMayBeRead, log_file}
+use Rattle.bank.specs.Loading.{AreRead, FailsAmong, IsRefusedAmong, log_file}
 
 -- the contents with these bytes as the log of receiver n
 abbrev pub with_bytes : Contents → ℕ → List ℕ → Contents
@@ -54,6 +54,15 @@ found_may_hold (Holds held) bytes found = found
 
 pub found_same : (t : Told) (a b : List ℕ) → a ≡ b → Finds t (λ held. b ≡ held) → Finds t (λ held. a ≡ held)
 found_same t a b e found = subst (λ (x : List ℕ). Finds t (λ held. x ≡ held)) (sym e) found
+
+-- The logs that are read for some contents agree with what is told of their files, or may be so.
+abbrev pub LogsAgree : Seen → Contents → List LogFile → Type 0
+LogsAgree old contents logs =
+    (input : Input) (file : List ℕ) → IsLogRead contents logs input file → Finds (old.told file) (λ bytes. contents input ≡ bytes)
+
+abbrev pub LogsMayBeRead : Seen → Contents → List LogFile → Type 0
+LogsMayBeRead old contents logs =
+    (input : Input) (file : List ℕ) → IsLogRead contents logs input file → MayHold (old.told file) (contents input)
 
 module _ (old : Seen) where
   agree_more : (contents : Contents) (n : ℕ) (r : PlainReceiver) (rs : List PlainReceiver) → Finds (old.told r.file) (λ held. contents (LogOf n) ≡ held)

@@ -1,18 +1,18 @@
 -- How the parts of a run make its end, whatever its plan.
-use Rattle.std.proofs.Common.{◌≡◌, ◌≢◌, ℕ, ◌≤◌, ◌⊎◌, List, [], ◌∷◌, Result, Ok, Err, inl, inr, refl, sym, ap, subst, arith}
-use Rattle.bank_files.specs.Told.{Finds, Tells, Told, output_name}
-use Rattle.bank_files.specs.Seen.{KeepsCounts, OnlyReads, OnlyWrites, SameCounts, Seen, Writes}
+use Rattle.std.proofs.Common.{◌≡◌, ◌≢◌, ℕ, ◌≤◌, ◌⊎◌, List, [], ◌∷◌, Result, Ok, Err, IfOk, inl, inr, refl, sym, ap, ◌∙◌, subst, arith}
+use Rattle.bank_files.specs.Told.{Tells, Told, output_name}
+use Rattle.bank_files.specs.Seen.{OnlyReads, SameCounts, Seen, Writes}
 use Rattle.bank_files.proofs.Chaining.{KeepsCounts-then, Seen-same}
 use Rattle.due.specs.declared.due.Due.{Due}
 use Rattle.due.specs.declared.status.Status.{Status}
 use Rattle.due.specs.Inputs.{Contents, Input}
-use Rattle.due.specs.Outputs.{EachOf, Output, SomeOf, printed}
+use Rattle.due.specs.Outputs.{printed}
 use Rattle.due.specs.Plans.{Plan}
 use Rattle.due.specs.Status.{code_of}
 use Rattle.due.specs.Dues.{text_of}
 use Rattle.bank.specs.declared.stop.Stop.{Stop}
 use Rattle.bank.specs.declared.stop.Stop.TheVariants.{Failed, NoMemory}
-use Rattle.bank.specs.Ending.{Agrees, AreTold, Delivers, DeliversDue, Ends, IsFound, IsWhole, LeavesOthers, OnlyWritesAmong, SomeReadFails, SomeWriteFails, WritesAll, WritesNothing, status_after}
+use Rattle.bank.specs.Ending.{Agrees, Delivers, DeliversDue, Ends, FindsDue, IsFound, OnlyWritesAmong, SomeReadFails, SomeWriteFails, WritesAll, WritesNothing, status_after}
 
 -- a run that only read wrote nothing
 pub writes_nothing : (old new : Seen) → OnlyReads old new → WritesNothing old new
@@ -64,6 +64,26 @@ module _ {D : Type 0} (plan : Plan D) where
     due_not_written e written =
         let all = from_the_beginning (Err e) written in
         (inl (due, found, all.cause), inr (due, found, all.front, all.others))
+
+  -- the same by what finding came to
+  module _ (old mid : Seen) (found : Result D Stop) (finds : FindsDue plan old mid found) where
+    err_is : (stop other : Stop) → found ≡ Err stop → found ≡ Err other → stop ≡ other
+    err_is stop other e f = cc
+
+    not_err : (due : D) (stop : Stop) → found ≡ Ok due → found ≡ Err stop → ⊥
+    not_err due stop e f = cc
+
+    pub stops : (stop : Stop) → found ≡ Err stop → Ends plan old mid (Err stop)
+    stops stop e =
+        due_not_found old mid stop finds.only (λ is. finds.failed (e ∙ ap Err is)) (λ other. finds.same_counts (λ f. other (err_is stop Failed e f)))
+
+    pub due_is_written : {E : Type 0} (new : Seen) (due : D) → found ≡ Ok due → WritesAll {E = E} (plan.outputs due) mid new (Ok tt) → Ends plan old new (Ok (plan.status due))
+    due_is_written {E} new due e written =
+        due_written {E = E} old mid new due (subst (λ r. IfOk r (IsFound plan old)) e finds.due) finds.only (finds.same_counts (not_err due Failed e)) written
+
+    pub due_is_not_written : {E : Type 0} (new : Seen) (due : D) (e : E) → found ≡ Ok due → WritesAll (plan.outputs due) mid new (Err e) → Ends plan old new (Err Failed)
+    due_is_not_written new due e is written =
+        due_not_written old mid new due (subst (λ r. IfOk r (IsFound plan old)) is finds.due) finds.only (finds.same_counts (not_err due Failed is)) e written
 
   -- A run whose status is neither 6 nor 7 delivered what is due.
   pub delivers_due : (old new : Seen) (r : Result Status Stop) (code : ℕ) → code ≡ code_of (status_after r) → Ends plan old new r

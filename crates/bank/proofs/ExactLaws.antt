@@ -7,7 +7,8 @@ use Rattle.due.specs.Configurations.{IsConfiguration, logs_of}
 use Rattle.due.specs.Inputs.{Configuration, Contents, Input, LogOf}
 use Rattle.due.specs.LogFiles.{IsGood, IsLogRead, LogFile}
 use Rattle.due.specs.Plans.{run_plan}
-use Rattle.due.specs.Rules.{IsDue, IsRead, Reads_configuration, Reads_log}
+use Rattle.due.specs.Loads.{Reads_configuration, Reads_log}
+use Rattle.due.specs.Rules.{IsDue, IsRead}
 use Rattle.due.proofs.DueLaws.{one_due}
 use Rattle.due.proofs.ReadLaws.{same_due}
 use Rattle.bank.specs.Ending.{Agrees, AreTold, Delivers, DeliversDue}
@@ -29,11 +30,11 @@ module _ (old : Seen) (words : List (List ℕ)) (some told : Contents) (agrees :
       (λ n f r. for_told n f (inr (later.0, subst (λ (b : List ℕ). IsGood b later.0) same later.1, r))) input file later.2
 
   all_same : (input : Input) (file : List ℕ) → IsRead words some input file → some input ≡ told input
-  all_same input file (Reads_configuration o asks e f) = same_here input file (Reads_configuration o asks e f) (Reads_configuration o asks e f)
-  all_same input file (Reads_log o asks config says read) =
-      let first = same_here Configuration o.config (Reads_configuration o asks refl refl) (Reads_configuration o asks refl refl) in
-      logs_same (logs_of config) (λ n f r. Reads_log o asks config says r)
-      (λ n f r. Reads_log o asks config (subst (λ (b : List ℕ). IsConfiguration b config) first says) r) input file read
+  all_same input file (o, asks, Reads_configuration e f) = same_here input file (o, asks, Reads_configuration e f) (o, asks, Reads_configuration e f)
+  all_same input file (o, asks, Reads_log config says read) =
+      let first = same_here Configuration o.config (o, asks, Reads_configuration refl refl) (o, asks, Reads_configuration refl refl) in
+      logs_same (logs_of config) (λ n f r. (o, asks, Reads_log config says r))
+      (λ n f r. (o, asks, Reads_log config (subst (λ (b : List ℕ). IsConfiguration b config) first says) r)) input file read
 
 -- where the contents are told, it is what is due for them
 pub run_exactly : (old new : Seen) (words : List (List ℕ)) (code : ℕ) → DeliversDue (run_plan words) old new code

@@ -1,5 +1,5 @@
 -- What the receivers of a station heard is a part of what all of them heard, where they stand in the order of their stations.
-use Rattle.std.proofs.Common.{◌≡◌, ℕ, suc, ◌+◌, ◌<◌, ◌≤◌, ◌==◌, nat_lt, ◌⊎◌, inl, inr, true, false, if◌then◌else◌, List, [], ◌∷◌, All, length, map, take, drop, get_or, refl, sym, ap, ◌∙◌, subst, arith}
+use Rattle.std.proofs.Common.{◌≡◌, ℕ, zero, suc, ◌+◌, ◌-◌, ◌<◌, ◌≤◌, ◌==◌, nat_lt, ◌⊎◌, inl, inr, true, false, List, [], ◌∷◌, length, take, drop, get_or, refl, sym, ap, ◌∙◌, arith}
 use Rattle.std.proofs.lemmas.Bool.{cases_lt}
 use Rattle.std.proofs.lemmas.Bool.Decides.{nat_tests}
 use Rattle.std.proofs.lemmas.List.{length-drop, length-take}
@@ -59,25 +59,25 @@ module _ (station : Station) where
   heard_part [] [] each up = refl
   heard_part [] (r ∷ rs) each up = absurd (omega arith)
   heard_part (s ∷ ss) [] each up = absurd (omega arith)
-  heard_part (s ∷ ss) (r ∷ rs) each up = by_place (cases_lt (number_of s) (number_of station)) (cases_lt (number_of station) (number_of s))
+  heard_part (s ∷ ss) (r ∷ rs) each up =
+      by_place (heard_part ss rs (omega arith) (rest_rises s ss up)) (cases_lt (number_of s) (number_of station)) (cases_lt (number_of station) (number_of s))
     where
-      by_place : (number_of s < number_of station) ⊎ (number_of station ≤ number_of s) → (number_of station < number_of s) ⊎ (number_of s ≤ number_of station)
-          → heard_of station (receivers (s ∷ ss) (r ∷ rs)) ≡ part_of station (s ∷ ss) (r ∷ rs)
-      by_place (inl before) at =
+      by_place : heard_of station (receivers ss rs) ≡ part_of station ss rs → (number_of s < number_of station) ⊎ (number_of station ≤ number_of s)
+          → (number_of station < number_of s) ⊎ (number_of s ≤ number_of station) → heard_of station (receivers (s ∷ ss) (r ∷ rs)) ≡ part_of station (s ∷ ss) (r ∷ rs)
+      by_place rest (inl before) at =
           let other : (number_of s == number_of station) ≡ false = grind arith in
           let is : nat_lt (number_of s) (number_of station) ≡ true = grind (arith, nat_tests) in
-          rw (other, is) (heard_part ss rs (omega arith) (rest_rises s ss up))
-      by_place (inr not_before) (inl behind) =
+          rw (other, is) rest
+      by_place rest (inr not_before) (inl behind) =
           let other : (number_of s == number_of station) ≡ false = grind arith in
           let is : nat_lt (number_of s) (number_of station) ≡ false = grind (arith, nat_tests) in
           let none = none_of ss (number_of s) behind (first_is_least s ss up) in
           rw (other, is, none) (none_heard ss rs (number_of s) behind (first_is_least s ss up))
-      by_place (inr not_before) (inr not_behind) =
+      by_place rest (inr not_before) (inr not_behind) =
           let same : (number_of s == number_of station) ≡ true = grind arith in
           let is : nat_lt (number_of s) (number_of station) ≡ false = grind (arith, nat_tests) in
           let least : AtLeast (number_of station) ss = λ i d below. let low = first_is_least s ss up i d below in omega arith in
           let none = none_before ss least in
-          let rest = heard_part ss rs (omega arith) (rest_rises s ss up) in
           rw (same, is, none) (ap (λ hs. r ∷ hs) (rw none at rest))
 
 -- a part of what was heard is what the parts of the two lists say
@@ -86,13 +86,13 @@ no_logs [] = refl
 no_logs (t ∷ ts) = refl
 
 drop_both : (n : ℕ) (ts : List Tuning) (logs : List Records) → drop n (receptions ts logs) ≡ receptions (drop n ts) (drop n logs)
-drop_both 0 ts logs = refl
+drop_both zero ts logs = refl
 drop_both (suc n) [] logs = refl
 drop_both (suc n) (t ∷ ts) [] = sym (no_logs (drop n ts))
 drop_both (suc n) (t ∷ ts) (l ∷ ls) = drop_both n ts ls
 
 take_both : (n : ℕ) (ts : List Tuning) (logs : List Records) → take n (receptions ts logs) ≡ receptions (take n ts) (take n logs)
-take_both 0 ts logs = refl
+take_both zero ts logs = refl
 take_both (suc n) [] logs = refl
 take_both (suc n) (t ∷ ts) [] = refl
 take_both (suc n) (t ∷ ts) (l ∷ ls) = ap (λ hs. record { tuning = t; log = l } ∷ hs) (take_both n ts ls)
@@ -102,6 +102,20 @@ pub part_of_both : (station : Station) (ss : List Station) (ts : List Tuning) (l
 part_of_both station ss ts logs =
     ap (take (count_of station ss)) (drop_both (count_before station ss) ts logs)
     ∙ take_both (count_of station ss) (drop (count_before station ss) ts) (drop (count_before station ss) logs)
+
+-- a part that is taken from its place on, up to the one behind it
+pub part_is : {X : Type 0} (station : Station) (ss : List Station) (xs part : List X) (from behind : ℕ) → from ≡ count_before station ss
+    → behind ≡ count_before station ss + count_of station ss → part ≡ take (behind - from) (drop from xs) → part ≡ part_of station ss xs
+part_is station ss xs part from behind first last is =
+    let many : behind - from ≡ count_of station ss = omega arith in
+    is ∙ ap (λ n. take n (drop from xs)) many ∙ ap (λ n. take (count_of station ss) (drop n xs)) first
+
+pub part_length : {X : Type 0} (station : Station) (ss : List Station) (xs : List X) → count_before station ss + count_of station ss ≤ length xs
+    → length (part_of station ss xs) ≡ count_of station ss
+part_length station ss xs within =
+    let taken = length-take (count_of station ss) (drop (count_before station ss) xs) in
+    let left = length-drop (count_before station ss) xs in
+    omega arith
 
 pub receptions_length : (ts : List Tuning) (logs : List Records) → length logs ≡ length ts → length (receptions ts logs) ≡ length ts
 receptions_length [] logs each = refl

@@ -1,5 +1,5 @@
 -- What is due for words that are refused is written, or a front of it.
-use Rattle.std.proofs.Common.{◌≡◌, ℕ, List, Result, Ok, Err, refl}
+use Rattle.std.proofs.Common.{◌≡◌, ℕ, List, [], Ok, Err, refl}
 use Rattle.formats.specs.declared.words.WordFault.{WordFault}
 use Rattle.formats.specs.declared.words.WordFault.TheVariants.{BadMinute, BadNumber, EmptyRange, Usage}
 use Rattle.bank_files.specs.Told.{output_name}

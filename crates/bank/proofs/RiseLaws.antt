@@ -1,5 +1,5 @@
 -- Lists that rise by a number.
-use Rattle.std.proofs.Common.{◌≡◌, ℕ, ◌≤◌, ◌<◌, List, [], ◌∷◌, length, map, get_or, ap, arith}
+use Rattle.std.proofs.Common.{ℕ, List, [], ◌∷◌, map, ap, arith}
 use Rattle.std.proofs.lemmas.List.{get_or-map}
 use Rattle.std.specs.List.Sorted.{IsNonDecreasingBy}
 use Rattle.bank.proofs.LogListLaws.{length_map}

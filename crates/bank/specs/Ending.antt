@@ -1,8 +1,8 @@
 -- How a run over files ends, whatever its command: what it reads, owes and writes is its plan. `old` and `new` are the files as
 -- the run found them and as it left them.
-use Rattle.std.specs.Prelude.{ℕ, ◌≡◌, ◌≢◌, ◌⊎◌, Bool, if◌then◌else◌, List, [], ◌∷◌, Result, Ok, Err, OnOk, OnErr}
+use Rattle.std.specs.Prelude.{ℕ, ◌≡◌, ◌≢◌, ◌⊎◌, if◌then◌else◌, List, [], ◌∷◌, Result, Ok, Err, IfOk, IsErrOf, OnOk, OnErr}
 use Rattle.bank_files.specs.Told.{Told, Untold, Missing, Holds, Finds, Tells, AppendsFront, appended, emptied}
-use Rattle.bank_files.specs.Seen.{KeepsCounts, ReadFails, SameCounts, Seen, WriteFails}
+use Rattle.bank_files.specs.Seen.{KeepsCounts, OnlyReads, ReadFails, SameCounts, Seen, WriteFails}
 use Rattle.due.specs.declared.status.Status.{Status}
 use Rattle.due.specs.declared.status.Status.TheVariants as statuses
 use Rattle.due.specs.Inputs.{Contents, Input}
@@ -107,6 +107,13 @@ module _ {D : Type 0} (plan : Plan D) where
   Ends old new (Ok status) = DeliversDue old new (code_of status) × SameCounts old new
   Ends old new (Err Failed) = (SomeWriteFails old new ⊎ SomeReadFails old new) × (WritesNothing old new ⊎ WritesFront old new)
   Ends old new (Err NoMemory) = WritesNothing old new × SameCounts old new
+
+-- what finding what is due came to: it only read
+pub record FindsDue {D : Type 0} (plan : Plan D) (old new : Seen) (found : Result D Stop) : Type 0 where
+  pub due : IfOk found (IsFound plan old)
+  pub failed : IsErrOf found Failed → SomeReadFails plan old new
+  pub same_counts : found ≢ Err Failed → SameCounts old new
+  pub only : OnlyReads old new
 
 -- the status of a run that ended so
 abbrev pub status_after : Result Status Stop → Status

@@ -5,9 +5,9 @@ use Rattle.formats.specs.declared.refusal.Refusal.{Refusal}
 use Rattle.bank_files.specs.Told.{Finds}
 use Rattle.bank_files.specs.Seen.{ReadFails, SameCounts, Seen}
 use Rattle.bank_config.specs.Configuration.{PlainConfig, PlainReceiver}
-use Rattle.due.specs.Configurations.{IsBadConfiguration, IsConfiguration, logs_of}
-use Rattle.due.specs.Inputs.{Configuration, Contents, Input}
-use Rattle.due.specs.LogFiles.{AreGood, IsBad, IsFirstBad, IsGood, IsLogRead, LogFile}
+use Rattle.due.specs.Inputs.{Contents, Input}
+use Rattle.due.specs.Loads.{IsBankLoaded, IsBankRead, IsBankRefused}
+use Rattle.due.specs.LogFiles.{IsBad, IsGood, LogFile}
 use Rattle.bank.specs.Ending.{MayHold}
 use Rattle.bank.specs.Order.{IsInOrder}
 use Rattle.bank.specs.declared.loading.Unloaded.{Unloaded}
@@ -58,61 +58,36 @@ AreNotRead old new number rs (Refused refusal) = IsRefusedAmong old number rs re
 AreNotRead old new number rs Failed = FailsAmong old new rs
 AreNotRead old new number rs NoMemory = SameCounts old new
 
--- The logs that are read for some contents agree with what is told of their files.
-abbrev pub LogsAgree : Seen → Contents → List LogFile → Type 0
-LogsAgree old contents logs =
-    (input : Input) (file : List ℕ) → IsLogRead contents logs input file → Finds (old.told file) (λ bytes. contents input ≡ bytes)
+-- what is read of a bank agrees with what is told of its files: each that is told is there, and holds it
+abbrev pub BankAgrees : Seen → List ℕ → Contents → Type 0
+BankAgrees old name contents =
+    (input : Input) (file : List ℕ) → IsBankRead name contents input file → Finds (old.told file) (λ bytes. contents input ≡ bytes)
 
-abbrev pub LogsMayBeRead : Seen → Contents → List LogFile → Type 0
-LogsMayBeRead old contents logs =
-    (input : Input) (file : List ℕ) → IsLogRead contents logs input file → MayHold (old.told file) (contents input)
+-- it may be so: each file that is told to hold something holds it
+abbrev pub BankMayBeRead : Seen → List ℕ → Contents → Type 0
+BankMayBeRead old name contents =
+    (input : Input) (file : List ℕ) → IsBankRead name contents input file → MayHold (old.told file) (contents input)
 
--- this is the configuration, and these are its logs, for some contents that agree with what is told of the files
-pub record Loads (old : Seen) (file : List ℕ) (config : PlainConfig) (logs : List Records) (contents : Contents) : Type 0 where
-  pub found : Finds (old.told file) (λ bytes. contents Configuration ≡ bytes)
-  pub says : IsConfiguration (contents Configuration) config
-  pub good : AreGood contents (logs_of config) logs
-  pub agree : LogsAgree old contents (logs_of config)
-
+-- this is the configuration of this name, and these are its logs, for some contents that agree with what is told
 abbrev pub IsLoaded : Seen → List ℕ → PlainConfig → List Records → Type 0
-IsLoaded old file config logs = (contents : Contents) × Loads old file config logs contents
+IsLoaded old name config records = (contents : Contents) × BankAgrees old name contents × IsBankLoaded contents config records
 
 -- the same, with the receivers and their logs in the order of stations
 abbrev pub IsLoadedInOrder : Seen → List ℕ → PlainConfig → List Records → Type 0
-IsLoadedInOrder old file ordered ordered_logs =
-    (config : PlainConfig) × (logs : List Records) × IsLoaded old file config logs × IsInOrder config logs ordered ordered_logs
+IsLoadedInOrder old name ordered ordered_logs =
+    (config : PlainConfig) × (logs : List Records) × IsLoaded old name config logs × IsInOrder config logs ordered ordered_logs
 
 -- for some such contents the configuration or the first bad log is refused so
-pub record RefusesConfiguration (old : Seen) (file : List ℕ) (refusal : Refusal) (contents : Contents) : Type 0 where
-  pub found : Finds (old.told file) (λ bytes. contents Configuration ≡ bytes)
-  pub bad : IsBadConfiguration (contents Configuration) refusal
-
-pub record RefusesLog (old : Seen) (file : List ℕ) (refusal : Refusal) (config : PlainConfig) (contents : Contents) : Type 0 where
-  pub found : Finds (old.told file) (λ bytes. contents Configuration ≡ bytes)
-  pub says : IsConfiguration (contents Configuration) config
-  pub bad : IsFirstBad contents (logs_of config) refusal
-  pub agree : LogsAgree old contents (logs_of config)
-
 abbrev pub IsRefusedLoading : Seen → List ℕ → Refusal → Type 0
-IsRefusedLoading old file refusal =
-    ((contents : Contents) × RefusesConfiguration old file refusal contents)
-    ⊎ ((config : PlainConfig) × (contents : Contents) × RefusesLog old file refusal config contents)
+IsRefusedLoading old name refusal = (contents : Contents) × BankAgrees old name contents × IsBankRefused contents refusal
 
--- a log of a good configuration couldn't be read, for some contents that may be so
-pub record FailsAtLog (old new : Seen) (file : List ℕ) (config : PlainConfig) (contents : Contents) (input : Input) (log : List ℕ) : Type 0 where
-  pub may_hold : MayHold (old.told file) (contents Configuration)
-  pub says : IsConfiguration (contents Configuration) config
-  pub read : IsLogRead contents (logs_of config) input log
-  pub may_be_read : LogsMayBeRead old contents (logs_of config)
-  pub fails : ReadFails log old new
-
+-- a file couldn't be read that is read for some contents that may be so
 abbrev pub FailsLoading : Seen → Seen → List ℕ → Type 0
-FailsLoading old new file =
-    ReadFails file old new
-    ⊎ ((config : PlainConfig) × (contents : Contents) × (input : Input) × (log : List ℕ) × FailsAtLog old new file config contents input log)
+FailsLoading old new name =
+    (contents : Contents) × (input : Input) × (file : List ℕ) × BankMayBeRead old name contents × IsBankRead name contents input file × ReadFails file old new
 
 -- nothing is loaded: the configuration or a log is refused, a file couldn't be read, or memory ran out
 abbrev pub IsNotLoaded : Seen → Seen → List ℕ → Unloaded → Type 0
-IsNotLoaded old new file (Refused refusal) = IsRefusedLoading old file refusal × SameCounts old new
-IsNotLoaded old new file Failed = FailsLoading old new file
-IsNotLoaded old new file NoMemory = SameCounts old new
+IsNotLoaded old new name (Refused refusal) = IsRefusedLoading old name refusal × SameCounts old new
+IsNotLoaded old new name Failed = FailsLoading old new name
+IsNotLoaded old new name NoMemory = SameCounts old new

@@ -1,6 +1,6 @@
 //! The grids of a window's stations, each made from what its receivers heard.
 
-ghost use Rattle.std.specs.Prelude.{◌≡◌, ◌+◌, ◌≤◌, ◌∷◌, [], ◌++◌, IfErr, IfOk, List, OnOk, length, ℕ};
+ghost use Rattle.std.specs.Prelude.{◌≡◌, ◌+◌, ◌-◌, ◌≤◌, ◌∷◌, [], ◌++◌, IfErr, IfOk, List, OnOk, drop, length, take, ℕ};
 ghost use Rattle.signal_base.specs.declared.station.Station.{Station};
 ghost use Rattle.definitions.specs.heard.Costs.{Costs, slot_cost};
 ghost use Rattle.definitions.specs.sequences.Windows.{IsWindow};
@@ -53,9 +53,9 @@ fn add_grid(
         let grid = CostGrid::make(
             alloc,
             station,
-            &bank.tunings[from..behind],
+            part(bank.tunings.as_slice(), from, behind),
             &bank.table,
-            &bank.logs[from..behind],
+            part(bank.logs.as_slice(), from, behind),
             window.start,
             window.phase,
             window.seconds,
@@ -63,6 +63,15 @@ fn add_grid(
         grids.push(grid)?;
     }
     Ok(())
+}
+
+// The entries of a list from one place up to another.
+fn part<T>(items: &[T], from: usize, behind: usize) -> &[T]
+    requires order { from ≤ behind }
+    requires within { behind ≤ length items.now }
+    ensures { result.now ≡ take (behind - from) (drop from items.now) }
+{
+    &items[from..behind]
 }
 
 // Where the receivers of a station stand in their order: the first place, and the one behind the last.

@@ -1,15 +1,16 @@
-//! A command in two halves, of which the first finds what is due and the second delivers it.
+//! How a command ends that has found what is due: by delivering it.
 
-ghost use Rattle.std.specs.Prelude.{◌≡◌, ◌≢◌, Err, IfOk, IsErrOf};
-ghost use Rattle.bank_files.specs.Seen.{OnlyReads, SameCounts};
+ghost use Rattle.std.specs.Prelude.{◌≡◌, IfOk};
+ghost use Rattle.bank_files.specs.Seen.{OnlyReads, Seen};
 ghost use Rattle.due.specs.Plans.{Plan};
-ghost use Rattle.bank.specs.Ending.{Ends, IsFound, OnlyWritesAmong, SomeReadFails, WritesAll};
+ghost use Rattle.bank.specs.Ending.{Ends, FindsDue, OnlyWritesAmong, WritesAll};
 
 use crate::stop::Stop;
 use bank_files::{Failed, Files};
 use due::Status;
 
-/// A command that is in order. What it reads, owes and writes is its plan.
+/// A command whose words are in order, as its end sees it: what is due is delivered. All files are read and all memory is
+/// taken while that is found, before; here no file is read, and no memory is taken.
 pub trait Job {
     /// What can be due, as a plain value.
     type Due: Drop;
@@ -17,22 +18,10 @@ pub trait Job {
     // what the command reads, owes and writes
     ghost plan: { Self → Plan Self.Due };
 
-    // the command is what its words ask for
-    ghost is_asked: { Self → Type 0 };
-
     // what is due can be written
     ghost can_be_written: { Self.Due → Type 0 };
 
-    /// Finds what is due. All files are read here, and all memory is taken here.
-    fn find<F: Files>(&self, files: &mut F) -> Result<Self::Due, Stop>
-        requires { is_asked self.now }
-        ensures due { IfOk result (IsFound (plan self.now) (F.view files.old)) }
-        ensures can_be_written { IfOk result can_be_written }
-        ensures failed { IsErrOf result Stop.Failed → SomeReadFails (plan self.now) (F.view files.old) (F.view files.new) }
-        ensures same_counts { result ≢ Err Stop.Failed → SameCounts (F.view files.old) (F.view files.new) }
-        ensures only { OnlyReads (F.view files.old) (F.view files.new) };
-
-    /// Writes what is due, one text after the other. No file is read here, and no memory is taken.
+    /// Writes what is due, one text after the other.
     fn deliver<F: Files>(&self, files: &mut F, due: &Self::Due) -> Result<(), Failed>
         requires { can_be_written due.now }
         ensures { WritesAll ((plan self.now).outputs due.now) (F.view files.old) (F.view files.new) result };
@@ -42,13 +31,17 @@ pub trait Job {
         ensures { result ≡ (plan self.now).status due.now };
 }
 
-/// Finds what is due, and delivers it.
-pub fn perform<J: Job, F: Files>(job: &J, files: &mut F) -> Result<Status, Stop>
-    requires { J.is_asked job.now }
-    ensures ends { Ends (J.plan job.now) (F.view files.old) (F.view files.new) result }
-    ensures only { OnlyWritesAmong (J.plan job.now).files (F.view files.old) (F.view files.new) }
+/// Delivers what was found due, and answers how the run ends, from the files as it found them.
+pub fn perform<J: Job, F: Files>(
+    job: &J,
+    files: &mut F,
+    found: Result<J::Due, Stop>,
+) -> Result<Status, Stop>
+    requires { IfOk found J.can_be_written }
+    ensures ends { (old : Seen) → FindsDue (J.plan job.now) old (F.view files.old) found → Ends (J.plan job.now) old (F.view files.new) result }
+    ensures only { (old : Seen) → OnlyReads old (F.view files.old) → OnlyWritesAmong (J.plan job.now).files old (F.view files.new) }
 {
-    let due = job.find(files)?;
+    let due = found?;
     job.deliver(files, &due)?;
     Ok(job.status(&due))
 }

@@ -12,6 +12,7 @@ ghost use Rattle.bank.specs.Ending.{AreTold, Delivers, DeliversDue, Ends, OnlyWr
 ghost use Rattle.bank.specs.Tasks.{Asks, IsInRange};
 
 use crate::command::Command;
+use crate::find::find_due;
 use crate::job::perform;
 use crate::stop::Stop;
 use crate::words::{Task, task_of, word_refusal};
@@ -104,7 +105,7 @@ fn refuse<F: Files>(words: &[String], fault: WordFault, files: &mut F) -> Result
     Ok(Status::BadWords)
 }
 
-// Does what the words ask for.
+// Finds what is due for what the words ask, and delivers it.
 fn carry_out_task<R: Threads + Sync, F: Files, G: Gate + Sync>(
     rt: &R,
     alloc: Global,
@@ -119,13 +120,10 @@ fn carry_out_task<R: Threads + Sync, F: Files, G: Gate + Sync>(
     ensures only { OnlyWritesAmong (run_plan (texts_of words.now)).files (F.view files.old) (F.view files.new) }
 {
     let civil = Civil::make(alloc)?;
+    let found = find_due(rt, alloc, &civil, task, files, gate);
     let command = Command {
-        rt,
-        alloc,
-        civil: &civil,
         words,
-        task,
-        gate,
+        civil: &civil,
     };
-    perform(&command, files)
+    perform(&command, files, found)
 }

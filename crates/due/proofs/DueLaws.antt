@@ -15,11 +15,12 @@ use Rattle.trial_log.specs.Trials.{trial_receivers, trial_sequence, trial_statio
 use Rattle.due.specs.declared.due.Due.{Due}
 use Rattle.due.specs.declared.due.Due.TheVariants as dues
 use Rattle.due.specs.Banks.{Bank, IsBankAnswer, bank_of, costs_in, window_of}
-use Rattle.due.specs.Configurations.{IsBadConfiguration, IsConfiguration, logs_of}
+use Rattle.due.specs.Configurations.{IsConfiguration, logs_of}
+use Rattle.due.specs.Loads.{IsBankLoaded, IsBankRefused, Bad_configuration, Bad_log}
 use Rattle.due.specs.Inputs.{Configuration, Contents}
 use Rattle.due.specs.LogFiles.{AreGood, IsFirstBad}
 use Rattle.due.specs.Orders.{BankOrder, Report, Sentences, bank_order, built, order_in, word_refusal}
-use Rattle.due.specs.Rules.{AsksBank, IsDue, Bad_words, Listed, Tried, Bad_configuration, Bad_log, Answered, IsReported, reported}
+use Rattle.due.specs.Rules.{AsksBank, IsDue, Bad_words, Listed, Tried, Bad_bank, Answered, IsReported, reported}
 use Rattle.due.specs.Trials.{trial_asked, trial_bank}
 use Rattle.due.proofs.WordLaws.{asked_of_bank, is_built, is_run}
 use Rattle.due.proofs.ConfigurationLaws as configurations
@@ -40,17 +41,11 @@ whole_century : trial_asked.to ≤ century_minutes
 whole_century = omega arith
 
 module _ (contents : Contents) where
-  -- what is due for a good configuration
-  abbrev IsDueFor : BankOrder → PlainConfig → Due → Type 0
-  IsDueFor o config due =
-      ((refusal : Refusal) × IsFirstBad contents (logs_of config) refusal × (due ≡ dues.Refused refusal))
-      ⊎ ((records : List Records) × AreGood contents (logs_of config) records × IsReported o (bank_of config records) due)
-
   -- what is due where a bank is asked about
   abbrev IsDueOfBank : BankOrder → Due → Type 0
   IsDueOfBank o due =
-      ((refusal : Refusal) × IsBadConfiguration (contents Configuration) refusal × (due ≡ dues.Refused refusal))
-      ⊎ ((config : PlainConfig) × IsConfiguration (contents Configuration) config × IsDueFor o config due)
+      ((refusal : Refusal) × IsBankRefused contents refusal × (due ≡ dues.Refused refusal))
+      ⊎ ((config : PlainConfig) × (records : List Records) × IsBankLoaded contents config records × IsReported o (bank_of config records) due)
 
   -- what is due for an order
   abbrev IsDueOfOrder : Order → Due → Type 0
@@ -77,9 +72,8 @@ module _ (contents : Contents) where
   rule words due (Bad_words fault is e) = subst (λ (c : Checked Order). IsDueBy c due) (sym is) e
   rule words due (Listed station minute announced is e) = subst (λ (c : Checked Order). IsDueBy c due) (sym is) e
   rule words due (Tried number workers is answer of e) = subst (λ (c : Checked Order). IsDueBy c due) (sym is) (answer, of, e)
-  rule words due (Bad_configuration o asks refusal bad e) = asked words o due asks (inl (refusal, bad, e))
-  rule words due (Bad_log o asks config is refusal bad e) = asked words o due asks (inr (config, is, inl (refusal, bad, e)))
-  rule words due (Answered o asks config is records good told) = asked words o due asks (inr (config, is, inr (records, good, told)))
+  rule words due (Bad_bank o asks refusal bad e) = asked words o due asks (inl (refusal, bad, e))
+  rule words due (Answered o asks config records loaded reported) = asked words o due asks (inr (config, records, loaded, reported))
 
   -- one thing is due
   same_refusal : (r s : Refusal) (x y : Due) → r ≡ s → x ≡ dues.Refused r → y ≡ dues.Refused s → x ≡ y
@@ -93,23 +87,35 @@ module _ (contents : Contents) where
   one_told o bank x y century h k =
       same_told o bank h.0 k.0 x y (bank_answer_is_one o.asked bank h.0 k.0 century h.1 k.1) h.2 k.2
 
-  one_due_for : (o : BankOrder) (config : PlainConfig) (x y : Due) → o.asked.to ≤ century_minutes → IsDueFor o config x → IsDueFor o config y → x ≡ y
-  one_due_for o config x y century (inl h) (inl k) =
-      same_refusal h.0 k.0 x y (first_bad_once contents (logs_of config) h.0 k.0 h.1 k.1) h.2 k.2
-  one_due_for o config x y century (inl h) (inr k) = absurd (all_good_none_bad contents (logs_of config) k.0 h.0 k.1 h.1)
-  one_due_for o config x y century (inr h) (inl k) = absurd (all_good_none_bad contents (logs_of config) h.0 k.0 h.1 k.1)
-  one_due_for o config x y century (inr h) (inr k) =
-      let same = all_good_once contents (logs_of config) h.0 k.0 h.1 k.1 in
-      one_told o (bank_of config k.0) x y century (subst (λ (all : List Records). IsReported o (bank_of config all) x) same h.2) k.2
+  -- a bank is refused in one way, or it is loaded, and one bank is
+  one_refusal : (r s : Refusal) → IsBankRefused contents r → IsBankRefused contents s → r ≡ s
+  one_refusal r s (Bad_configuration h) (Bad_configuration k) = configurations.one_refusal (contents Configuration) r s h k
+  one_refusal r s (Bad_configuration h) (Bad_log config is k) = absurd (configurations.not_both (contents Configuration) config r is h)
+  one_refusal r s (Bad_log config is h) (Bad_configuration k) = absurd (configurations.not_both (contents Configuration) config s is k)
+  one_refusal r s (Bad_log config is h) (Bad_log other also k) =
+      let same = configurations.one_configuration (contents Configuration) config other is also in
+      first_bad_once contents (logs_of other) r s (subst (λ (c : PlainConfig). IsFirstBad contents (logs_of c) r) same h) k
+
+  not_both : (config : PlainConfig) (records : List Records) (refusal : Refusal) → IsBankLoaded contents config records → IsBankRefused contents refusal → ⊥
+  not_both config records refusal loaded (Bad_configuration bad) = configurations.not_both (contents Configuration) config refusal loaded.says bad
+  not_both config records refusal loaded (Bad_log other is bad) =
+      let same = configurations.one_configuration (contents Configuration) other config is loaded.says in
+      all_good_none_bad contents (logs_of config) records refusal loaded.good (subst (λ (c : PlainConfig). IsFirstBad contents (logs_of c) refusal) same bad)
+
+  one_loaded : (o : BankOrder) (config other : PlainConfig) (records others : List Records) (x y : Due) → o.asked.to ≤ century_minutes
+      → IsBankLoaded contents config records → IsBankLoaded contents other others
+      → IsReported o (bank_of config records) x → IsReported o (bank_of other others) y → x ≡ y
+  one_loaded o config other records others x y century loaded also h k =
+      let same = configurations.one_configuration (contents Configuration) config other loaded.says also.says in
+      let alike = all_good_once contents (logs_of other) records others (subst (λ (c : PlainConfig). AreGood contents (logs_of c) records) same loaded.good) also.good in
+      one_told o (bank_of other others) x y century
+      (subst (λ (all : List Records). IsReported o (bank_of other all) x) alike (subst (λ (c : PlainConfig). IsReported o (bank_of c records) x) same h)) k
 
   one_due_of_bank : (o : BankOrder) (x y : Due) → o.asked.to ≤ century_minutes → IsDueOfBank o x → IsDueOfBank o y → x ≡ y
-  one_due_of_bank o x y century (inl h) (inl k) =
-      same_refusal h.0 k.0 x y (configurations.one_refusal (contents Configuration) h.0 k.0 h.1 k.1) h.2 k.2
-  one_due_of_bank o x y century (inl h) (inr k) = absurd (configurations.not_both (contents Configuration) k.0 h.0 k.1 h.1)
-  one_due_of_bank o x y century (inr h) (inl k) = absurd (configurations.not_both (contents Configuration) h.0 k.0 h.1 k.1)
-  one_due_of_bank o x y century (inr h) (inr k) =
-      let same = configurations.one_configuration (contents Configuration) h.0 k.0 h.1 k.1 in
-      one_due_for o k.0 x y century (subst (λ config. IsDueFor o config x) same h.2) k.2
+  one_due_of_bank o x y century (inl h) (inl k) = same_refusal h.0 k.0 x y (one_refusal h.0 k.0 h.1 k.1) h.2 k.2
+  one_due_of_bank o x y century (inl h) (inr k) = absurd (not_both k.0 k.1 h.0 k.2 h.1)
+  one_due_of_bank o x y century (inr h) (inl k) = absurd (not_both h.0 h.1 k.0 h.2 k.1)
+  one_due_of_bank o x y century (inr h) (inr k) = one_loaded o h.0 k.0 h.1 k.1 x y century h.2 k.2 h.3 k.3
 
   same_order : {A : Type 0} (a b : A) (found : Option A) → found ≡ Some a → found ≡ Some b → a ≡ b
   same_order a b found e f = cc
@@ -143,14 +149,14 @@ module _ (contents : Contents) where
   bank_owes words o asks = by_text (configurations.text_has_outcome (contents Configuration))
     where
       by_logs : (config : PlainConfig) → IsConfiguration (contents Configuration) config → AreJudged contents (logs_of config) → (due : Due) × IsDue words contents due
-      by_logs config is (inr bad) = (dues.Refused bad.0, Bad_log o asks config is bad.0 bad.1 refl)
+      by_logs config is (inr bad) = (dues.Refused bad.0, Bad_bank o asks bad.0 (Bad_log config is bad.1) refl)
       by_logs config is (inl good) =
           let bank = bank_of config good.0 in
           let found = bank_has_answer o.asked bank (asked_of_bank words o asks).century in
-          (reported o.wanted (window_of o.asked bank.receivers) bank found.0, Answered o asks config is good.0 good.1 (found.0, found.1, refl))
+          (reported o.wanted (window_of o.asked bank.receivers) bank found.0, Answered o asks config good.0 (record { says = is; good = good.1 }) (found.0, found.1, refl))
 
       by_text : configurations.HasOutcome (contents Configuration) → (due : Due) × IsDue words contents due
-      by_text (inr bad) = (dues.Refused bad.0, Bad_configuration o asks bad.0 bad.1 refl)
+      by_text (inr bad) = (dues.Refused bad.0, Bad_bank o asks bad.0 (Bad_configuration bad.1) refl)
       by_text (inl good) = by_logs good.0 good.1 (all_judged contents (logs_of good.0))
 
   order_owes : (words : List (List ℕ)) (order : Order) → order_in words ≡ Ok order → built order ≡ Ok order → is_run_order order ≡ true → (due : Due) × IsDue words contents due

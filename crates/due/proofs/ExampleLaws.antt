@@ -17,7 +17,8 @@ use Rattle.due.specs.Examples.{held, two_receivers}
 use Rattle.due.specs.Inputs.{Contents, LogOf}
 use Rattle.due.specs.LogFiles.{Bad_line, IsGood, IsLogRead, Too_large}
 use Rattle.due.specs.Orders.{BankOrder, Report, Sentences, order_in, word_refusal}
-use Rattle.due.specs.Rules.{AsksBank, IsDue, Bad_words, Bad_log, IsRead, Reads_configuration, Reads_log}
+use Rattle.due.specs.Loads.{Bad_log, Reads_configuration, Reads_log}
+use Rattle.due.specs.Rules.{AsksBank, IsDue, Bad_bank, Bad_words, IsRead}
 use Rattle.due.proofs.ConfigurationLaws.{one_configuration}
 use Rattle.due.proofs.LogFileLaws.{good_not_bad}
 
@@ -69,21 +70,20 @@ same_receiver m n e = cc
 module _ (config : List ℕ) (is : IsConfiguration config two_receivers) where
   pub second_bad : IsDue (words_in (codes "feed k.toml")) (held config good_log bad_log) (Refused (LogLine 2 (codes "south") 2 NotRising))
   second_bad =
-      Bad_log fed feed_asks two_receivers is (LogLine 2 (codes "south") 2 NotRising)
-      (inr ((12, Low) ∷ [], good, inl (Bad_line (omega arith) 2 NotRising second_line refl))) refl
+      Bad_bank fed feed_asks (LogLine 2 (codes "south") 2 NotRising) (Bad_log two_receivers is (inr ((12, Low) ∷ [], good, inl (Bad_line (omega arith) 2 NotRising second_line refl)))) refl
 
   pub second_large : (second : List ℕ) → 8_000_000 < length second
       → IsDue (words_in (codes "feed k.toml")) (held config good_log second) (Refused (LogTooLarge 2 (codes "south")))
   second_large second large =
-      Bad_log fed feed_asks two_receivers is (LogTooLarge 2 (codes "south")) (inr ((12, Low) ∷ [], good, inl (Too_large large refl))) refl
+      Bad_bank fed feed_asks (LogTooLarge 2 (codes "south")) (Bad_log two_receivers is (inr ((12, Low) ∷ [], good, inl (Too_large large refl)))) refl
 
   pub first_bad : (second : List ℕ)
       → IsDue (words_in (codes "feed k.toml")) (held config bad_log second) (Refused (LogLine 1 (codes "north") 2 NotRising))
   first_bad second =
-      Bad_log fed feed_asks two_receivers is (LogLine 1 (codes "north") 2 NotRising) (inl (Bad_line (omega arith) 2 NotRising second_line refl)) refl
+      Bad_bank fed feed_asks (LogLine 1 (codes "north") 2 NotRising) (Bad_log two_receivers is (inl (Bad_line (omega arith) 2 NotRising second_line refl))) refl
 
   pub second_read : (second : List ℕ) → IsRead (words_in (codes "feed k.toml")) (held config good_log second) (LogOf 2) (codes "s.log")
-  second_read second = Reads_log fed feed_asks two_receivers is (inr ((12, Low) ∷ [], good, inl (refl, refl)))
+  second_read second = (fed, feed_asks, Reads_log two_receivers is (inr ((12, Low) ∷ [], good, inl (refl, refl))))
 
   none_behind : (second : List ℕ) → IsLogRead (held config bad_log second) (logs_of two_receivers) (LogOf 2) (codes "s.log") → ⊥
   none_behind second (inl h) = absurd (omega (arith, same_receiver 2 1 h.0))
@@ -92,6 +92,6 @@ module _ (config : List ℕ) (is : IsConfiguration config two_receivers) where
       (Bad_line (omega arith) 2 NotRising second_line refl)
 
   pub second_not_read : (second : List ℕ) → ¬ (IsRead (words_in (codes "feed k.toml")) (held config bad_log second) (LogOf 2) (codes "s.log"))
-  second_not_read second (Reads_configuration o asks e f) = absurd cc
-  second_not_read second (Reads_log o asks other says read) =
+  second_not_read second (o, asks, Reads_configuration e f) = absurd cc
+  second_not_read second (o, asks, Reads_log other says read) =
       none_behind second (subst (λ (c : PlainConfig). IsLogRead (held config bad_log second) (logs_of c) (LogOf 2) (codes "s.log")) (one_configuration config other two_receivers says is) read)

@@ -10,12 +10,13 @@ use Rattle.due.specs.Configurations.{IsBadConfiguration, logs_from}
 use Rattle.due.specs.Inputs.{Configuration, Contents, Input, LogOf}
 use Rattle.due.specs.LogFiles.{IsLogRead}
 use Rattle.due.specs.Orders.{BankOrder, bank_order, order_in}
-use Rattle.due.specs.Rules.{AsksBank, IsRead, Reads_configuration, Reads_log}
+use Rattle.due.specs.Loads.{Reads_configuration, Reads_log}
+use Rattle.due.specs.Rules.{AsksBank, IsRead}
 use Rattle.due.proofs.ConfigurationLaws.{not_both}
 use Rattle.due.proofs.WordLaws.{bank_order_is_one}
 
 pub configuration_is_read : (words : List (List ℕ)) (contents : Contents) (o : BankOrder) → AsksBank words o → IsRead words contents Configuration o.config
-configuration_is_read words contents o asks = Reads_configuration o asks refl refl
+configuration_is_read words contents o asks = (o, asks, Reads_configuration refl refl)
 
 -- the file of what is asked
 same_file : (words : List (List ℕ)) (o p : BankOrder) (file : List ℕ) → AsksBank words o → AsksBank words p → file ≡ p.config → file ≡ o.config
@@ -32,20 +33,19 @@ no_log_as_configuration contents first (r ∷ rs) file (inr h) = no_log_as_confi
 
 pub nothing_else_as_configuration : (words : List (List ℕ)) (contents : Contents) (o : BankOrder) (file : List ℕ) → AsksBank words o
     → IsRead words contents Configuration file → file ≡ o.config
-nothing_else_as_configuration words contents o file asks (Reads_configuration p also e f) = same_file words o p file asks also f
-nothing_else_as_configuration words contents o file asks (Reads_log p also config is read) =
+nothing_else_as_configuration words contents o file asks (p, also, Reads_configuration e f) = same_file words o p file asks also f
+nothing_else_as_configuration words contents o file asks (p, also, Reads_log config is read) =
     absurd (no_log_as_configuration contents 1 config.receivers file read)
 
 pub no_log_of_a_bad_configuration : (words : List (List ℕ)) (contents : Contents) (o : BankOrder) (refusal : Refusal) (input : Input) (file : List ℕ) → AsksBank words o
     → IsBadConfiguration (contents Configuration) refusal → IsRead words contents input file → (input ≡ Configuration) × (file ≡ o.config)
-no_log_of_a_bad_configuration words contents o refusal input file asks bad (Reads_configuration p also e f) = (e, same_file words o p file asks also f)
-no_log_of_a_bad_configuration words contents o refusal input file asks bad (Reads_log p also config is read) =
+no_log_of_a_bad_configuration words contents o refusal input file asks bad (p, also, Reads_configuration e f) = (e, same_file words o p file asks also f)
+no_log_of_a_bad_configuration words contents o refusal input file asks bad (p, also, Reads_log config is read) =
     absurd (not_both (contents Configuration) config refusal is bad)
 
 -- who reads asks something of a bank
 asks : (words : List (List ℕ)) (contents : Contents) (input : Input) (file : List ℕ) → IsRead words contents input file → (o : BankOrder) × AsksBank words o
-asks words contents input file (Reads_configuration o is e f) = (o, is)
-asks words contents input file (Reads_log o is config good read) = (o, is)
+asks words contents input file (o, is, read) = (o, is)
 
 ok_or_err : (c : Checked Order) (order : Order) (fault : WordFault) → c ≡ Ok order → c ≡ Err fault → ⊥
 ok_or_err c order fault e f = cc

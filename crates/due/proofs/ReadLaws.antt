@@ -7,8 +7,8 @@ use Rattle.due.specs.declared.due.Due.{Due}
 use Rattle.due.specs.Configurations.{IsBadConfiguration, IsConfiguration, logs_of}
 use Rattle.due.specs.Inputs.{Configuration, Contents, Input, LogOf}
 use Rattle.due.specs.LogFiles.{AreGood, IsBad, IsFirstBad, IsGood, IsLogRead, LogFile}
-use Rattle.due.specs.Orders.{BankOrder}
-use Rattle.due.specs.Rules.{AsksBank, IsDue, Bad_words, Listed, Tried, Bad_configuration, Bad_log, Answered, IsRead, Reads_configuration, Reads_log}
+use Rattle.due.specs.Loads.{IsBankLoaded, IsBankRead, IsBankRefused, Bad_configuration, Bad_log, Reads_configuration, Reads_log}
+use Rattle.due.specs.Rules.{IsDue, Bad_words, Listed, Tried, Bad_bank, Answered, IsRead}
 
 module _ (some other : Contents) where
   -- they agree on the logs that are read
@@ -47,44 +47,55 @@ module _ (some other : Contents) where
       let good = subst (λ bytes. IsGood bytes h.0) (sym (first_agrees log logs agree)) h.1 in
       inr (h.0, good, read_back logs input file (rest_agrees log logs h.0 good agree) h.2)
 
+-- they agree on all that is read of a bank
+module _ (name : List ℕ) (some other : Contents) (agree : (input : Input) (file : List ℕ) → IsBankRead name some input file → some input ≡ other input) where
+  same_configuration : some Configuration ≡ other Configuration
+  same_configuration = agree Configuration name (Reads_configuration refl refl)
+
+  is_too : (config : PlainConfig) → IsConfiguration (some Configuration) config → IsConfiguration (other Configuration) config
+  is_too config is = subst (λ bytes. IsConfiguration bytes config) same_configuration is
+
+  is_back : (config : PlainConfig) → IsConfiguration (other Configuration) config → IsConfiguration (some Configuration) config
+  is_back config is = subst (λ bytes. IsConfiguration bytes config) (sym same_configuration) is
+
+  on_logs : (config : PlainConfig) → IsConfiguration (some Configuration) config → AgreeOnLogs some other (logs_of config)
+  on_logs config is input file read = agree input file (Reads_log config is read)
+
+  pub loaded_too : (config : PlainConfig) (records : List Records) → IsBankLoaded some config records → IsBankLoaded other config records
+  loaded_too config records is = record { says = is_too config is.says; good = good_too some other (logs_of config) records (on_logs config is.says) is.good }
+
+  pub refused_too : (refusal : Refusal) → IsBankRefused some refusal → IsBankRefused other refusal
+  refused_too refusal (Bad_configuration bad) = Bad_configuration (subst (λ bytes. IsBadConfiguration bytes refusal) same_configuration bad)
+  refused_too refusal (Bad_log config is bad) = Bad_log config (is_too config is) (bad_too some other (logs_of config) refusal (on_logs config is) bad)
+
+  pub bank_read_too : (input : Input) (file : List ℕ) → IsBankRead name some input file → IsBankRead name other input file
+  bank_read_too input file (Reads_configuration e f) = Reads_configuration e f
+  bank_read_too input file (Reads_log config is read) = Reads_log config (is_too config is) (read_too some other (logs_of config) input file (on_logs config is) read)
+
+  pub bank_read_back : (input : Input) (file : List ℕ) → IsBankRead name other input file → IsBankRead name some input file
+  bank_read_back input file (Reads_configuration e f) = Reads_configuration e f
+  bank_read_back input file (Reads_log config is read) =
+      let here = is_back config is in
+      Reads_log config here (read_back some other (logs_of config) input file (on_logs config here) read)
+
 -- the contents agree on all that is read for the one
 abbrev pub Agree : List (List ℕ) → Contents → Contents → Type 0
 Agree words some other = (input : Input) (file : List ℕ) → IsRead words some input file → some input ≡ other input
 
 module _ (words : List (List ℕ)) (some other : Contents) (agree : Agree words some other) where
-  same_configuration : (o : BankOrder) → AsksBank words o → some Configuration ≡ other Configuration
-  same_configuration o asks = agree Configuration o.config (Reads_configuration o asks refl refl)
-
-  is_too : (o : BankOrder) (config : PlainConfig) → AsksBank words o → IsConfiguration (some Configuration) config → IsConfiguration (other Configuration) config
-  is_too o config asks is = subst (λ bytes. IsConfiguration bytes config) (same_configuration o asks) is
-
-  is_back : (o : BankOrder) (config : PlainConfig) → AsksBank words o → IsConfiguration (other Configuration) config → IsConfiguration (some Configuration) config
-  is_back o config asks is = subst (λ bytes. IsConfiguration bytes config) (sym (same_configuration o asks)) is
-
-  on_logs : (o : BankOrder) (config : PlainConfig) → AsksBank words o → IsConfiguration (some Configuration) config → AgreeOnLogs some other (logs_of config)
-  on_logs o config asks is input file read = agree input file (Reads_log o asks config is read)
-
   due_too : (due : Due) → IsDue words some due → IsDue words other due
   due_too due (Bad_words fault is e) = Bad_words fault is e
   due_too due (Listed station minute announced is e) = Listed station minute announced is e
   due_too due (Tried number workers is answer of e) = Tried number workers is answer of e
-  due_too due (Bad_configuration o asks refusal bad e) =
-      Bad_configuration o asks refusal (subst (λ bytes. IsBadConfiguration bytes refusal) (same_configuration o asks) bad) e
-  due_too due (Bad_log o asks config is refusal bad e) =
-      Bad_log o asks config (is_too o config asks is) refusal (bad_too some other (logs_of config) refusal (on_logs o config asks is) bad) e
-  due_too due (Answered o asks config is records good told) =
-      Answered o asks config (is_too o config asks is) records (good_too some other (logs_of config) records (on_logs o config asks is) good) told
+  due_too due (Bad_bank o asks refusal bad e) = Bad_bank o asks refusal (refused_too o.config some other (λ input file read. agree input file (o, asks, read)) refusal bad) e
+  due_too due (Answered o asks config records loaded reported) =
+      Answered o asks config records (loaded_too o.config some other (λ input file read. agree input file (o, asks, read)) config records loaded) reported
 
   reads_too : (input : Input) (file : List ℕ) → IsRead words some input file → IsRead words other input file
-  reads_too input file (Reads_configuration o asks e f) = Reads_configuration o asks e f
-  reads_too input file (Reads_log o asks config is read) =
-      Reads_log o asks config (is_too o config asks is) (read_too some other (logs_of config) input file (on_logs o config asks is) read)
+  reads_too input file (o, asks, read) = (o, asks, bank_read_too o.config some other (λ n f r. agree n f (o, asks, r)) input file read)
 
   reads_back : (input : Input) (file : List ℕ) → IsRead words other input file → IsRead words some input file
-  reads_back input file (Reads_configuration o asks e f) = Reads_configuration o asks e f
-  reads_back input file (Reads_log o asks config is read) =
-      let here = is_back o config asks is in
-      Reads_log o asks config here (read_back some other (logs_of config) input file (on_logs o config asks here) read)
+  reads_back input file (o, asks, read) = (o, asks, bank_read_back o.config some other (λ n f r. agree n f (o, asks, r)) input file read)
 
 -- it is the same the other way round
 turned : (words : List (List ℕ)) (some other : Contents) → Agree words some other → Agree words other some

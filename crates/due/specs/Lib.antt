@@ -2,6 +2,7 @@ pub mod Inputs
 pub mod Orders
 pub mod LogFiles
 pub mod Configurations
+pub mod Loads
 pub mod Banks
 pub mod Trials
 pub mod Status

@@ -14,9 +14,8 @@ use Rattle.trial_log.specs.Trials.{trial_receivers, trial_sequence, trial_statio
 use Rattle.due.specs.declared.due.Due.{Due}
 use Rattle.due.specs.declared.due.Due.TheVariants as dues
 use Rattle.due.specs.Banks.{Bank, IsBankAnswer, bank_of, duts_of, window_of}
-use Rattle.due.specs.Inputs.{Configuration, Contents, Input}
-use Rattle.due.specs.Configurations.{IsBadConfiguration, IsConfiguration, logs_of}
-use Rattle.due.specs.LogFiles.{AreGood, IsFirstBad, IsLogRead}
+use Rattle.due.specs.Inputs.{Contents, Input}
+use Rattle.due.specs.Loads.{IsBankLoaded, IsBankRead, IsBankRefused}
 use Rattle.due.specs.Orders.{BankOrder, Sentences, Wanted, bank_order, order_in, word_refusal}
 use Rattle.due.specs.Trials.{trial_asked, trial_bank}
 
@@ -35,8 +34,8 @@ IsReported o bank due =
 abbrev pub AsksBank : List (List ℕ) → BankOrder → Type 0
 AsksBank words o = (order : Order) × (order_in words ≡ Ok order) × (bank_order order ≡ Some o)
 
--- This is due, by the first rule that fits: refused words; a listing; a trial; and of a bank a refused configuration, the
--- first refused log, and what is reported of the answer.
+-- This is due, by the first rule that fits: refused words; a listing; a trial; and of a bank the refusal of its configuration or of
+-- the first bad log, and what is reported of the answer.
 pub data IsDue (words : List (List ℕ)) (contents : Contents) (due : Due) : Type 0 where
   Bad_words : (fault : WordFault) → order_in words ≡ Err fault → due ≡ dues.Refused (word_refusal fault) → IsDue words contents due
   Listed : (station : Station) → (minute : ℕ) → (announced : Bool) → order_in words ≡ Ok (Encode station minute announced)
@@ -44,19 +43,12 @@ pub data IsDue (words : List (List ℕ)) (contents : Contents) (due : Due) : Typ
   Tried : (number workers : ℕ) → order_in words ≡ Ok (Trial number workers)
       → (answer : Answer) → IsBankAnswer (window_of trial_asked (trial_bank number).receivers) (trial_bank number) answer
       → due ≡ dues.Trial number (trial_station number) (trial_receivers number) (trial_sequence number) answer → IsDue words contents due
-  Bad_configuration : (o : BankOrder) → AsksBank words o
-      → (refusal : Refusal) → IsBadConfiguration (contents Configuration) refusal → due ≡ dues.Refused refusal → IsDue words contents due
-  Bad_log : (o : BankOrder) → AsksBank words o
-      → (config : PlainConfig) → IsConfiguration (contents Configuration) config
-      → (refusal : Refusal) → IsFirstBad contents (logs_of config) refusal → due ≡ dues.Refused refusal → IsDue words contents due
+  Bad_bank : (o : BankOrder) → AsksBank words o
+      → (refusal : Refusal) → IsBankRefused contents refusal → due ≡ dues.Refused refusal → IsDue words contents due
   Answered : (o : BankOrder) → AsksBank words o
-      → (config : PlainConfig) → IsConfiguration (contents Configuration) config
-      → (records : List Records) → AreGood contents (logs_of config) records
+      → (config : PlainConfig) → (records : List Records) → IsBankLoaded contents config records
       → IsReported o (bank_of config records) due → IsDue words contents due
 
--- the run reads this file as this input: the configuration, and the logs of a good one as long as all before them are good
-pub data IsRead (words : List (List ℕ)) (contents : Contents) (input : Input) (file : List ℕ) : Type 0 where
-  Reads_configuration : (o : BankOrder) → AsksBank words o → input ≡ Configuration → file ≡ o.config → IsRead words contents input file
-  Reads_log : (o : BankOrder) → AsksBank words o
-      → (config : PlainConfig) → IsConfiguration (contents Configuration) config
-      → IsLogRead contents (logs_of config) input file → IsRead words contents input file
+-- the run reads this file as this input, for what is asked about a bank
+abbrev pub IsRead : List (List ℕ) → Contents → Input → List ℕ → Type 0
+IsRead words contents input file = (o : BankOrder) × AsksBank words o × IsBankRead o.config contents input file

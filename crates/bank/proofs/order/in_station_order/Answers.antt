@@ -1,11 +1,13 @@
 -- The sorted pairs are the receivers and the logs in order.
 use Rattle.std.proofs.Common.{List, length, map, refl, sym, ap, ◌∙◌, subst, arith}
 use Rattle.std.proofs.lemmas.List.Sorted.{All-permutation, length_permutation}
-use Rattle.std.specs.List.Sorted.{IsPermutation}
+use Rattle.std.specs.List.Sorted.{IsNonDecreasingBy, IsPermutation}
+use Rattle.signal_base.specs.Number.{number_of}
 use Rattle.bank_config.specs.declared.config.Receiver.{Receiver}
 use Rattle.bank_config.specs.Configuration.{plain_receiver}
 use Rattle.bank_config.specs.InRange.{IsReceiverInRange}
 use Rattle.bank.specs.Order.{in_station_order}
+use Rattle.bank.proofs.RiseLaws.{rises_map}
 use Rattle.bank.proofs.EntryLaws.{logs_in_order, one_each, receivers_in_order, same_receivers}
 use Rattle.bank.proofs.order.in_station_order.Goals as goal
 
@@ -40,3 +42,10 @@ returns-clause-in_range c =
 pub returns-clause-one_each : goal.returns-clause-one_each
 returns-clause-one_each c =
     ap length c.in_ok-receivers.ensures.logs ∙ one_each c.sort_by_station.new.pairs.items ∙ sym (ap length c.in_ok-receivers.ensures.receivers)
+
+pub invariant_of-result : goal.invariant_of-result
+invariant_of-result c = record {
+  in_order =
+      subst (IsNonDecreasingBy (λ r. number_of r.station)) (sym c.in_ok-receivers.ensures.receivers)
+      (rises_map (λ e. e.0) (λ r. number_of r.station) c.sort_by_station.new.pairs.items c.in_ok-sort_by_station.ensures.rises);
+}

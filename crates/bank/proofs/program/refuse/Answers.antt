@@ -1,5 +1,5 @@
 -- Refused words are due to be refused, whatever the files hold.
-use Rattle.std.proofs.Common.{Ok, refl, subst}
+use Rattle.std.proofs.Common.{Ok, subst}
 use Rattle.std.proofs.lemmas.Result.{err_from_is_err_and}
 use Rattle.due.specs.declared.status.Status.{Status}
 use Rattle.due.specs.Plans.{run_plan}
