@@ -14,6 +14,8 @@ mod job;
 mod loading;
 mod order;
 mod program;
+#[cfg(test)]
+mod station_tests;
 mod stop;
 #[cfg(test)]
 mod tests;
