@@ -2,7 +2,7 @@
 //! hour of the local day, and what the date tells of the seconds that are left to it.
 
 ghost use Rattle.std.specs.Prelude.{ℕ, ◌≡◌, ◌+◌, ◌*◌, ◌<◌, ◌≤◌, ◌^◌, IfOk, IfSome, OnOk, bit_or, false, length, slice_index, true};
-ghost use Rattle.block_costs.specs.declared.minutes.TheConstants.{HOUR_MINUTES};
+ghost use Rattle.minute_parts.specs.declared.hour_layers.TheConstants.{HOUR_MINUTES};
 ghost use Rattle.slot_columns.specs.declared.limits.TheConstants.{SECONDS_PER_MINUTE};
 ghost use Rattle.minute_parts.specs.Unions.{AreRegular};
 ghost use Rattle.minute_parts.specs.Overlay.{is_given_up};

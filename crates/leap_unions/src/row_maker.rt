@@ -11,11 +11,11 @@ ghost use Rattle.leap_unions.specs.Pieces.{announced_from};
 
 use crate::kept::{Kept, add_from_minute, joined, nothing_kept};
 use crate::leap_ends::next_leap_end;
-use crate::rows::{PLACES, SECONDS, regular_row};
+use crate::rows::{PLACES, regular_row};
 use crate::tapes::{KeptTape, Tape, tape_of};
 use civil::Civil;
 use definitions::Sequence;
-use minute_parts::Unions;
+use minute_parts::{SECONDS, Unions};
 use signal_base::Station;
 use std::alloc::{AllocError, Global};
 

@@ -7,7 +7,7 @@ use Rattle.minute_parts.specs.Overlay.{is_given_up}
 use Rattle.minute_parts.specs.Walks.{later_minutes}
 use Rattle.block_costs.specs.Hours.{AreHourLayers, IsHourLayer}
 use Rattle.block_costs.proofs.HourLaws.{hours_more}
-use Rattle.block_costs.proofs.hours.add_hour.Goals as goal
+use Rattle.block_costs.proofs.local_hours.add_hour.Goals as goal
 
 pub returns : goal.returns
 returns c =

@@ -1,6 +1,6 @@
 use Rattle.std.proofs.Common.{ℕ, ◌≡◌, ◌+◌, ◌*◌, ◌/◌, ◌%◌, ap, ◌∙◌, arith}
 use Rattle.block_costs.specs.Hours.{hour_at}
-use Rattle.block_costs.proofs.hours.costs_of.Goals as goal
+use Rattle.block_costs.proofs.local_hours.costs_of.Goals as goal
 
 pub returns : goal.returns
 returns c =

@@ -1,7 +1,7 @@
 use Rattle.std.proofs.Common.{ℕ, ◌≡◌, ◌<◌, ◌/◌, ◌%◌, length, slice_index}
 use Rattle.block_costs.specs.Hours.{hour_at}
-use Rattle.block_costs.specs.declared.hours.TheConstants.{DAY_HOURS}
-use Rattle.block_costs.proofs.hours.costs_of.Given as goal
+use Rattle.block_costs.specs.declared.local_hours.TheConstants.{DAY_HOURS}
+use Rattle.block_costs.proofs.local_hours.costs_of.Given as goal
 
 abbrev pub invariant-loop-i : goal.invariant-loop-i
 invariant-loop-i l = record {

@@ -5,7 +5,7 @@ use Rattle.minute_parts.specs.Parts.{PartTable}
 use Rattle.slot_columns.specs.Parts.{layered_cost}
 use Rattle.minute_parts.specs.Layers.{AreLayers}
 use Rattle.block_costs.proofs.UnionLaws.{layers_cost}
-use Rattle.block_costs.proofs.asked.cost_as_asked.Goals as goal
+use Rattle.block_costs.proofs.unkept.cost_as_asked.Goals as goal
 
 pub returns-in-Some-clause-cost : goal.returns-in-Some-clause-cost
 returns-in-Some-clause-cost c = λ sets are.

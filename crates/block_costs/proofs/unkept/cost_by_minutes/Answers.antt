@@ -5,7 +5,7 @@ use Rattle.minute_parts.specs.Parts.{PartTable}
 use Rattle.slot_columns.specs.Parts.{minute_cost}
 use Rattle.minute_parts.specs.Unions.{IsUnionOver}
 use Rattle.block_costs.proofs.SumLaws.{all_minutes, bounded, minute_more, most_fits, none_yet}
-use Rattle.block_costs.proofs.asked.cost_by_minutes.Goals as goal
+use Rattle.block_costs.proofs.unkept.cost_by_minutes.Goals as goal
 
 pub loop-m-init : goal.loop-m-init
 loop-m-init c = record { spent = none_yet c.args.walks.now.grid c.args.announced c.args.p c.args.lo c.args.hi }

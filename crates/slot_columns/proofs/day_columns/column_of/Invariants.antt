@@ -2,7 +2,7 @@ use Rattle.std.proofs.Common.{◌≡◌, ◌%◌, ◌<◌, ℕ, [], length, get_
 use Rattle.definitions.specs.time.Calendar.{minutes_per_day}
 use Rattle.slot_columns.specs.declared.limits.TheConstants.{REACHED_MINUTES, SETS}
 use Rattle.slot_columns.specs.Rows.{index_of}
-use Rattle.slot_columns.proofs.day.column_of.Given as goal
+use Rattle.slot_columns.proofs.day_columns.column_of.Given as goal
 
 abbrev pub invariant-loop-i : goal.invariant-loop-i
 invariant-loop-i l = record {

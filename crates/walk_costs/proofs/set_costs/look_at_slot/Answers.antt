@@ -4,7 +4,7 @@ use Rattle.symbol_cost.specs.Grid.{cost_at}
 use Rattle.symbol_cost.specs.declared.limits.TheConstants.{RECEIVER_COST}
 use Rattle.slot_columns.specs.Rows.{index_of}
 use Rattle.slot_columns.proofs.SetLaws.{index_bound, indexed}
-use Rattle.walk_costs.proofs.small.look_at_slot.Goals as goal
+use Rattle.walk_costs.proofs.set_costs.look_at_slot.Goals as goal
 
 pub loop-set-preserved : goal.loop-set-preserved
 loop-set-preserved c =

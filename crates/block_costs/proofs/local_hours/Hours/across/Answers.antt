@@ -12,7 +12,7 @@ use Rattle.slot_columns.specs.Parts.{layered_cost}
 use Rattle.minute_parts.specs.Overlay.{is_given_up}
 use Rattle.minute_parts.specs.Walks.{later_minutes}
 use Rattle.block_costs.proofs.CrossLaws.{crossing_cost, crossing_small}
-use Rattle.block_costs.proofs.hours.Hours.across.Goals as goal
+use Rattle.block_costs.proofs.local_hours.Hours.across.Goals as goal
 
 pub returns : goal.returns
 returns c =

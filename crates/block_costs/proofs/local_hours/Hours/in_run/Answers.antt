@@ -8,7 +8,7 @@ use Rattle.minute_parts.specs.Runs.{end_of_run, first_of, run_at}
 use Rattle.minute_parts.specs.Overlay.{is_given_up}
 use Rattle.minute_parts.specs.Walks.{later_minutes}
 use Rattle.block_costs.proofs.HourLaws.{kept_hour}
-use Rattle.block_costs.proofs.hours.Hours.in_run.Goals as goal
+use Rattle.block_costs.proofs.local_hours.Hours.in_run.Goals as goal
 
 pub returns : goal.returns
 returns c =

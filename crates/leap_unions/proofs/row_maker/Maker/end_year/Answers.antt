@@ -5,7 +5,7 @@ use Rattle.minute_parts.proofs.UnionLaws.{nothing_told}
 use Rattle.leap_unions.specs.declared.rows.TheConstants.{PLACES}
 use Rattle.leap_unions.specs.Kept.{IsKept}
 use Rattle.leap_unions.proofs.KeptLaws.{row_none}
-use Rattle.leap_unions.proofs.maker.Maker.end_year.Goals as goal
+use Rattle.leap_unions.proofs.row_maker.Maker.end_year.Goals as goal
 
 pub returns-clause-years : goal.returns-clause-years
 returns-clause-years c =

@@ -1,7 +1,7 @@
 use Rattle.std.proofs.Common.{◌≡◌, ◌+◌, ◌-◌, true, subst, arith}
 use Rattle.definitions.specs.time.Calendar.{is_leap_end}
 use Rattle.leap_unions.proofs.KeptLaws.{kept_joined}
-use Rattle.leap_unions.proofs.maker.Maker.half.Goals as goal
+use Rattle.leap_unions.proofs.row_maker.Maker.half.Goals as goal
 
 pub next_leap_end-leap-requires : goal.next_leap_end-leap-requires
 next_leap_end-leap-requires c =

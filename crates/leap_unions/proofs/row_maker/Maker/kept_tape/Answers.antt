@@ -3,7 +3,7 @@ use Rattle.definitions.specs.sequences.Walks.{set_at}
 use Rattle.definitions.specs.time.Calendar.{is_leap_end}
 use Rattle.leap_unions.specs.Pieces.{announced_from}
 use Rattle.leap_unions.proofs.KeptLaws.{later_walk}
-use Rattle.leap_unions.proofs.maker.Maker.kept_tape.Goals as goal
+use Rattle.leap_unions.proofs.row_maker.Maker.kept_tape.Goals as goal
 
 pub overflow_add-result : goal.overflow_add-result
 overflow_add-result c = omega (arith, c.requires.century)

@@ -5,7 +5,7 @@ use Rattle.leap_unions.specs.declared.rows.TheConstants.{PLACES}
 use Rattle.leap_unions.specs.Kept.{IsRow}
 use Rattle.leap_unions.specs.Pieces.{announced_from}
 use Rattle.leap_unions.proofs.KeptLaws.{row_more, row_none}
-use Rattle.leap_unions.proofs.maker.Maker.near.Goals as goal
+use Rattle.leap_unions.proofs.row_maker.Maker.near.Goals as goal
 
 pub loop-m-init : goal.loop-m-init
 loop-m-init c =

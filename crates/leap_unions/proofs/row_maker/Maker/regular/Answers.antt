@@ -2,7 +2,7 @@ use Rattle.std.proofs.Common.{◌+◌, ◌*◌, true, slice_index, subst, arith}
 use Rattle.signal_base.specs.declared.station.Station.{Station}
 use Rattle.minute_parts.specs.Unions.{IsUnionOver}
 use Rattle.leap_unions.proofs.KeptLaws.{row_regular}
-use Rattle.leap_unions.proofs.maker.Maker.regular.Goals as goal
+use Rattle.leap_unions.proofs.row_maker.Maker.regular.Goals as goal
 
 pub returns-clause-kept : goal.returns-clause-kept
 returns-clause-kept c =

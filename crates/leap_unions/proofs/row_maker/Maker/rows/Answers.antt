@@ -3,7 +3,7 @@ use Rattle.std.specs.List.{All}
 use Rattle.std.proofs.lemmas.List.Elements.{All-push}
 use Rattle.leap_unions.specs.Kept.{IsKept, IsKeptTape}
 use Rattle.leap_unions.proofs.KeptLaws.{kept_joined}
-use Rattle.leap_unions.proofs.maker.Maker.rows.Goals as goal
+use Rattle.leap_unions.proofs.row_maker.Maker.rows.Goals as goal
 
 pub end_year-requires-clause-kept : goal.end_year-requires-clause-kept
 end_year-requires-clause-kept c =

@@ -1,7 +1,7 @@
 use Rattle.std.proofs.Common.{◌≤◌}
 use Rattle.std.specs.List.{All}
 use Rattle.leap_unions.specs.Kept.{IsKept, IsKeptTape, IsRow}
-use Rattle.leap_unions.proofs.maker.Maker.rows.Given as goal
+use Rattle.leap_unions.proofs.row_maker.Maker.rows.Given as goal
 
 abbrev pub invariant-loop : goal.invariant-loop
 invariant-loop l = record {

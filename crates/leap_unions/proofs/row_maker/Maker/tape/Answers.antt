@@ -5,7 +5,7 @@ use Rattle.definitions.specs.sequences.Walks.{place_at}
 use Rattle.minute_parts.specs.Parts.{IsPartTable, PartTable}
 use Rattle.leap_unions.specs.Pieces.{announced_from}
 use Rattle.leap_unions.proofs.NominalLaws.{reached}
-use Rattle.leap_unions.proofs.maker.Maker.tape.Goals as goal
+use Rattle.leap_unions.proofs.row_maker.Maker.tape.Goals as goal
 
 pub tape_of-requires-clause-sequence : goal.tape_of-requires-clause-sequence
 tape_of-requires-clause-sequence c =

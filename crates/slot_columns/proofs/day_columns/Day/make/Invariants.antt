@@ -3,7 +3,7 @@ use Rattle.definitions.specs.time.Calendar.{minutes_per_day}
 use Rattle.slot_columns.specs.declared.limits.TheConstants.{REACHED_MINUTES, SECONDS_PER_MINUTE, SETS}
 use Rattle.slot_columns.specs.Parts.{entry}
 use Rattle.slot_columns.specs.Rows.{index_of}
-use Rattle.slot_columns.proofs.day.Day.make.Given as goal
+use Rattle.slot_columns.proofs.day_columns.Day.make.Given as goal
 
 abbrev pub invariant-loop-s : goal.invariant-loop-s
 invariant-loop-s l = record {
