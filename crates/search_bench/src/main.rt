@@ -10,6 +10,7 @@
 mod case;
 mod chance;
 mod compare;
+mod counts;
 mod draw;
 mod fault;
 mod load;
@@ -27,7 +28,6 @@ mod tally;
 #[cfg(test)]
 mod tests;
 mod times;
-mod visits;
 
 use compare::compare;
 use fault::Fault;

@@ -10,9 +10,9 @@ use Rattle.race_words.specs.Held.{RaceSeen, SeatSeen}
 use Rattle.race_words.specs.Keys.{no_key}
 use Rattle.race_words.specs.Views.{after_join}
 use Rattle.workers.specs.Visits.{limit_at, items_at, offered_under, opened_under, AreVisits}
-use Rattle.workers.specs.Steps.{Step}
+use Rattle.workers.specs.Steps.{Step, keys_of, reads_of}
 use Rattle.workers.specs.Workers.{AreUsedUp, HasShared, HasWorked, IsIdle, but_drawn}
-use Rattle.workers.proofs.Taking.{floors_steps, gained_steps, keys_of, reads_of, steps_visit}
+use Rattle.workers.proofs.Taking.{floors_steps, gained_steps, steps_visit}
 
 module _ (costs : Costs) (window : Window) (ceiling : ℕ) where
   visits_then : (reads more : List ℕ) (bs cs : List Block) (keys others : List ℕ) → AreVisits costs window ceiling bs reads keys

@@ -8,3 +8,4 @@ pub mod Taking
 pub mod Working
 pub mod Joining
 pub mod Searching
+pub mod Recording

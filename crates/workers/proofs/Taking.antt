@@ -1,6 +1,6 @@
 -- What the steps of a visit leave of a seat's view.
-use Rattle.std.proofs.Common.{◌≡◌, ℕ, ◌≤◌, List, [], ◌∷◌, ◌++◌, map, append_assoc, refl, sym, ap, ◌∙◌, subst, inl, inr, ⊎_elim, arith}
-use Rattle.std.specs.List.{flat_map, All, AllByRecursion, FoldsTo}
+use Rattle.std.proofs.Common.{◌≡◌, ℕ, ◌≤◌, List, [], ◌∷◌, ◌++◌, append_assoc, refl, sym, ap, ◌∙◌, subst, inl, inr, ⊎_elim, arith}
+use Rattle.std.specs.List.{All, AllByRecursion, FoldsTo}
 use Rattle.std.proofs.lemmas.List.{append-nil}
 use Rattle.std.proofs.lemmas.List.Elements.{All-from_recursion, Contains-append_right}
 use Rattle.signal_base.specs.declared.window.Window.{Window}
@@ -14,7 +14,7 @@ use Rattle.workers.specs.Visits.{limit_at, offered_under, opened_under, AreVisit
 use Rattle.workers.specs.Searches.{HasVisited}
 use Rattle.workers.proofs.Covering.{all_weaker, visit_covers, visit_admitted}
 use Rattle.workers.proofs.Counting.{visit_once}
-use Rattle.workers.specs.Steps.{Step, offered_at, AreSteps, HasWalked, Offers, Takes}
+use Rattle.workers.specs.Steps.{Step, keys_of, offered_at, reads_of, AreSteps, HasWalked, Offers, Takes}
 
 -- a view that read and offered these, behind what it had, and is otherwise as it was but that the two keys known may have fallen
 pub record HasGained (v w : View) (reads keys : List ℕ) : Type 0 where
@@ -70,13 +70,6 @@ gained_offers : (keys : List ℕ) (v w : View) → Offers keys v w → HasGained
 gained_offers [] v w is = gained_nothing v w is
 gained_offers (key ∷ keys) v w offers =
     gained_both v (after_offer key offers.0 v) w [] [] (key ∷ []) keys (gained_offer key offers.0 v) (gained_offers keys (after_offer key offers.0 v) w offers.2)
-
--- what some steps read and offered
-abbrev pub reads_of : List Step → List ℕ
-reads_of steps = map (λ s. s.seen) steps
-
-abbrev pub keys_of : ℕ → List Step → List ℕ
-keys_of ceiling steps = flat_map (offered_at ceiling) steps
 
 pub gained_steps : (ceiling : ℕ) (steps : List Step) (v w : View) → FoldsTo (Takes ceiling) v steps w → HasGained v w (reads_of steps) (keys_of ceiling steps)
 gained_steps ceiling [] v w is = gained_nothing v w (sym is)

@@ -3,3 +3,4 @@ pub mod Searches
 pub mod Facts
 pub mod Steps
 pub mod Workers
+pub mod Recorded

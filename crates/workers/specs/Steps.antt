@@ -1,6 +1,6 @@
 -- The steps of visits, one for each block that they come to.
-use Rattle.std.specs.Prelude.{ℕ, ◌≡◌, ◌≤◌, List, [], ◌∷◌, ◌++◌, Option, Some}
-use Rattle.std.specs.List.{FoldsTo}
+use Rattle.std.specs.Prelude.{ℕ, ◌≡◌, ◌≤◌, List, [], ◌∷◌, ◌++◌, map, Option, Some}
+use Rattle.std.specs.List.{flat_map, FoldsTo}
 use Rattle.signal_base.specs.declared.window.Window.{Window}
 use Rattle.definitions.specs.declared.block.Block.{Block}
 use Rattle.definitions.specs.declared.block.Span.{Span}
@@ -20,6 +20,13 @@ pub record Step : Type 0 where
 -- the keys that a step offers
 abbrev pub offered_at : ℕ → Step → List ℕ
 offered_at ceiling s = offered_under (limit_at ceiling s.seen) s.block s.bound
+
+-- what some steps read and offered
+abbrev pub reads_of : List Step → List ℕ
+reads_of steps = map (λ s. s.seen) steps
+
+abbrev pub keys_of : ℕ → List Step → List ℕ
+keys_of ceiling steps = flat_map (offered_at ceiling) steps
 
 -- the steps are those of visits of these blocks, one after the other: each block has a step, then come those that it
 -- opens, and then those after it

@@ -16,5 +16,6 @@ mod visits;
 pub use ending::{Found, finish};
 pub use gate::{Gate, NoGate};
 pub use laws::{first_two_are_found, visit_is_one, visits_cover_their_blocks};
-pub use searches::search;
+pub use recorder::{NoRecord, Recorder};
+pub use searches::{search, search_with};
 pub use visits::visit;

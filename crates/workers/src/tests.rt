@@ -8,7 +8,7 @@ ghost use Rattle.definitions.specs.answers.Blocks.{items};
 
 use crate::recorder::Recorder;
 use crate::visitor::Visitor;
-use crate::{Found, Gate, NoGate, finish, search};
+use crate::{Found, Gate, NoGate, finish, search, search_with};
 use bounds::items;
 use civil::Civil;
 use definitions::{Block, Span, items_share_the_sequences};
@@ -208,7 +208,7 @@ fn two_workers_meet_at_the_gate(rt: HostRuntime) -> Result<(), Fail> {
     Ok(())
 }
 
-// Counts the blocks that a visit comes to.
+// Counts the blocks that visits come to.
 #[derive(Drop)]
 struct Counter {
     blocks: u32,
@@ -221,6 +221,10 @@ impl Recorder for Counter {
 
     ghost fails = { λ before after. Unit {0} };
 
+    ghost parts = { λ before after part. Unit {0} };
+
+    ghost joins = { λ before part after. Unit {0} };
+
     fn record(
         &mut self,
         _block: &Block,
@@ -228,6 +232,15 @@ impl Recorder for Counter {
         _seen: u64,
     ) -> Result<(), Infallible> {
         self.blocks = self.blocks.saturating_add(1);
+        Ok(())
+    }
+
+    fn split(&mut self) -> Result<Counter, Infallible> {
+        Ok(Counter { blocks: 0 })
+    }
+
+    fn join(&mut self, part: Counter) -> Result<(), Infallible> {
+        self.blocks = self.blocks.saturating_add(part.blocks);
         Ok(())
     }
 }
@@ -274,5 +287,48 @@ fn a_visit_goes_by_what_another_seat_offered(rt: HostRuntime) -> Result<(), Fail
     race.offer(&mut first, 0);
     race.offer(&mut first, 1);
     assert_eq!(rt; blocks_of_2001(&race, &mut other, &tables, &list), Some(1));
+    Ok(())
+}
+
+// How many blocks so many workers come to.
+fn blocks_of_all<R: Threads + Sync>(
+    rt: &R,
+    alloc: Global,
+    tables: &Tables,
+    list: &[Block],
+    workers: u8,
+) -> Result<u32, Fail>
+    requires workers { (1 ≤ workers) × (workers ≤ 8) }
+    requires items { AreItemsOf tables.now.window list.now }
+{
+    let (race, mut seat) = Race::make(alloc, workers)?;
+    let mut counter = Counter { blocks: 0 };
+    match search_with(
+        rt,
+        &race,
+        &mut seat,
+        tables,
+        list,
+        GREATEST_COST,
+        workers,
+        &NoGate,
+        &mut counter,
+    ) {
+        Ok(()) => Ok(counter.blocks),
+    }
+}
+
+#[test]
+fn each_workers_steps_are_told(rt: HostRuntime) -> Result<(), Fail> {
+    // An hour of JJY has 121 items, and whoever visits one comes to its year at least.
+    let civil = Civil::make(rt.alloc())?;
+    let window = jjy(0, 60);
+    let grids = [silent_grid(rt.alloc(), Station::Jjy)?];
+    let tables = Tables::make(rt.alloc(), &grids, &civil, &window)?;
+    let list = items(rt.alloc(), &civil, &window)?;
+    for workers in 1..=8 {
+        let blocks = blocks_of_all(&rt, rt.alloc(), &tables, &list, workers)?;
+        assert!(rt; blocks >= 121, "{workers} workers: {blocks}");
+    }
     Ok(())
 }
