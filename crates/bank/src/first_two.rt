@@ -1,6 +1,9 @@
 //! The first two sequences of a window, by workers beside each other.
 
-ghost use Rattle.std.specs.Prelude.{◌≡◌, ◌≤◌, IfOk};
+ghost use Rattle.std.specs.Prelude.{◌≡◌, ◌≤◌, IfOk, List, OnOk};
+ghost use Rattle.definitions.specs.declared.block.Block.{Block};
+ghost use Rattle.race_words.specs.declared.view.View.{View};
+ghost use Rattle.workers.specs.Recorded.{HaveRecorded};
 ghost use Rattle.signal_base.specs.declared.limits.TheConstants.{GREATEST_COST};
 ghost use Rattle.definitions.specs.sequences.Windows.{IsWindow};
 ghost use Rattle.definitions.specs.answers.FirstTwo.{AreLeastTwo, IsWindowKey};
@@ -15,7 +18,7 @@ use signal_base::Window;
 use std::alloc::Global;
 use std::thread::Threads;
 use symbol_cost::CostGrid;
-use workers::{Found, Gate, finish, search};
+use workers::{Found, Gate, NoRecord, Recorder, finish, search_with};
 
 /// Why a window can't be decided.
 #[derive(Clone, Copy, Debug, PartialEq, Eq)]
@@ -63,13 +66,54 @@ pub fn decide<R: Threads + Sync, G: Gate + Sync>(
     requires workers { (1 ≤ workers) × (workers ≤ 8) }
     ensures { IfOk result (λ found. AreLeastTwo (IsWindowKey window.now (grid_costs grids.now) ceiling) found.first found.second) }
 {
+    let mut recorder = NoRecord;
+    let kept = decide_with(
+        rt,
+        alloc,
+        civil,
+        grids,
+        window,
+        ceiling,
+        workers,
+        gate,
+        &mut recorder,
+    )?;
+    match kept {
+        Ok(found) => Ok(found),
+    }
+}
+
+/// Decides as `decide` does, and tells the recorder of each step of the search: it is parted among the workers and joined
+/// again. Where a step can't be kept, the fault is answered in place of the keys.
+pub fn decide_with<R: Threads + Sync, G: Gate + Sync, K: Recorder + Send + Drop>(
+    rt: &R,
+    alloc: Global,
+    civil: &Civil,
+    grids: &[CostGrid],
+    window: &Window,
+    ceiling: u32,
+    workers: u8,
+    gate: &G,
+    recorder: &mut K,
+) -> Result<Result<Found, K::Fault>, DecideFault>
+    requires window { IsWindow window.now }
+    requires grids { AreGrids window.now grids.now }
+    requires ceiling { ceiling ≤ GREATEST_COST }
+    requires workers { (1 ≤ workers) × (workers ≤ 8) }
+    ensures found { IfOk result (λ kept. IfOk kept (λ found. AreLeastTwo (IsWindowKey window.now (grid_costs grids.now) ceiling) found.first found.second)) }
+    ensures recorded { IfOk result (λ kept. OnOk kept ((items : List Block) × (v : View) × AreItemsOf window.now items
+        × HaveRecorded K.told K.parts K.joins (grid_costs grids.now) window.now ceiling items workers v recorder.old recorder.new)) }
+{
     let tables = Tables::make(alloc, grids, civil, window)?;
     let items = search_order(alloc, civil, &tables, window)?;
     let (race, mut seat) = Race::make(alloc, workers)?;
-    search(
-        rt, &race, &mut seat, &tables, &items, ceiling, workers, gate,
+    let searched = search_with(
+        rt, &race, &mut seat, &tables, &items, ceiling, workers, gate, recorder,
     );
-    Ok(finish(race, seat, &tables, &items, ceiling))
+    match searched {
+        Ok(()) => Ok(Ok(finish(race, seat, &tables, &items, ceiling))),
+        Err(fault) => Ok(Err(fault)),
+    }
 }
 
 // The items of the window in the order in which they are searched: the least bounds first, and those that announce a leap

@@ -23,7 +23,7 @@ mod trial;
 mod words;
 
 pub use decoding::{Decoded, decode, decode_window};
-pub use first_two::{DecideFault, decide};
+pub use first_two::{DecideFault, decide, decide_with};
 pub use grids::grids_of;
 pub use hearing::{Bank, bank_of, window_of};
 pub use job::{Job, perform};

@@ -1,2 +1,3 @@
 pub mod Receivers
 pub mod Counting
+pub mod Stations

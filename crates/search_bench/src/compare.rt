@@ -119,13 +119,13 @@ fn stations(set: u8) -> &'static [Station]
         2 => &[Station::Wwvb],
         3 => &[Station::Jjy],
         _ => &[
+            Station::Dcf77,
+            Station::Dcf77,
+            Station::Msf,
+            Station::Msf,
+            Station::Wwvb,
+            Station::Wwvb,
             Station::Jjy,
-            Station::Wwvb,
-            Station::Msf,
-            Station::Dcf77,
-            Station::Dcf77,
-            Station::Msf,
-            Station::Wwvb,
             Station::Jjy,
         ],
     }
@@ -195,7 +195,7 @@ fn compare_window(
 {
     let bank = noisy_bank(alloc, chance, stations, asked.seconds)?;
     let window = window_of(&bank, asked);
-    let grids = grids_of(alloc, bank, &window)?;
+    let grids = grids_of(alloc, &bank, &window)?;
     let tables = Tables::make(alloc, &grids, civil, &window)?;
     let case = Case {
         civil,

@@ -33,7 +33,7 @@ pub fn measure<R: Threads + Sync + Clock + Files + Print + AllocGlobal>(
     let bank = load(rt, receivers)?;
     let civil = Civil::make(rt.alloc())?;
     let window = window_of(&bank, &asked);
-    let grids = grids_of(rt.alloc(), bank, &window)?;
+    let grids = grids_of(rt.alloc(), &bank, &window)?;
     let begin = Instant::now(rt)?;
     let tables = Tables::make(rt.alloc(), &grids, &civil, &window)?;
     tell(rt, "tables_ns", nanoseconds(rt, begin)?)?;

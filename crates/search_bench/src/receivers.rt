@@ -1,6 +1,9 @@
 //! Receivers, which are gathered one after the other into a bank.
 
-ghost use Rattle.std.specs.Prelude.{◌≡◌, ◌+◌, ◌≤◌, All, IfOk, length};
+ghost use Rattle.std.specs.Prelude.{◌≡◌, ◌+◌, ◌≤◌, All, IfOk, length, true};
+ghost use Rattle.std.specs.List.Sorted.{IsNonDecreasingBy};
+ghost use Rattle.signal_base.specs.Number.{number_of};
+ghost use Rattle.search_bench.specs.Stations.{ComesNext};
 ghost use Rattle.signal_base.specs.Limits.{IsTuned};
 ghost use Rattle.signal_base.specs.declared.limits.TheConstants.{MOST_RECEIVERS};
 
@@ -19,6 +22,7 @@ pub struct Receivers {
     ghost as_many_tunings: { length tunings.items ≡ length stations.items },
     ghost as_many_logs: { length logs.items ≡ length stations.items },
     ghost tuned: { All IsTuned tunings.items },
+    ghost in_order: { IsNonDecreasingBy number_of stations.items },
 }
 
 impl Receivers {
@@ -36,7 +40,8 @@ impl Receivers {
         }
     }
 
-    /// These receivers and one more.
+    /// These receivers and one more, whose station is the last one's or comes behind it. Another is refused as words are that
+    /// aren't in order.
     pub fn with(self, station: Station, tuning: Tuning, log: Log) -> Result<Receivers, Fault>
         requires { IsTuned tuning }
         ensures { IfOk result (λ more. count_of more ≡ count_of self + 1) }
@@ -46,6 +51,9 @@ impl Receivers {
             mut tunings,
             mut logs,
         } = self;
+        if !comes_next(stations.as_slice(), station) {
+            return Err(Fault::Words);
+        }
         stations.push(station)?;
         tunings.push(tuning)?;
         logs.push(log)?;
@@ -75,6 +83,16 @@ impl Receivers {
             ceiling: GREATEST_COST,
         }
     }
+}
+
+// Whether a station is the last of these, or comes behind it.
+fn comes_next(stations: &[Station], station: Station) -> bool
+    ensures { result ≡ true → ComesNext stations.now station }
+{
+    if stations.is_empty() {
+        return true;
+    }
+    stations[stations.len() - 1].number() <= station.number()
 }
 
 /// A tuning of a receiver that doesn't lag and counts once.

@@ -31,7 +31,7 @@ pub fn costly_silence(alloc: Global, station: Station) -> Result<u32, Fault> {
     };
     let civil = Civil::make(alloc)?;
     let window = window_of(&bank, &asked);
-    let grids = grids_of(alloc, bank, &window)?;
+    let grids = grids_of(alloc, &bank, &window)?;
     let tables = Tables::make(alloc, &grids, &civil, &window)?;
     let mut costly = 0u32;
     for first in 0..MINUTES {
