@@ -1,0 +1,155 @@
+//! How far a search has come, on standard error. Nothing of it touches the answer.
+
+use std::rt::Clock;
+use std::sync::atomic::{AtomicU64, Ordering};
+use std::time::Instant;
+use workers::Gate;
+
+// A search that ends within that many milliseconds shows nothing.
+const FIRST_AFTER: u64 = 1000;
+
+// At least so many milliseconds lie between two lines.
+const PERIOD: u64 = 200;
+
+// Goes over a line with a number of at most nine digits; a search has some ten thousand items.
+pub(crate) const BLANK: &str = "\r                                \r";
+
+/// A gate that holds nobody, and shows the latest number that was drawn, which is how many items were drawn before it.
+/// The line is written over the one before it. All workers share it: at each time one of them writes at most.
+#[derive(Drop)]
+pub struct Progress<'a, S: Clock + Eprint> {
+    screen: &'a S,
+    // Where nothing is to be shown, there is no beginning.
+    begun: Option<Instant>,
+    // Milliseconds after the beginning at which the next line is due.
+    due: AtomicU64,
+    // The greatest number that was shown.
+    shown: AtomicU64,
+}
+
+impl<'a, S: Clock + Eprint> Progress<'a, S> {
+    /// Progress that begins now, and is shown only if standard error is a terminal. Without a clock nothing is shown.
+    pub fn new(screen: &'a S, on_terminal: bool) -> Progress<'a, S> {
+        let begun = if on_terminal {
+            Instant::now(screen).ok()
+        } else {
+            None
+        };
+        Progress {
+            screen,
+            begun,
+            due: AtomicU64::new(FIRST_AFTER),
+            shown: AtomicU64::new(0),
+        }
+    }
+
+    /// Blanks the line that was shown, if one was, so that what is printed next has a line of its own.
+    pub fn end(&self) {
+        if self.shown.swap(0, Ordering::SeqCst) > 0 {
+            let _ = self.screen.eprint(BLANK);
+        }
+    }
+
+    // Whether a line is due now. To one of the workers that ask at a time, it is.
+    fn is_due(&self, begun: Instant) -> bool {
+        let Ok(elapsed) = begun.elapsed(self.screen) else {
+            return false;
+        };
+        let now = u64::try_from(elapsed.as_millis()).unwrap_or(u64::MAX);
+        let due = self.due.load(Ordering::SeqCst);
+        now >= due
+            && self
+                .due
+                .compare_exchange(
+                    due,
+                    now.saturating_add(PERIOD),
+                    Ordering::SeqCst,
+                    Ordering::SeqCst,
+                )
+                .is_ok()
+    }
+}
+
+impl<S: Clock + Eprint> Gate for Progress<'_, S> {
+    fn pass(&self, _worker: u32, number: u64) {
+        let Some(begun) = self.begun else {
+            return;
+        };
+        if self.is_due(begun) && self.shown.fetch_max(number, Ordering::SeqCst) < number {
+            let _ = eprint!(self.screen; "\rtsbank: {number} items searched");
+        }
+    }
+}
+
+#[cfg(test)]
+mod tests {
+    use super::*;
+    use crate::fake::Screen;
+    use std::thread;
+
+    #[test]
+    fn shows_nothing_without_a_terminal(rt: HostRuntime) {
+        let screen = Screen::new(rt.alloc(), "");
+        let progress = Progress::new(&screen, false);
+        for number in 0..20 {
+            progress.pass(0, number);
+        }
+        progress.end();
+        assert_eq!(rt; screen.printed(), 0);
+        assert_eq!(rt; screen.millis.load(Ordering::SeqCst), 0);
+    }
+
+    // It begins at 0, and passes at 300, 600, 900, 1200 and so on.
+    #[test]
+    fn shows_a_search_of_more_than_a_second(rt: HostRuntime) {
+        let screen = Screen::new(rt.alloc(), "\rtsbank: 1234 items searched");
+        let progress = Progress::new(&screen, true);
+        for number in [5, 700, 900] {
+            progress.pass(0, number);
+            assert_eq!(rt; screen.printed(), 0, "{number}");
+        }
+        progress.pass(0, 1234);
+        assert_eq!(rt; screen.printed(), 1);
+        assert_eq!(rt; screen.found(), 1);
+        // A number that was drawn before the one that was shown.
+        progress.pass(1, 1233);
+        assert_eq!(rt; screen.printed(), 1);
+        progress.pass(0, 2000);
+        assert_eq!(rt; screen.printed(), 2);
+        progress.end();
+        assert_eq!(rt; screen.printed(), 3);
+        progress.end();
+        assert_eq!(rt; screen.printed(), 3);
+    }
+
+    #[test]
+    fn a_short_search_shows_nothing(rt: HostRuntime) {
+        let screen = Screen::new(rt.alloc(), "");
+        let progress = Progress::new(&screen, true);
+        progress.pass(0, 1);
+        progress.pass(1, 2);
+        progress.end();
+        assert_eq!(rt; screen.printed(), 0);
+    }
+
+    // Passes with the odd numbers or with the even ones below 40.
+    fn pass_all(progress: &Progress<'_, Screen>, worker: u32) {
+        for turn in 0..20u64 {
+            progress.pass(worker, 2 * turn + u64::from(worker % 2));
+        }
+    }
+
+    // 40 passes are 12 seconds by this clock, so at least the last pass of each is late enough; how many lines are shown
+    // depends on who comes first.
+    #[test]
+    fn two_threads_share_it(rt: HostRuntime) {
+        let screen = Screen::new(rt.alloc(), BLANK);
+        let progress = Progress::new(&screen, true);
+        thread::join(&rt, || pass_all(&progress, 0), || pass_all(&progress, 1));
+        let lines = screen.printed();
+        assert!(rt; 0 < lines && lines <= 40);
+        progress.end();
+        assert_eq!(rt; screen.printed(), lines + 1);
+        assert_eq!(rt; screen.found(), 1);
+    }
+}

@@ -1,0 +1,56 @@
+//! A run over a machine, for the words of a command line.
+
+ghost use Rattle.bank_words.specs.Seen.{texts_of};
+ghost use Rattle.program.specs.Runs.{HasRun, HasRunOn};
+
+use crate::messages::explain;
+use crate::progress::Progress;
+use bank_files::Files;
+use machine_files::{Machine, RealFiles};
+use std::alloc::Global;
+use std::rt::Clock;
+use std::thread::Threads;
+use workers::Gate;
+
+/// How a run ended.
+#[derive(Drop)]
+pub struct Ended<M> {
+    /// The status.
+    pub status: u8,
+    /// The machine as the run left it.
+    pub machine: M,
+}
+
+/// Runs the words over the files of a machine, and says on standard error why it ended, where that is to be said.
+pub fn run<R: Threads + Sync, M: Machine, E: Eprint, S: Clock + Eprint + Sync>(
+    rt: &R,
+    alloc: Global,
+    words: &[String],
+    machine: M,
+    error: &E,
+    progress: &Progress<'_, S>,
+) -> Ended<M>
+    ensures { HasRunOn (texts_of words.now) (M.disk machine) (M.disk result.machine) (M.failures result.machine) result.status }
+{
+    let mut files = RealFiles::new(alloc, machine);
+    let status = answer(rt, alloc, words, &mut files, progress);
+    progress.end();
+    explain(error, status, files.failure());
+    Ended {
+        status,
+        machine: files.into_machine(),
+    }
+}
+
+/// The program's one call of `bank`. All that `bank::run` promises holds of it.
+pub fn answer<R: Threads + Sync, F: Files, G: Gate + Sync>(
+    rt: &R,
+    alloc: Global,
+    words: &[String],
+    files: &mut F,
+    gate: &G,
+) -> u8
+    ensures { HasRun (texts_of words.now) (F.view files.old) (F.view files.new) result }
+{
+    bank::run(rt, alloc, words, files, gate)
+}

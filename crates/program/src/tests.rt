@@ -1,0 +1,205 @@
+//! Runs of the whole program, over made-up words. The texts are worked out from docs/FORMATS.md.
+use crate::command_line::{HostLine, NoWords};
+use crate::fake::{Fake, Screen, holds};
+use crate::file_tests::own_path;
+use crate::machine::HostMachine;
+use crate::messages::{explain, explain_no_words};
+use crate::progress::{BLANK, Progress};
+use due::Status;
+use std::fs;
+use std::rt::Clock;
+use std::test::Fail;
+use std::thread::Threads;
+
+// More than standard output gets in any of these runs.
+const AMPLE: usize = 1000;
+
+// The status of a run over this machine.
+fn status<R: Threads + Clock + Eprint + Sync>(rt: &R, fake: &Fake<'_>) -> u8 {
+    status_shown(rt, fake, &Progress::new(rt, false))
+}
+
+// The same, and progress is shown.
+fn status_shown<R: Threads + Sync, S: Clock + Eprint + Sync>(
+    rt: &R,
+    fake: &Fake<'_>,
+    progress: &Progress<'_, S>,
+) -> u8 {
+    let machine = HostMachine::new(fake, progress);
+    let ended = crate::status(rt, fake.alloc(), &HostLine(fake), machine, fake, progress);
+    ended.status
+}
+
+const USAGE: &str =
+    "usage: tsbank decode CONFIG [--start N] [--seconds N] [--from MINUTE] [--to MINUTE] [--workers N]\n       tsbank feed CONFIG [the options of decode]\n       tsbank encode STATION MINUTE [--leap 0|1]\n       tsbank trial NUMBER [--workers N]\n  CONFIG     the path of the configuration, which doesn't begin with -\n  STATION    dcf77, msf, wwvb or jjy\n  MINUTE     a UTC minute, YYYY-MM-DDThh:mmZ, from 2000-01-01T00:00Z to 2099-12-31T23:59Z\n  NUMBER     the number of the trial, from 0 to 4294967295\n  --start    the first millisecond of the window, from 0 to 999999999999; else where the logs begin\n  --seconds  the length of the window, from 60 to 1200; else 180\n  --from     the first minute in which the window may begin; else the first of the century\n  --to       the last of these minutes; else the last of the century\n  --workers  how many workers search, from 1 to 8; else 4\n  --leap     1 where a leap second is announced; else 0\n";
+
+// The minute as WWVB sends it.
+const LISTING: &str =
+    "encode wwvb 2024-02-29T12:34Z 60\nM01100100M000100010M000000110M000000???M????00010M010001000M\n";
+
+#[test]
+fn refuses_words(rt: HostRuntime) {
+    for (words, text) in [
+        ([b"tsbank".as_slice()].as_slice(), "words: usage\n"),
+        (
+            [b"\xff".as_slice(), b"decode", b"-"].as_slice(),
+            "words: usage\n",
+        ),
+        (
+            [b"tsbank".as_slice(), b"--help"].as_slice(),
+            "words: usage\n",
+        ),
+        (
+            [b"tsbank".as_slice(), b"/dev/null", b"decode"].as_slice(),
+            "words: usage\n",
+        ),
+        (
+            [b"tsbank".as_slice(), b"decode", b"/dev/null", b""].as_slice(),
+            "words: usage\n",
+        ),
+        (
+            [b"tsbank".as_slice(), b"check", b"/dev/null", b"/dev/null"].as_slice(),
+            "words: usage\n",
+        ),
+        (
+            [
+                b"tsbank".as_slice(),
+                b"decode",
+                b"/dev/null",
+                b"--seconds",
+                b"59",
+            ]
+            .as_slice(),
+            "words: bad --seconds\n",
+        ),
+    ] {
+        let fake = Fake::new(&rt, words, AMPLE);
+        assert_eq!(rt; status(&rt, &fake), 3);
+        assert!(rt; holds(&fake.output, text), "{text}");
+        assert!(rt; holds(&fake.error, USAGE));
+    }
+}
+
+#[test]
+fn refuses_a_word_that_is_no_text(rt: HostRuntime) -> Result<(), Fail> {
+    let words = [b"tsbank".as_slice(), b"decode", b"\xff"];
+    let fake = Fake::new(&rt, &words, AMPLE);
+    assert_eq!(rt; status(&rt, &fake), 3);
+    assert!(rt; holds(&fake.output, ""));
+    let text = format!(in rt.alloc(); "tsbank: a word isn't UTF-8\n{USAGE}")?;
+    assert!(rt; holds(&fake.error, text.as_str()));
+    Ok(())
+}
+
+#[test]
+fn ends_without_memory_for_its_words(rt: HostRuntime) {
+    let fake = Fake::new(&rt, &[], AMPLE);
+    explain_no_words(&fake, NoWords::NoMemory);
+    assert!(rt; holds(&fake.error, "tsbank: out of memory\n"));
+    assert_eq!(rt; NoWords::NoMemory.status(), Status::NoMemory);
+}
+
+#[test]
+fn lists_and_is_silent(rt: HostRuntime) {
+    let words = [
+        b"tsbank".as_slice(),
+        b"encode",
+        b"wwvb",
+        b"2024-02-29T12:34Z",
+    ];
+    let fake = Fake::new(&rt, &words, AMPLE);
+    assert_eq!(rt; status(&rt, &fake), 0);
+    assert!(rt; holds(&fake.output, LISTING));
+    assert!(rt; holds(&fake.error, ""));
+}
+
+#[test]
+fn refuses_an_empty_configuration(rt: HostRuntime) {
+    let words = [b"tsbank".as_slice(), b"decode", b"/dev/null"];
+    let fake = Fake::new(&rt, &words, AMPLE);
+    assert_eq!(rt; status(&rt, &fake), 4);
+    assert!(rt; holds(&fake.output, "configuration: missing station\n"));
+    assert!(rt; holds(&fake.error, ""));
+}
+
+#[test]
+fn names_the_file_that_failed(rt: HostRuntime) {
+    let words = [b"tsbank".as_slice(), b"decode", b"/dev/null/k.toml"];
+    let fake = Fake::new(&rt, &words, AMPLE);
+    assert_eq!(rt; status(&rt, &fake), 6);
+    assert!(rt; holds(&fake.output, ""));
+    assert!(rt;
+        holds(
+            &fake.error,
+            "tsbank: /dev/null/k.toml: Not a directory (os error 20)\n"
+        )
+    );
+}
+
+#[test]
+fn names_standard_output_that_failed(rt: HostRuntime) {
+    for (room, front) in [(0, ""), (7, "words: "), (12, "words: usage")] {
+        let fake = Fake::new(&rt, &[], room);
+        assert_eq!(rt; status(&rt, &fake), 6, "{room}");
+        assert!(rt; holds(&fake.output, front), "{room}");
+        assert!(rt;
+            holds(
+                &fake.error,
+                "tsbank: standard output: No space left on device (os error 28)\n"
+            ),
+            "{room}"
+        );
+    }
+}
+
+#[test]
+fn says_nothing_of_answers_and_refused_logs(rt: HostRuntime) {
+    for (status, text) in [
+        (0, ""),
+        (1, ""),
+        (2, ""),
+        (4, ""),
+        (5, ""),
+        (6, ""),
+        (7, "tsbank: out of memory\n"),
+    ] {
+        let fake = Fake::new(&rt, &[], AMPLE);
+        explain(&fake, status, None);
+        assert!(rt; holds(&fake.error, text), "{status}");
+    }
+}
+
+// A log that tells nothing is searched for as long as any. By the terminal's clock that is more than a second.
+#[test]
+fn a_report_has_a_line_of_its_own(rt: HostRuntime) -> Result<(), Fail> {
+    let path = own_path(&rt, 's')?;
+    fs::write(
+        &rt,
+        path.as_str(),
+        b"station = \"jjy\"\n[[receiver]]\nname = \"a\"\nlog = \"/dev/null\"\n",
+    )?;
+    let words = [
+        b"tsbank".as_slice(),
+        b"decode",
+        path.as_str().as_bytes(),
+        b"--to",
+        b"2000-12-31T23:59Z",
+    ];
+    let screen = Screen::new(rt.alloc(), BLANK);
+    let mut fake = Fake::new(&rt, &words, AMPLE);
+    fake.screen = Some(&screen);
+    let progress = Progress::new(&screen, true);
+    assert_eq!(rt; status_shown(&rt, &fake, &progress), 1);
+    assert!(rt;
+        holds(
+            &fake.output,
+            "undecided 0\nphase 0\nsequence 2000-01-01T00:00Z 0 no\nsequence 2000-01-01T00:01Z 0 no\n"
+        )
+    );
+    assert!(rt; screen.printed() > 1);
+    assert_eq!(rt; screen.found(), 1);
+    assert!(rt; !screen.shows_a_line());
+    assert!(rt; !fake.glued.get());
+    fs::remove_file(&rt, path.as_str())?;
+    Ok(())
+}
