@@ -11,19 +11,20 @@ use Rattle.definitions.specs.time.Calendar.{minute_length}
 use Rattle.definitions.proofs.CostLaws.{sum_below_bound, sum_below_same}
 use Rattle.symbol_cost.specs.Grid.{Grid, cost_at}
 use Rattle.symbol_cost.specs.declared.limits.TheConstants.{RECEIVER_COST}
-use Rattle.minute_parts.specs.Overlay.{is_time_second, overlay, tells_time}
+use Rattle.minute_parts.specs.Overlay.{is_given_up, is_time_second, overlay, tells_time}
 use Rattle.minute_parts.specs.Parts.{IsInRun, IsPartTable, PartTable, local_time, part_where, times_at}
 use Rattle.minute_parts.specs.Runs.{end_of_run, first_of, run_at}
 use Rattle.slot_columns.specs.Parts.{layered_cost, layered_set, most_cost}
 use Rattle.slot_columns.proofs.SetLaws.{none_chosen}
-use Rattle.span_unions.specs.Hours.{AreTimeLayers}
-use Rattle.span_unions.specs.Times.{time_at}
-use Rattle.span_unions.specs.Unions.{IsInSome, IsUnionOf, IsUnionOver}
-use Rattle.span_unions.proofs.RunLaws.{date_tells, is_of_either, time_tells}
-use Rattle.span_unions.proofs.TimeLaws.{same_time}
-use Rattle.span_unions.proofs.UnionLaws.{has_or, none_has, of_or, one_union, union_moved}
-use Rattle.walk_costs.specs.Dates.{is_given_up, kept, part_cost}
-use Rattle.walk_costs.specs.Walks.{AreSmall, PricedParts, later_minutes}
+use Rattle.minute_parts.specs.HourLayers.{AreTimeLayers}
+use Rattle.minute_parts.specs.Times.{time_at}
+use Rattle.minute_parts.specs.Unions.{IsInSome, IsUnionOf, IsUnionOver}
+use Rattle.minute_parts.proofs.SpanLaws.{date_tells, is_of_either, time_tells}
+use Rattle.minute_parts.proofs.TimeLaws.{same_time}
+use Rattle.minute_parts.proofs.UnionLaws.{has_or, none_has, of_or, one_union, union_moved}
+use Rattle.walk_costs.specs.Dates.{kept, part_cost}
+use Rattle.minute_parts.specs.Walks.{later_minutes}
+use Rattle.walk_costs.specs.Walks.{AreSmall, PricedParts}
 use Rattle.walk_costs.proofs.SumLaws.{cost_in, part_by_second, sum_of_two}
 use Rattle.block_costs.specs.Blocks.{AreUnionsOfWalks, unions_cost}
 use Rattle.block_costs.proofs.HourLaws.{kept_at, none_told, own_second}
@@ -179,16 +180,6 @@ module _ (w : PricedParts) (announced : Bool) (p lo : ℕ) (first rest dates lat
   pub two_small : AreSmall w.grid → total ≤ most_cost w.grid
   two_small small =
       omega (arith, sum_of_two n of_time of_dates, sum_below_bound n (w.grid.receivers * RECEIVER_COST) (λ k. of_time k + of_dates k) (slot_small small))
-
--- a part of which no second is given up is kept as a whole
-pub all_kept : (grid : Grid) (p : ℕ) (part : List ℕ) → ((s : ℕ) → is_given_up grid.station s ≡ false) → part_cost grid p (kept grid.station part) ≡ part_cost grid p part
-all_kept grid p part none =
-    part_by_second grid p (kept grid.station part)
-    ∙ sum_below_same (length grid.rows) (λ k. cost_in grid k (get_or (kept grid.station part) ((p + k) % 60) 0)) (λ k. cost_in grid k (get_or part ((p + k) % 60) 0))
-    (λ k lt.
-    let s : ℕ = (p + k) % 60 in
-    ap (cost_in grid k) (kept_at grid.station part s (omega arith) ∙ ap (λ (given : Bool). if given then 0 else get_or part s 0) (none s)))
-    ∙ sym (part_by_second grid p part)
 
 -- the hour whose walks go on from run i to the next
 module _ (w : PricedParts) (table : IsPartTable w.parts) (own : w.parts.station ≡ w.grid.station) (announced : Bool) (i p lo u reach : ℕ) (first rest dates both : List ℕ)

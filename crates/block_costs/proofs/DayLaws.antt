@@ -3,7 +3,8 @@ use Rattle.std.proofs.Common.{◌≡◌, ◌≢◌, ℕ, ◌+◌, ◌*◌, ◌<�
 use Rattle.std.proofs.Math.ListN.{set}
 use Rattle.std.proofs.lemmas.Bool.{cases_lt}
 use Rattle.definitions.specs.codes.Allowed.{allowed}
-use Rattle.walk_costs.specs.Walks.{PricedParts, later_minutes}
+use Rattle.minute_parts.specs.Walks.{later_minutes}
+use Rattle.walk_costs.specs.Walks.{PricedParts}
 use Rattle.block_costs.specs.Days.{AreHoursAdded, IsHourAdded, hour_begin}
 use Rattle.block_costs.specs.Hours.{IsHourCost}
 use Rattle.block_costs.proofs.HourLaws.{unannounced_unions}

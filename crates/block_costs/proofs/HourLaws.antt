@@ -1,5 +1,5 @@
 -- What the unions of an hour cost: what the time of day tells there, and what the date tells of the seconds that are left to it.
-use Rattle.std.proofs.Common.{◌≡◌, ℕ, ◌+◌, ◌-◌, ◌*◌, ◌/◌, ◌%◌, ◌<◌, ◌≤◌, inl, inr, Bool, true, false, nat_lt, if◌then◌else◌, List, [], ◌∷◌, ◌++◌, length, get_or, bit_or, refl, sym, ap, ◌∙◌, subst, arith}
+use Rattle.std.proofs.Common.{◌≡◌, ℕ, ◌+◌, ◌-◌, ◌*◌, ◌/◌, ◌%◌, ◌<◌, ◌≤◌, inl, inr, Bool, true, false, ◌&&◌, nat_lt, if◌then◌else◌, List, [], ◌∷◌, ◌++◌, length, get_or, bit_or, refl, sym, ap, ◌∙◌, subst, arith}
 use Rattle.std.specs.Int.Bits.{or_zero_l, or_zero_r}
 use Rattle.std.proofs.Math.ListN.{get_or-append}
 use Rattle.std.proofs.lemmas.Bool.{and_parts, cases_Bool, cases_lt, lt-ltb, ltb-false, ltb-true, or_cases}
@@ -13,19 +13,20 @@ use Rattle.definitions.specs.heard.Costs.{set_cost}
 use Rattle.definitions.specs.time.Calendar.{minute_length}
 use Rattle.definitions.proofs.CostLaws.{sum_below_bound, sum_below_same}
 use Rattle.symbol_cost.specs.Grid.{cost_at}
-use Rattle.minute_parts.specs.Overlay.{is_call_second, is_time_second, tells_time}
+use Rattle.minute_parts.specs.Overlay.{is_call_minute, is_given_up, is_time_second, tells_time}
 use Rattle.minute_parts.specs.Parts.{IsPartTable, PartTable, part_where}
 use Rattle.minute_parts.specs.Runs.{end_of_run, first_of, run_at}
 use Rattle.symbol_cost.specs.declared.limits.TheConstants.{RECEIVER_COST}
 use Rattle.slot_columns.specs.Layered.{part_at}
 use Rattle.slot_columns.specs.Parts.{layered_cost, layered_set, most_cost}
 use Rattle.slot_columns.proofs.SetLaws.{none_chosen}
-use Rattle.span_unions.specs.Hours.{AreTimeLayers}
-use Rattle.span_unions.specs.Times.{time_at}
-use Rattle.span_unions.specs.Unions.{IsUnionOf, IsUnionOver}
-use Rattle.span_unions.proofs.UnionLaws.{none_has, one_union, union_same}
-use Rattle.walk_costs.specs.Dates.{is_given_up, kept, kept_set, part_cost}
-use Rattle.walk_costs.specs.Walks.{AreSmall, PricedParts, later_minutes}
+use Rattle.minute_parts.specs.HourLayers.{AreTimeLayers}
+use Rattle.minute_parts.specs.Times.{time_at}
+use Rattle.minute_parts.specs.Unions.{IsUnionOf, IsUnionOver}
+use Rattle.minute_parts.proofs.UnionLaws.{none_has, one_union, union_same}
+use Rattle.walk_costs.specs.Dates.{kept, kept_set, part_cost}
+use Rattle.minute_parts.specs.Walks.{later_minutes}
+use Rattle.walk_costs.specs.Walks.{AreSmall, PricedParts}
 use Rattle.slot_columns.proofs.SplitLaws.{one_layer}
 use Rattle.walk_costs.proofs.SumLaws.{at_second, cost_in, sum_of_two}
 use Rattle.block_costs.specs.Blocks.{AreUnionsOfWalks, unions_cost}
@@ -38,7 +39,7 @@ own_second Msf u s other kept = other
 own_second Wwvb u s other kept = other
 own_second Jjy u s other kept = elim (cases_Bool (tells_time Jjy u s)) [
   | inr untold ↦ untold
-  | inl told ↦ elim (or_cases (is_time_second Jjy s) (is_call_second u s) told) [
+  | inl told ↦ elim (or_cases (is_time_second Jjy s) (is_call_minute u && is_given_up Jjy s) told) [
     | inl own ↦ (let both : true ≡ false = sym own ∙ other in absurd cc)
     | inr call ↦ (let both : true ≡ false = sym (and_parts _ _ call).1 ∙ kept in absurd cc)
   ]

@@ -4,7 +4,8 @@ use Rattle.std.proofs.Math.ListN.{get_or-append}
 use Rattle.std.proofs.lemmas.Bool.{cases_lt}
 use Rattle.std.proofs.lemmas.List.{get_or_push, length_push}
 use Rattle.slot_columns.specs.Layered.{AreLayerCosts, LayerSums, part_at}
-use Rattle.walk_costs.specs.Walks.{PricedParts, later_minutes}
+use Rattle.minute_parts.specs.Walks.{later_minutes}
+use Rattle.walk_costs.specs.Walks.{PricedParts}
 use Rattle.block_costs.specs.declared.kept.Range.{Range}
 use Rattle.block_costs.specs.Keeping.{AreGathered, AreKept, AreKeptLayers, no_range, range_at}
 use Rattle.block_costs.proofs.UnionLaws.{layers_cost}

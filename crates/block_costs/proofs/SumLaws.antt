@@ -7,7 +7,7 @@ use Rattle.definitions.proofs.CostLaws.{sum_below_bound, sum_below_same}
 use Rattle.symbol_cost.specs.Grid.{Grid, cost_at}
 use Rattle.symbol_cost.specs.declared.limits.TheConstants.{RECEIVER_COST}
 use Rattle.slot_columns.specs.Parts.{minute_cost, most_cost}
-use Rattle.span_unions.specs.Unions.{IsUnionOver}
+use Rattle.minute_parts.specs.Unions.{IsUnionOver}
 use Rattle.walk_costs.specs.Walks.{AreSmall}
 use Rattle.walk_costs.proofs.SumLaws.{cost_in, sum_of_two}
 use Rattle.block_costs.specs.Blocks.{AreUnionsOfWalks, unions_cost}

@@ -9,8 +9,8 @@ use Rattle.definitions.specs.codes.Allowed.{IsSetOf, allowed}
 use Rattle.definitions.specs.sequences.Walks.{set_at}
 use Rattle.definitions.proofs.SetLaws.{sent}
 use Rattle.slot_columns.proofs.SetLaws.{few_symbols}
-use Rattle.span_unions.specs.Unions.{IsUnionOf, IsUnionOver}
-use Rattle.span_unions.proofs.UnionLaws.{union_one}
+use Rattle.minute_parts.specs.Unions.{IsUnionOf, IsUnionOver}
+use Rattle.minute_parts.proofs.UnionLaws.{union_one}
 use Rattle.walk_costs.specs.Dates.{IsAdded}
 use Rattle.walk_costs.specs.Walks.{AreSmall, PricedParts, last_minute}
 use Rattle.walk_costs.proofs.PlaceLaws.{nominal}

@@ -7,10 +7,10 @@ use Rattle.definitions.proofs.CostLaws.{sum_below_same}
 use Rattle.definitions.specs.heard.Costs.{set_cost}
 use Rattle.symbol_cost.specs.Grid.{Grid, cost_at}
 use Rattle.slot_columns.specs.Parts.{layered_cost, layered_set}
-use Rattle.span_unions.specs.declared.layers.Layers.{Layers}
-use Rattle.span_unions.specs.Layers.{AreLayers}
-use Rattle.span_unions.specs.Unions.{IsUnionOver}
-use Rattle.span_unions.proofs.UnionLaws.{one_union}
+use Rattle.minute_parts.specs.declared.layers.Layers.{Layers}
+use Rattle.minute_parts.specs.Layers.{AreLayers}
+use Rattle.minute_parts.specs.Unions.{IsUnionOver}
+use Rattle.minute_parts.proofs.UnionLaws.{one_union}
 use Rattle.block_costs.specs.Blocks.{AreUnionsOfWalks, unions_cost}
 
 -- a slot has one union

@@ -4,7 +4,7 @@ use Rattle.signal_base.specs.declared.station.Station.{Station}
 use Rattle.definitions.specs.heard.Costs.{set_cost, sum_below}
 use Rattle.symbol_cost.specs.Grid.{Grid, cost_at}
 use Rattle.slot_columns.specs.declared.limits.TheConstants.{SECONDS_PER_MINUTE}
-use Rattle.span_unions.specs.Unions.{IsUnionOver}
+use Rattle.minute_parts.specs.Unions.{IsUnionOver}
 
 -- the walks begin with second p of the minutes from lo up to, and without, hi: slot k of n is second (p + k) mod 60 of the
 -- minutes that come (p + k) div 60 later, and has their union

@@ -4,9 +4,10 @@ use Rattle.symbol_cost.specs.Grid.{Grid, cost_at}
 use Rattle.slot_columns.specs.Layered.{part_at}
 use Rattle.slot_columns.specs.Parts.{layered_cost, most_cost}
 use Rattle.slot_columns.specs.declared.limits.TheConstants.{SECONDS_PER_MINUTE}
-use Rattle.span_unions.specs.Hours.{AreTimeLayers}
-use Rattle.walk_costs.specs.Dates.{is_given_up}
-use Rattle.walk_costs.specs.Walks.{PricedParts, later_minutes}
+use Rattle.minute_parts.specs.HourLayers.{AreTimeLayers}
+use Rattle.minute_parts.specs.Overlay.{is_given_up}
+use Rattle.minute_parts.specs.Walks.{later_minutes}
+use Rattle.walk_costs.specs.Walks.{PricedParts}
 use Rattle.block_costs.specs.declared.hours.HoursInRun.{HoursInRun}
 use Rattle.block_costs.specs.declared.hours.TheConstants.{DAY_HOURS}
 use Rattle.block_costs.specs.declared.minutes.TheConstants.{HOUR_MINUTES}

@@ -3,8 +3,9 @@ use Rattle.std.specs.Prelude.{ℕ, ◌≡◌, ◌<◌, ◌≤◌, false, List, l
 use Rattle.slot_columns.specs.Layered.{LayerSums, layer_cost, part_at}
 use Rattle.slot_columns.specs.Parts.{most_cost}
 use Rattle.slot_columns.specs.declared.limits.TheConstants.{SECONDS_PER_MINUTE}
-use Rattle.span_unions.specs.Layers.{AreLayers}
-use Rattle.walk_costs.specs.Walks.{PricedParts, later_minutes}
+use Rattle.minute_parts.specs.Layers.{AreLayers}
+use Rattle.minute_parts.specs.Walks.{later_minutes}
+use Rattle.walk_costs.specs.Walks.{PricedParts}
 use Rattle.block_costs.specs.declared.kept.Range.{Range}
 use Rattle.block_costs.specs.Blocks.{AreUnionsOfWalks, unions_cost}
 

@@ -1,20 +1,17 @@
 //! What the unions of an hour cost whose walks go on from one run to the next, as in the last hour of each local day: what the
 //! time of day tells there, which is kept, and what the two dates tell together.
 
-ghost use Rattle.std.specs.Prelude.{ℕ, ◌≡◌, ◌+◌, ◌<◌, ◌≤◌, ◌^◌, IfSome, bit_or, false, if◌then◌else◌, length, slice_index, true};
-ghost use Rattle.span_unions.specs.Unions.{AreRegular};
+ghost use Rattle.std.specs.Prelude.{◌≡◌, ◌+◌, ◌<◌, IfSome, if◌then◌else◌, length};
+ghost use Rattle.minute_parts.specs.Unions.{AreRegular};
 ghost use Rattle.slot_columns.specs.declared.limits.TheConstants.{SECONDS_PER_MINUTE};
-ghost use Rattle.walk_costs.specs.Dates.{is_given_up};
-ghost use Rattle.walk_costs.specs.Walks.{later_minutes};
+ghost use Rattle.minute_parts.specs.Walks.{later_minutes};
 ghost use Rattle.block_costs.specs.Hours.{AreHours, IsHourCost};
 ghost use Rattle.block_costs.specs.declared.minutes.TheConstants.{HOUR_MINUTES};
 
 use crate::hours::{DAY_HOURS, Hours, bytes_of};
 use definitions::{MINUTES_PER_DAY, MINUTES_PER_HOUR};
-use signal_base::Station;
-use slot_columns::{Part, SECONDS_PER_MINUTE};
-use span_unions::hours_tell_time_and_date;
-use walk_costs::{StationWalks, date_part};
+use minute_parts::{Part, either, gives_up, hours_tell_time_and_date};
+use walk_costs::StationWalks;
 
 impl Hours {
     /// What the unions cost over the walks from second `p` of the hour that begins in the minute `lo`, where it is kept and its
@@ -28,7 +25,7 @@ impl Hours {
     {
         hours_tell_time_and_date();
         let columns = walks.columns();
-        if !sends_no_call(columns.station()) {
+        if gives_up(columns.station()) {
             return None;
         }
         let unions = walks.unions();
@@ -64,23 +61,12 @@ impl Hours {
         if hour >= self.firsts.len() {
             return None;
         }
-        let before = date_part(at, announced);
-        let both = either(before, date_part(next, announced));
+        let before = at.date_part(announced);
+        let both = either(before, next.date_part(announced));
         let first = either_of(end < hour_end, &both, before);
         bytes_of(before);
-        let date = walks.kept_date_cost(announced, p, run);
-        let dates = columns.changed_cost(p, date, before, &first, &both);
+        let dates = columns.layered_cost(p, &first, &both);
         Some(self.costs[p as usize * DAY_HOURS + hour] + dates)
-    }
-}
-
-// Whether the station gives up no second for a call sign.
-fn sends_no_call(station: Station) -> bool
-    ensures { result ≡ true → (s : ℕ) → is_given_up station s ≡ false }
-{
-    match station {
-        Station::Dcf77 | Station::Msf | Station::Wwvb => true,
-        Station::Jjy => false,
     }
 }
 
@@ -89,16 +75,4 @@ fn either_of(is_one: bool, one: &Part, other: &Part) -> Part
     ensures { result ≡ (if is_one then one.now else other.now) }
 {
     if is_one { *one } else { *other }
-}
-
-// The sets of two parts together, second by second.
-fn either(a: &Part, b: &Part) -> Part
-    ensures sets { (s : ℕ) → s < SECONDS_PER_MINUTE → slice_index result s ≡ bit_or (slice_index a.now s) (slice_index b.now s) }
-    ensures bytes { (s : ℕ) → s < SECONDS_PER_MINUTE → slice_index result s < 2 ^ 8 }
-{
-    let mut part = [0; SECONDS_PER_MINUTE];
-    for s in 0..SECONDS_PER_MINUTE {
-        part[s] = a[s] | b[s];
-    }
-    part
 }

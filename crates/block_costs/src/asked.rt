@@ -1,10 +1,10 @@
 //! What unions cost that are made as they are asked for.
 
 ghost use Rattle.std.specs.Prelude.{ℕ, ◌≡◌, ◌+◌, ◌<◌, ◌≤◌, length};
-ghost use Rattle.span_unions.specs.Unions.{AreRegular};
+ghost use Rattle.minute_parts.specs.Unions.{AreRegular};
 ghost use Rattle.slot_columns.specs.Parts.{most_cost};
 ghost use Rattle.slot_columns.specs.declared.limits.TheConstants.{SECONDS_PER_MINUTE};
-ghost use Rattle.walk_costs.specs.Walks.{later_minutes};
+ghost use Rattle.minute_parts.specs.Walks.{later_minutes};
 ghost use Rattle.block_costs.specs.Blocks.{AreUnionsOfWalks, unions_cost};
 
 use walk_costs::StationWalks;

@@ -1,10 +1,10 @@
 //! The tables of a station's blocks.
 
 ghost use Rattle.std.specs.Prelude.{ℕ, ◌≡◌, ◌+◌, ◌<◌, ◌≤◌, IfOk, false, length};
-ghost use Rattle.span_unions.specs.Unions.{AreRegular};
+ghost use Rattle.minute_parts.specs.Unions.{AreRegular};
 ghost use Rattle.slot_columns.specs.Parts.{most_cost};
 ghost use Rattle.slot_columns.specs.declared.limits.TheConstants.{SECONDS_PER_MINUTE};
-ghost use Rattle.walk_costs.specs.Walks.{later_minutes};
+ghost use Rattle.minute_parts.specs.Walks.{later_minutes};
 ghost use Rattle.block_costs.specs.Blocks.{AreUnionsOfWalks, unions_cost};
 ghost use Rattle.block_costs.specs.Hours.{IsHourCost};
 ghost use Rattle.block_costs.specs.declared.minutes.TheConstants.{HOUR_MINUTES};
@@ -14,29 +14,9 @@ use crate::hours::{Hours, hours_of};
 use crate::kept::{Kept, YEAR_DAYS, is_kept, kept_days, kept_years};
 use crate::minutes::HOUR_MINUTES;
 use definitions::MINUTES_PER_DAY;
-use slot_columns::ColumnsFault;
 use std::alloc::{AllocError, Global};
 use std::marker::Model;
 use walk_costs::StationWalks;
-
-/// Why the tables can't be made.
-#[derive(Clone, Copy, Debug, PartialEq, Eq)]
-pub enum BlocksFault {
-    /// Memory wasn't found.
-    NoMemory,
-}
-
-impl From<AllocError> for BlocksFault {
-    fn from(_error: AllocError) -> BlocksFault {
-        BlocksFault::NoMemory
-    }
-}
-
-impl From<ColumnsFault> for BlocksFault {
-    fn from(_fault: ColumnsFault) -> BlocksFault {
-        BlocksFault::NoMemory
-    }
-}
 
 /// What the blocks of a search cost one station. Contracts see the parts of its telegrams and the grid of costs, as with
 /// the walks.
@@ -64,7 +44,7 @@ impl Model for StationBlocks {
 
 impl StationBlocks {
     /// Makes ready for the blocks of walks that cost this.
-    pub fn make(alloc: Global, walks: StationWalks) -> Result<StationBlocks, BlocksFault>
+    pub fn make(alloc: Global, walks: StationWalks) -> Result<StationBlocks, AllocError>
         ensures { IfOk result (λ blocks. blocks ≡ walks) }
     {
         let days = kept_days(alloc, &walks)?;
@@ -95,13 +75,13 @@ impl StationBlocks {
         ensures bound { result ≤ most_cost self.now.grid }
     {
         if !announced {
-            return self.plain_cost(p, lo, hi);
+            return self.unannounced_cost(p, lo, hi);
         }
         // What ends before the parts' end fits.
         self.walks.parts().end();
         let last = hi - 1 + self.walks.later_minutes(p);
         if self.walks.never_shows(lo, last) {
-            return self.plain_cost(p, lo, hi);
+            return self.unannounced_cost(p, lo, hi);
         }
         if hi - lo == HOUR_MINUTES as u32 {
             return self.hour_cost(announced, p, lo);
@@ -110,7 +90,7 @@ impl StationBlocks {
     }
 
     // The same where no leap second is announced.
-    fn plain_cost(&self, p: u8, lo: u32, hi: u32) -> u32
+    fn unannounced_cost(&self, p: u8, lo: u32, hi: u32) -> u32
         requires second { p < SECONDS_PER_MINUTE }
         requires some { lo < hi }
         requires encoded { hi + later_minutes (length self.now.grid.rows) p ≤ self.now.parts.end }

@@ -2,10 +2,10 @@
 
 ghost use Rattle.std.specs.Prelude.{ℕ, ◌≡◌, ◌+◌, ◌*◌, ◌<◌, ◌≤◌, ◌^◌, length, slice_index};
 ghost use Rattle.definitions.specs.time.Calendar.{minutes_per_day};
-ghost use Rattle.span_unions.specs.Unions.{AreRegular};
+ghost use Rattle.minute_parts.specs.Unions.{AreRegular};
 ghost use Rattle.slot_columns.specs.Parts.{most_cost};
 ghost use Rattle.slot_columns.specs.declared.limits.TheConstants.{SECONDS_PER_MINUTE};
-ghost use Rattle.walk_costs.specs.Walks.{later_minutes};
+ghost use Rattle.minute_parts.specs.Walks.{later_minutes};
 ghost use Rattle.block_costs.specs.Days.{AreHoursAdded, IsHourAdded, hour_begin};
 ghost use Rattle.block_costs.specs.declared.hours.TheConstants.{DAY_HOURS};
 
@@ -14,12 +14,12 @@ use crate::hours::{DAY_HOURS, HoursInRun};
 use definitions::{MINUTES_PER_DAY, MINUTES_PER_HOUR};
 
 /// A cost for each hour of a day.
-pub type HourCosts = [u32; DAY_HOURS];
+pub type HoursOfDay = [u32; DAY_HOURS];
 
 impl StationBlocks {
     /// Adds what the unions of the hours of a UTC day cost the station, over the walks from second `p` whose minutes have 60
     /// seconds each: to entry `h` what hour `h` costs.
-    pub fn add_hour_costs(&self, announced: bool, p: u8, day: u32, costs: &mut HourCosts)
+    pub fn add_hour_costs(&self, announced: bool, p: u8, day: u32, costs: &mut HoursOfDay)
         requires second { p < SECONDS_PER_MINUTE }
         requires regular { AreRegular announced (day * minutes_per_day) ((day + 1) * minutes_per_day + later_minutes (length self.now.grid.rows) p) self.now.parts.end }
         requires room { (h : ℕ) → h < DAY_HOURS → slice_index costs.old h + most_cost self.now.grid < 2 ^ 32 }
@@ -42,7 +42,7 @@ impl StationBlocks {
     }
 
     // The same where it doesn't matter whether the announcement changes something.
-    fn add_hours(&self, announced: bool, p: u8, day: u32, costs: &mut HourCosts)
+    fn add_hours(&self, announced: bool, p: u8, day: u32, costs: &mut HoursOfDay)
         requires second { p < SECONDS_PER_MINUTE }
         requires regular { AreRegular announced (day * minutes_per_day) ((day + 1) * minutes_per_day + later_minutes (length self.now.grid.rows) p) self.now.parts.end }
         requires room { (h : ℕ) → h < DAY_HOURS → slice_index costs.old h + most_cost self.now.grid < 2 ^ 32 }
@@ -62,7 +62,7 @@ impl StationBlocks {
         p: u8,
         day: u32,
         h: usize,
-        costs: &mut HourCosts,
+        costs: &mut HoursOfDay,
     ) -> usize
         requires second { p < SECONDS_PER_MINUTE }
         requires some { h < DAY_HOURS }
@@ -92,7 +92,7 @@ impl StationBlocks {
 }
 
 // Adds to the entries from `at` on what these hours cost, by the row that they are in.
-fn add_row(costs: &mut HourCosts, at: usize, row: &[u32], kept: &HoursInRun)
+fn add_row(costs: &mut HoursOfDay, at: usize, row: &[u32], kept: &HoursInRun)
     requires entries { at + kept.now.count ≤ DAY_HOURS }
     requires hours { kept.now.begin + kept.now.count ≤ length row.now }
     requires room { (j : ℕ) → j < kept.now.count → slice_index costs.old (at + j) + (slice_index row.now (kept.now.begin + j) + kept.now.date) < 2 ^ 32 }

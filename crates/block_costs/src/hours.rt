@@ -4,18 +4,18 @@
 ghost use Rattle.std.specs.Prelude.{ℕ, ◌≡◌, ◌+◌, ◌*◌, ◌<◌, ◌≤◌, ◌^◌, IfOk, IfSome, OnOk, bit_or, false, length, slice_index, true};
 ghost use Rattle.block_costs.specs.declared.minutes.TheConstants.{HOUR_MINUTES};
 ghost use Rattle.slot_columns.specs.declared.limits.TheConstants.{SECONDS_PER_MINUTE};
-ghost use Rattle.span_unions.specs.Unions.{AreRegular};
-ghost use Rattle.walk_costs.specs.Dates.{is_given_up};
-ghost use Rattle.walk_costs.specs.Walks.{later_minutes};
+ghost use Rattle.minute_parts.specs.Unions.{AreRegular};
+ghost use Rattle.minute_parts.specs.Overlay.{is_given_up};
+ghost use Rattle.minute_parts.specs.Walks.{later_minutes};
 ghost use Rattle.block_costs.specs.Hours.{AreHourCosts, AreHourLayers, AreHours, AreHoursInRun, hour_at};
 
 use crate::kept::LAST_SECOND;
 use definitions::{MINUTES_PER_DAY, MINUTES_PER_HOUR};
+use minute_parts::{CALL_BEGIN, CALL_END, CALL_MARKER, CALL_MINUTE, hours_tell_time_and_date};
 use signal_base::Station;
 use slot_columns::{Part, SECONDS_PER_MINUTE};
-use span_unions::hours_tell_time_and_date;
 use std::alloc::{AllocError, Global};
-use walk_costs::{StationWalks, date_part};
+use walk_costs::StationWalks;
 
 /// What the time of day tells in the hours of the local day, and what that costs. They begin so many minutes after a whole
 /// local hour as the UTC hours do.
@@ -43,9 +43,6 @@ pub struct HoursInRun {
 
 /// How many hours there are.
 pub const DAY_HOURS: usize = (MINUTES_PER_DAY / MINUTES_PER_HOUR) as usize;
-
-// In this minute of each hour JJY sends its call sign.
-const CALL_MINUTE: u16 = 15;
 
 // How many entries the rows have together.
 const ENTRIES: usize = SECONDS_PER_MINUTE * DAY_HOURS;
@@ -181,7 +178,7 @@ impl Hours {
             return None;
         }
         let columns = walks.columns();
-        let told = date_part(at, announced);
+        let told = at.date_part(announced);
         if !leaves_nothing(columns.station(), &self.call, told) {
             return None;
         }
@@ -209,7 +206,10 @@ fn leaves_nothing(station: Station, call: &Part, date: &Part) -> bool
     ensures { result ≡ true → (s : ℕ) → is_given_up station s ≡ true → bit_or (slice_index call.now s) (slice_index date.now s) ≡ slice_index call.now s }
 {
     match station {
-        Station::Jjy => covers(call, date, 40, 49) && covers(call, date, 50, 56),
+        Station::Jjy => {
+            covers(call, date, CALL_BEGIN, CALL_MARKER)
+                && covers(call, date, CALL_MARKER + 1, CALL_END)
+        }
         Station::Dcf77 | Station::Msf | Station::Wwvb => true,
     }
 }
@@ -219,7 +219,10 @@ fn calls_alike(station: Station, part: &Part, call: &Part) -> bool
     ensures { result ≡ true → (s : ℕ) → is_given_up station s ≡ true → slice_index part.now s ≡ slice_index call.now s }
 {
     match station {
-        Station::Jjy => same_in(part, call, 40, 49) && same_in(part, call, 50, 56),
+        Station::Jjy => {
+            same_in(part, call, CALL_BEGIN, CALL_MARKER)
+                && same_in(part, call, CALL_MARKER + 1, CALL_END)
+        }
         Station::Dcf77 | Station::Msf | Station::Wwvb => true,
     }
 }

@@ -5,7 +5,7 @@ ghost use Rattle.std.specs.Prelude.{◌≡◌, ◌<◌, ◌≤◌, [], IfOk, OnO
 ghost use Rattle.block_costs.specs.Keeping.{AreGathered, AreKept, range_at};
 
 use definitions::{CENTURY_DAYS, MINUTES_PER_DAY};
-use slot_columns::{ColumnsFault, LayerTable, Part};
+use slot_columns::{LayerTable, Part};
 use std::alloc::{AllocError, Global};
 use walk_costs::StationWalks;
 
@@ -41,7 +41,7 @@ pub const CENTURY_YEARS: u32 = 100;
 pub const YEAR_DAYS: u32 = 365;
 
 /// The days of the century.
-pub fn kept_days(alloc: Global, walks: &StationWalks) -> Result<Kept, ColumnsFault>
+pub fn kept_days(alloc: Global, walks: &StationWalks) -> Result<Kept, AllocError>
     ensures { IfOk result (λ kept. AreKept walks.now kept.ranges.items kept.costs) }
 {
     let mut gathered = room_for(alloc, CENTURY_DAYS as usize)?;
@@ -53,7 +53,7 @@ pub fn kept_days(alloc: Global, walks: &StationWalks) -> Result<Kept, ColumnsFau
 }
 
 /// Its years.
-pub fn kept_years(alloc: Global, walks: &StationWalks) -> Result<Kept, ColumnsFault>
+pub fn kept_years(alloc: Global, walks: &StationWalks) -> Result<Kept, AllocError>
     ensures { IfOk result (λ kept. AreKept walks.now kept.ranges.items kept.costs) }
 {
     let mut gathered = room_for(alloc, CENTURY_YEARS as usize)?;
@@ -106,7 +106,7 @@ fn gather(gathered: &mut Gathered, walks: &StationWalks, lo: u32, hi: u32) -> Re
 }
 
 // What the layers cost.
-fn costs_of(alloc: Global, walks: &StationWalks, gathered: Gathered) -> Result<Kept, ColumnsFault>
+fn costs_of(alloc: Global, walks: &StationWalks, gathered: Gathered) -> Result<Kept, AllocError>
     requires { AreGathered walks.now gathered.ranges.items gathered.firsts.items gathered.rests.items }
     ensures { IfOk result (λ kept. AreKept walks.now kept.ranges.items kept.costs) }
 {

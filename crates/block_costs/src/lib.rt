@@ -14,7 +14,7 @@ mod minutes;
 #[cfg(test)]
 mod tests;
 
-pub use blocks::{BlocksFault, StationBlocks};
-pub use day::HourCosts;
+pub use blocks::StationBlocks;
+pub use day::HoursOfDay;
 pub use hours::DAY_HOURS;
 pub use minutes::{HOUR_MINUTES, MinuteCosts};

@@ -4,11 +4,12 @@
 ghost use Rattle.std.specs.Prelude.{ℕ, ◌≡◌, ◌+◌, ◌^◌, ◌<◌, ◌≤◌, length, slice_index};
 ghost use Rattle.minute_parts.specs.Parts.{IsInRun};
 ghost use Rattle.minute_parts.specs.Runs.{end_of_run};
-ghost use Rattle.span_unions.specs.Unions.{AreRegular};
+ghost use Rattle.minute_parts.specs.Unions.{AreRegular};
 ghost use Rattle.slot_columns.specs.Parts.{most_cost};
 ghost use Rattle.slot_columns.specs.declared.limits.TheConstants.{SECONDS_PER_MINUTE};
 ghost use Rattle.walk_costs.specs.Stretches.{AreAddedCosts, HaveRoom};
-ghost use Rattle.walk_costs.specs.Walks.{cost_of, last_minute, later_minutes};
+ghost use Rattle.minute_parts.specs.Walks.{later_minutes};
+ghost use Rattle.walk_costs.specs.Walks.{cost_of, last_minute};
 
 use crate::asked::cost_by_minutes;
 use crate::blocks::StationBlocks;

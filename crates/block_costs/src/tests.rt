@@ -4,16 +4,15 @@ ghost use Rattle.std.specs.Prelude.{◌≡◌, ◌+◌, ◌<◌, ◌≤◌, ℕ,
 ghost use Rattle.signal_base.specs.Limits.{IsPriced};
 ghost use Rattle.signal_base.specs.declared.limits.TheConstants.{MOST_COST};
 ghost use Rattle.slot_columns.specs.declared.limits.TheConstants.{SECONDS_PER_MINUTE};
-ghost use Rattle.span_unions.specs.Unions.{AreRegular};
-ghost use Rattle.walk_costs.specs.Walks.{later_minutes};
+ghost use Rattle.minute_parts.specs.Unions.{AreRegular};
+ghost use Rattle.minute_parts.specs.Walks.{later_minutes};
 ghost use Rattle.block_costs.specs.declared.minutes.TheConstants.{HOUR_MINUTES};
 
 use crate::{HOUR_MINUTES, MinuteCosts, StationBlocks};
 use civil::Civil;
-use minute_parts::Parts;
+use minute_parts::{Parts, Unions};
 use pulse_log::read_log;
 use signal_base::{CostTable, Station, Tuning};
-use span_unions::Unions;
 use std::alloc::Global;
 use std::test::Fail;
 use std::time::Instant;

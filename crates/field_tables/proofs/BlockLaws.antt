@@ -9,9 +9,9 @@ use Rattle.definitions.specs.time.Calendar.{minute_length}
 use Rattle.definitions.specs.codes.Allowed.{CanBeEncoded}
 use Rattle.definitions.specs.sequences.Walks.{IsWalkable, place_at}
 use Rattle.definitions.specs.answers.Blocks.{HasWalk, IsBlock, IsIn, IsUnion, first_of, span_end}
-use Rattle.span_unions.specs.Unions.{IsUnionOver}
-use Rattle.span_unions.specs.Walks.{HasPlainWalks, reach}
-use Rattle.span_unions.proofs.WalkLaws.{unions, walkable}
+use Rattle.minute_parts.specs.Unions.{IsUnionOver}
+use Rattle.minute_parts.specs.Walks.{HasRegularWalks, reach}
+use Rattle.minute_parts.proofs.WalkLaws.{unions, walkable}
 use Rattle.walk_costs.proofs.PlaceLaws.{nominal, plain_place}
 use Rattle.field_tables.specs.Blocks.{HasShortWalks}
 
@@ -54,8 +54,8 @@ module _ (window : Window) (b : Block) (block : IsBlock window b) (end : ℕ) (e
   no_walk none = λ h. let inside = in_cut h.0 h.1 h.2 in omega (arith, none, inside.before_end, inside.not_before)
 
   module _ (some : b.lo < hi) where
-    plain : HasPlainWalks its cut
-    plain = record {
+    regular_cut : HasRegularWalks its cut
+    regular_cut = record {
       second = regular.second;
       short = λ t ge lt. regular.short t ge (omega (arith, lt, not_later.0));
       encoded = λ t ge lt. (ends t).0 (omega (arith, lt, not_later.1, some));
@@ -71,7 +71,7 @@ module _ (window : Window) (b : Block) (block : IsBlock window b) (end : ℕ) (e
     }
 
     walks_in : (q : Sequence) → IsIn cut q → IsWalkable its q
-    walks_in q inside = walkable its cut plain q cut_block inside
+    walks_in q inside = walkable its cut regular_cut q cut_block inside
 
     walks : (q : Sequence) → IsIn cut q → IsWalkable window q
     walks q inside =
@@ -100,7 +100,7 @@ module _ (window : Window) (b : Block) (block : IsBlock window b) (end : ℕ) (e
     pub union_over : (station : Station) (k set : ℕ) → k < window.seconds → IsUnion window b station k set
         → IsUnionOver station b.announced (b.lo + (b.second + k) / 60) (hi + (b.second + k) / 60) ((b.second + k) % 60) set
     union_over station k set lt u =
-        (unions its cut plain cut_block station k lt set).0 (record {
+        (unions its cut regular_cut cut_block station k lt set).0 (record {
           byte = u.byte;
           each = λ x h. u.each x (h.0, within h.0 h.1, walks h.0 h.1, h.3);
           only = λ x has. let h = u.only x has in let inside = in_cut h.0 h.1 h.2 in (h.0, inside, walks_in h.0 inside, h.3);

@@ -8,8 +8,8 @@ use Rattle.definitions.specs.heard.Costs.{set_cost, sum_below}
 use Rattle.definitions.specs.answers.Blocks.{IsBlock, IsUnionBound, span_end}
 use Rattle.definitions.proofs.BoundExistLaws.{a_union}
 use Rattle.symbol_cost.specs.Grid.{cost_at}
-use Rattle.span_unions.specs.Unions.{AreRegular}
-use Rattle.span_unions.specs.Walks.{reach}
+use Rattle.minute_parts.specs.Unions.{AreRegular}
+use Rattle.minute_parts.specs.Walks.{reach}
 use Rattle.walk_costs.specs.Walks.{PricedParts}
 use Rattle.block_costs.specs.Blocks.{AreUnionsOfWalks}
 use Rattle.block_costs.specs.Days.{hour_begin}

@@ -18,7 +18,8 @@ use Rattle.leap_unions.specs.Pieces.{announced_from}
 use Rattle.leap_unions.specs.Scope.{Scope}
 use Rattle.leap_unions.specs.Walks.{IsLeapWalk}
 use Rattle.leap_unions.proofs.NominalLaws.{reached}
-use Rattle.walk_costs.specs.Walks.{PricedParts, ShowsAnnouncement, cost_of, later_minutes}
+use Rattle.minute_parts.specs.Walks.{later_minutes}
+use Rattle.walk_costs.specs.Walks.{PricedParts, ShowsAnnouncement, cost_of}
 use Rattle.block_costs.specs.Blocks.{unions_cost}
 use Rattle.field_tables.specs.Hours.{no_walks}
 use Rattle.field_tables.specs.Leaps.{IsLeapCost}

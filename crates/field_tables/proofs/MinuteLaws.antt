@@ -13,8 +13,8 @@ use Rattle.definitions.specs.answers.Blocks.{IsBlock, first_of, span_end}
 use Rattle.definitions.specs.sequences.Walks.{IsLegal, IsSequence, IsWalkable, ShowsLeap, set_at, unannounced}
 use Rattle.definitions.specs.sequences.Windows.{IsWindow}
 use Rattle.symbol_cost.specs.Grid.{Grid}
-use Rattle.span_unions.specs.Unions.{AreRegular}
-use Rattle.span_unions.specs.Walks.{reach}
+use Rattle.minute_parts.specs.Unions.{AreRegular}
+use Rattle.minute_parts.specs.Walks.{reach}
 use Rattle.walk_costs.specs.Walks.{PricedParts, ShowsAnnouncement}
 use Rattle.walk_costs.proofs.PlaceLaws.{nominal}
 use Rattle.plain_costs.proofs.GridLaws.{place}
@@ -88,8 +88,8 @@ module _ (sums : Sums) (are : AreSums sums) where
     twin_walkable = walks_where false (λ t from less. refl)
 
     -- a sequence that isn't announced is legal
-    pub legal_where_plain : b.announced ≡ false → IsLegal sums.window (sequence_at b t0)
-    legal_where_plain plain = (walkable, λ announced. let both = sym announced ∙ plain in absurd cc)
+    pub legal_where_unannounced : b.announced ≡ false → IsLegal sums.window (sequence_at b t0)
+    legal_where_unannounced unannounced = (walkable, λ announced. let both = sym announced ∙ unannounced in absurd cc)
 
     -- and one that is where it shows that
     pub legal_where_shown : b.announced ≡ true → IsLegal sums.window (sequence_at b t0) ↔ ShowsLeap sums.window (sequence_at b t0)

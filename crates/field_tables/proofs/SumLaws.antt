@@ -10,7 +10,7 @@ use Rattle.definitions.specs.answers.Blocks.{IsUnion}
 use Rattle.definitions.specs.heard.Costs.{set_cost, sum_below}
 use Rattle.definitions.proofs.BoundLaws.{unions_one}
 use Rattle.definitions.proofs.CostLaws.{sum_below_same}
-use Rattle.span_unions.specs.Unions.{AreRegular}
+use Rattle.minute_parts.specs.Unions.{AreRegular}
 use Rattle.block_costs.specs.Blocks.{AreUnionsOfWalks, unions_cost}
 use Rattle.plain_costs.specs.Unions.{AreUnions}
 use Rattle.field_tables.specs.Blocks.{AreUnionsOver}
@@ -22,7 +22,8 @@ use Rattle.slot_columns.specs.Parts.{most_cost}
 use Rattle.plain_costs.specs.Grids.{grid_costs}
 use Rattle.plain_costs.proofs.GridLaws.{heard_at, sum_by_station}
 use Rattle.plain_costs.proofs.WalkLaws.{few_slots, more_receivers}
-use Rattle.walk_costs.specs.Walks.{PricedParts, later_minutes}
+use Rattle.minute_parts.specs.Walks.{later_minutes}
+use Rattle.walk_costs.specs.Walks.{PricedParts}
 use Rattle.field_tables.specs.Sums.{AreSums, Sums, grids_of}
 
 abbrev pub receivers : Grid → ℕ

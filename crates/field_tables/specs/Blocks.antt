@@ -5,8 +5,8 @@ use Rattle.signal_base.specs.declared.window.Window.{Window}
 use Rattle.definitions.specs.declared.block.Block.{Block}
 use Rattle.definitions.specs.time.Calendar.{minute_length}
 use Rattle.definitions.specs.codes.Allowed.{has_station}
-use Rattle.span_unions.specs.Unions.{IsUnionOver}
-use Rattle.span_unions.specs.Walks.{reach}
+use Rattle.minute_parts.specs.Unions.{IsUnionOver}
+use Rattle.minute_parts.specs.Walks.{reach}
 
 -- minutes of the window's range, and a second that a minute can have
 pub record AreMinutesOf (window : Window) (b : Block) : Type 0 where

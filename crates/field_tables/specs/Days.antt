@@ -6,7 +6,7 @@ use Rattle.definitions.specs.declared.block.Block.{Block}
 use Rattle.definitions.specs.declared.block.Span.TheVariants.{Hour}
 use Rattle.definitions.specs.answers.Blocks.{IsBlock, union_cost}
 use Rattle.definitions.specs.time.Calendar.{minutes_per_day, minutes_per_hour}
-use Rattle.span_unions.specs.Walks.{reach}
+use Rattle.minute_parts.specs.Walks.{reach}
 use Rattle.block_costs.specs.declared.hours.TheConstants.{DAY_HOURS}
 use Rattle.field_tables.specs.Blocks.{AreUnionsOver, HasShortWalks}
 use Rattle.field_tables.specs.Scored.{Scored}

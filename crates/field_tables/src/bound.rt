@@ -6,8 +6,8 @@ ghost use Rattle.definitions.specs.answers.Blocks.{IsBlock, IsUnionBound, union_
 ghost use Rattle.definitions.specs.heard.Costs.{set_cost, sum_below};
 ghost use Rattle.symbol_cost.specs.Grid.{cost_at};
 ghost use Rattle.slot_columns.specs.Parts.{most_cost};
-ghost use Rattle.span_unions.specs.Unions.{AreRegular};
-ghost use Rattle.span_unions.specs.Walks.{reach};
+ghost use Rattle.minute_parts.specs.Unions.{AreRegular};
+ghost use Rattle.minute_parts.specs.Walks.{reach};
 ghost use Rattle.field_tables.specs.Blocks.{AreUnionsOver, HasShortWalks};
 ghost use Rattle.field_tables.specs.Sums.{costs_by};
 

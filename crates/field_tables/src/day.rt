@@ -9,7 +9,7 @@ ghost use Rattle.field_tables.specs.Days.{hour_of};
 ghost use Rattle.field_tables.specs.Scored.{costs_of};
 
 use crate::sums::WindowSums;
-use block_costs::HourCosts;
+use block_costs::HoursOfDay;
 use definitions::Block;
 use signal_base::GREATEST_COST;
 use std::marker::Model;
@@ -22,7 +22,7 @@ pub struct DayCosts<'a> {
     pub(crate) grids: &'a [CostGrid],
     pub(crate) sums: &'a WindowSums,
     pub(crate) day: Block,
-    pub(crate) row: HourCosts,
+    pub(crate) row: HoursOfDay,
 }
 
 impl<'a> Model for DayCosts<'a> {

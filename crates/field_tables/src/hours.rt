@@ -5,21 +5,21 @@ ghost use Rattle.signal_base.specs.declared.limits.TheConstants.{GREATEST_COST};
 ghost use Rattle.signal_base.specs.declared.station.Station.{Station};
 ghost use Rattle.definitions.specs.answers.Blocks.{IsBlock, union_cost};
 ghost use Rattle.definitions.specs.time.Calendar.{minutes_per_day};
-ghost use Rattle.span_unions.specs.Walks.{reach};
+ghost use Rattle.minute_parts.specs.Walks.{reach};
 ghost use Rattle.block_costs.specs.declared.hours.TheConstants.{DAY_HOURS};
 ghost use Rattle.field_tables.specs.Blocks.{AreUnionsOver, HasShortWalks};
 ghost use Rattle.field_tables.specs.Days.{IsDayRowOf, hour_of};
 ghost use Rattle.field_tables.specs.Sums.{costs_by};
 
 use crate::sums::WindowSums;
-use block_costs::{DAY_HOURS, HourCosts};
+use block_costs::{DAY_HOURS, HoursOfDay};
 use civil::Civil;
 use definitions::{Block, MINUTES_PER_DAY};
 
 impl WindowSums {
     /// What the unions of the hours of a day cost, where it is a whole UTC day whose walks have 60 seconds in each minute and
     /// can be encoded by each station. Of other blocks None.
-    pub fn hours(&self, civil: &Civil, block: &Block) -> Option<HourCosts>
+    pub fn hours(&self, civil: &Civil, block: &Block) -> Option<HoursOfDay>
         requires { IsBlock self.now.window block.now }
         ensures { IfSome result (IsDayRowOf self.now block.now) }
     {
@@ -35,7 +35,7 @@ impl WindowSums {
     }
 
     // What the unions of its hours cost.
-    fn hour_costs(&self, block: &Block) -> HourCosts
+    fn hour_costs(&self, block: &Block) -> HoursOfDay
         requires whole { block.now.hi ≡ block.now.lo + minutes_per_day }
         requires begins { block.now.lo % minutes_per_day ≡ 0 }
         requires walks { HasShortWalks self.now.window block.now }
@@ -55,7 +55,7 @@ impl WindowSums {
 }
 
 // Costs of 0.
-fn no_costs() -> HourCosts
+fn no_costs() -> HoursOfDay
     ensures { (h : ℕ) → h < DAY_HOURS → slice_index result h ≡ 0 }
 {
     [0; DAY_HOURS]

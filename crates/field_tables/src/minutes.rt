@@ -4,7 +4,7 @@ ghost use Rattle.std.specs.Prelude.{◌≡◌, ◌+◌, ◌<◌, ◌≤◌, ◌�
 ghost use Rattle.signal_base.specs.declared.limits.TheConstants.{GREATEST_COST};
 ghost use Rattle.definitions.specs.heard.Costs.{sequence_cost};
 ghost use Rattle.definitions.specs.sequences.Walks.{ShowsLeap};
-ghost use Rattle.span_unions.specs.Walks.{reach};
+ghost use Rattle.minute_parts.specs.Walks.{reach};
 ghost use Rattle.field_tables.specs.Blocks.{AreMinutesOf, HasShortWalks};
 ghost use Rattle.field_tables.specs.Hours.{IsRowOf, bound_of, sequence_at};
 ghost use Rattle.field_tables.specs.Sums.{costs_by};

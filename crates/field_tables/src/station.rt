@@ -8,8 +8,9 @@ ghost use Rattle.definitions.specs.heard.Dut1.{has_dut1};
 ghost use Rattle.definitions.specs.sequences.Windows.{IsWindow};
 ghost use Rattle.slot_columns.specs.Parts.{most_cost};
 ghost use Rattle.slot_columns.specs.declared.limits.TheConstants.{SECONDS_PER_MINUTE};
-ghost use Rattle.span_unions.specs.Unions.{AreRegular};
-ghost use Rattle.walk_costs.specs.Walks.{ShowsAnnouncement, cost_of, later_minutes};
+ghost use Rattle.minute_parts.specs.Unions.{AreRegular};
+ghost use Rattle.minute_parts.specs.Walks.{later_minutes};
+ghost use Rattle.walk_costs.specs.Walks.{ShowsAnnouncement, cost_of};
 ghost use Rattle.field_tables.specs.Hours.{sequence_at};
 ghost use Rattle.field_tables.specs.Leaps.{IsLeapCost};
 ghost use Rattle.field_tables.specs.Sums.{IsOf};
@@ -18,60 +19,16 @@ ghost use Rattle.block_costs.specs.declared.minutes.TheConstants.{HOUR_MINUTES};
 use crate::bound::cost_of_sets;
 use crate::minutes::Flags;
 use crate::shown::mark_stretch;
-use block_costs::{BlocksFault, HOUR_MINUTES, MinuteCosts, StationBlocks};
+use block_costs::{HOUR_MINUTES, MinuteCosts, StationBlocks};
 use civil::Civil;
 use definitions::Block;
-use leap_unions::{LeapFault, LeapUnions, Sets};
-use minute_parts::{Parts, PartsFault};
+use leap_unions::{LeapUnions, Sets};
+use minute_parts::{Parts, Unions};
 use signal_base::{Station, Window};
-use span_unions::{Unions, UnionsFault};
 use std::alloc::{AllocError, Global};
 use std::marker::Model;
 use symbol_cost::CostGrid;
-use walk_costs::{StationWalks, WalksFault};
-
-/// Why the sums can't be made.
-#[derive(Clone, Copy, Debug, PartialEq, Eq)]
-pub enum SumsFault {
-    /// Memory wasn't found.
-    NoMemory,
-}
-
-impl From<AllocError> for SumsFault {
-    fn from(_error: AllocError) -> SumsFault {
-        SumsFault::NoMemory
-    }
-}
-
-impl From<PartsFault> for SumsFault {
-    fn from(_fault: PartsFault) -> SumsFault {
-        SumsFault::NoMemory
-    }
-}
-
-impl From<UnionsFault> for SumsFault {
-    fn from(_fault: UnionsFault) -> SumsFault {
-        SumsFault::NoMemory
-    }
-}
-
-impl From<WalksFault> for SumsFault {
-    fn from(_fault: WalksFault) -> SumsFault {
-        SumsFault::NoMemory
-    }
-}
-
-impl From<BlocksFault> for SumsFault {
-    fn from(_fault: BlocksFault) -> SumsFault {
-        SumsFault::NoMemory
-    }
-}
-
-impl From<LeapFault> for SumsFault {
-    fn from(_fault: LeapFault) -> SumsFault {
-        SumsFault::NoMemory
-    }
-}
+use walk_costs::StationWalks;
 
 /// What an announced sequence costs a station.
 #[derive(Clone, Copy, Debug, PartialEq, Eq)]
@@ -102,7 +59,7 @@ impl Model for StationSums {
 
 impl StationSums {
     /// Makes the sums of a grid of 1 to 1,200 slots.
-    pub fn make(alloc: Global, civil: &Civil, grid: &CostGrid) -> Result<StationSums, SumsFault>
+    pub fn make(alloc: Global, civil: &Civil, grid: &CostGrid) -> Result<StationSums, AllocError>
         requires some { 1 ≤ length grid.now.rows }
         requires few { length grid.now.rows ≤ MOST_SECONDS }
         ensures { IfOk result (IsOf grid.now) }

@@ -6,7 +6,7 @@ ghost use Rattle.definitions.specs.sequences.Windows.{IsWindow};
 ghost use Rattle.field_tables.specs.Grids.{AreGrids};
 ghost use Rattle.field_tables.specs.Sums.{AreOf};
 
-use crate::station::{StationSums, SumsFault};
+use crate::station::StationSums;
 use civil::Civil;
 use definitions::CENTURY_MINUTES;
 use signal_base::Window;
@@ -19,7 +19,7 @@ pub fn stations_of(
     civil: &Civil,
     grids: &[CostGrid],
     _window: &Window,
-) -> Result<Vec<StationSums>, SumsFault>
+) -> Result<Vec<StationSums>, AllocError>
     requires window { IsWindow _window.now }
     requires grids { AreGrids _window.now grids.now }
     ensures { IfOk result (λ stations. AreOf grids.now stations.items) }

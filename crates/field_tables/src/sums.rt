@@ -8,16 +8,17 @@ ghost use Rattle.field_tables.specs.Blocks.{AreMinutesOf, HasShortWalks};
 ghost use Rattle.field_tables.specs.Agreement.{AgreeOn};
 ghost use Rattle.field_tables.specs.Grids.{AreGrids, grid_costs};
 ghost use Rattle.field_tables.specs.Sums.{AreSums, costs_by};
-ghost use Rattle.walk_costs.specs.Walks.{later_minutes};
+ghost use Rattle.minute_parts.specs.Walks.{later_minutes};
 
 use crate::leaps::meets_leap_end;
-use crate::station::{StationSums, SumsFault};
+use crate::station::StationSums;
 use crate::stations::{end_of, stations_of};
 use civil::Civil;
 use definitions::{Block, Sequence};
+use minute_parts::later_minutes;
 use signal_base::{GREATEST_COST, Window};
 use slot_columns::SECONDS_PER_MINUTE;
-use std::alloc::Global;
+use std::alloc::{AllocError, Global};
 use std::marker::Model;
 use symbol_cost::CostGrid;
 
@@ -47,7 +48,7 @@ impl WindowSums {
         civil: &Civil,
         grids: &[CostGrid],
         window: &Window,
-    ) -> Result<WindowSums, SumsFault>
+    ) -> Result<WindowSums, AllocError>
         requires window { IsWindow window.now }
         requires grids { AreGrids window.now grids.now }
         ensures window { IfOk result (λ sums. sums.window ≡ window.now) }
@@ -89,7 +90,7 @@ impl WindowSums {
 
     /// Whether a sequence that isn't announced is walkable.
     pub fn walkable(&self, q: &Sequence) -> bool
-        requires plain { q.now.announced ≡ false }
+        requires unannounced { q.now.announced ≡ false }
         requires second { q.now.second < SECONDS_PER_MINUTE }
         ensures { IsTrue result ↔ IsWalkable self.now.window q.now }
     {
@@ -122,7 +123,6 @@ impl WindowSums {
         ensures bound { result ≤ 20 }
         ensures window { IsWindow self.now.window }
     {
-        let places = second as usize + self.window.seconds as usize;
-        (places.saturating_sub(1) / SECONDS_PER_MINUTE) as u32
+        later_minutes(self.window.seconds, second)
     }
 }

@@ -14,7 +14,6 @@ ghost use Rattle.field_tables.specs.Scored.{costs_of};
 use crate::day::DayCosts;
 use crate::hour::HourCosts;
 use crate::minutes::{MinuteRow, bound_of, entry_of, none_legal};
-use crate::station::SumsFault;
 use crate::sums::WindowSums;
 use block_costs::HOUR_MINUTES;
 use civil::Civil;
@@ -22,7 +21,7 @@ use definitions::{Block, Sequence, Span};
 use plain_costs::{grid_of, has_walk, plain_cost, unions_of};
 use signal_base::{GREATEST_COST, Station, Window};
 use slot_columns::SECONDS_PER_MINUTE;
-use std::alloc::Global;
+use std::alloc::{AllocError, Global};
 use std::marker::Model;
 use symbol_cost::CostGrid;
 
@@ -33,8 +32,8 @@ pub enum TablesFault {
     NoMemory,
 }
 
-impl From<SumsFault> for TablesFault {
-    fn from(_fault: SumsFault) -> TablesFault {
+impl From<AllocError> for TablesFault {
+    fn from(_fault: AllocError) -> TablesFault {
         TablesFault::NoMemory
     }
 }

@@ -1,4 +1,4 @@
--- Rows: made from one walk, from plain ones, joined, and what they say of a window.
+-- Rows: made from one walk, from regular ones, joined, and what they say of a window.
 use Rattle.std.proofs.Common.{◌≡◌, ℕ, ◌+◌, ◌-◌, ◌*◌, ◌/◌, ◌%◌, ◌<◌, ◌≤◌, ◌↔◌, Bool, true, false, if◌then◌else◌, bit_or, List, slice_index, Some, refl, sym, ap, ◌∙◌, subst, arith, zero-add}
 use Rattle.signal_base.specs.declared.limits.TheConstants.{MOST_SECONDS}
 use Rattle.signal_base.specs.declared.station.Station.{Station}
@@ -10,15 +10,15 @@ use Rattle.definitions.specs.sequences.Walks.{place_at, set_at, IsWalkable}
 use Rattle.definitions.proofs.BoundExistLaws.{byte_of}
 use Rattle.definitions.proofs.PlaceLaws.{within_minute}
 use Rattle.definitions.proofs.SetLaws.{sent}
-use Rattle.span_unions.specs.Unions.{IsUnionOf, IsUnionOver}
-use Rattle.span_unions.proofs.UnionLaws.{union_joined, union_moved, union_none, union_one}
+use Rattle.minute_parts.specs.Unions.{IsUnionOf, IsUnionOver}
+use Rattle.minute_parts.proofs.UnionLaws.{union_joined, union_moved, union_none, union_one}
 use Rattle.leap_unions.specs.declared.kept.Kept.{Kept}
 use Rattle.leap_unions.specs.declared.rows.TheConstants.{PLACES}
 use Rattle.leap_unions.specs.Kept.{IsKept, IsRow, row_reach}
 use Rattle.leap_unions.specs.Pieces.{announced_from, AreUnionsFrom, IsUnionFrom}
 use Rattle.leap_unions.proofs.LeapLaws.{NoLeapEnd}
 use Rattle.leap_unions.proofs.NominalLaws.{from_second, goes_on, minutes_on, reached}
-use Rattle.leap_unions.proofs.PlainLaws.{plain_walk}
+use Rattle.leap_unions.proofs.RegularLaws.{regular_walk}
 
 some_seconds : (b : Bool) → 0 < (if b then 61 else 60)
 some_seconds true = omega arith
@@ -85,10 +85,10 @@ module _ (station : Station) (seconds : ℕ) where
       (omega arith) (omega arith) (omega arith) (u i lt) one))
 
   -- of walks that meet no leap second
-  pub row_plain : (lo hi : ℕ) (row : List ℕ) → lo < hi → NoLeapEnd lo (hi + row_reach seconds) → hi + row_reach seconds ≤ century_minutes
+  pub row_regular : (lo hi : ℕ) (row : List ℕ) → lo < hi → NoLeapEnd lo (hi + row_reach seconds) → hi + row_reach seconds ≤ century_minutes
       → ((m s : ℕ) → m ≤ row_reach seconds → s < 60 → IsUnionOver station true (lo + m) (hi + m) s (slice_index row (60 * m + s)))
       → IsRow station seconds lo hi row
-  row_plain lo hi row some none fits over = λ i lt.
+  row_regular lo hi row some none fits over = λ i lt.
       let m : ℕ = i / 60 in
       let s : ℕ = i % 60 in
       let there : 60 * m + s ≡ i = omega arith in
@@ -102,7 +102,7 @@ module _ (station : Station) (seconds : ℕ) where
       (λ j before.
       let order : lo + m + j ≡ lo + j + m = omega arith in
       ap (λ t. allowed station true (t, s)) order
-      ∙ sym (ap (allowed station true) (plain_walk window 0 (omega arith) lo hi (λ t from to. none t from (omega (arith, to))) (omega (arith, fits)) (lo + j) i (omega arith) (omega (arith, before, some)) lt
+      ∙ sym (ap (allowed station true) (regular_walk window 0 (omega arith) lo hi (λ t from to. none t from (omega (arith, to))) (omega (arith, fits)) (lo + j) i (omega arith) (omega (arith, before, some)) lt
       ∙ ap (λ (p : ℕ). (lo + j + p / 60, p % 60)) (zero-add i))))
       (subst (λ h. IsUnionOf (λ t. allowed station true (t, s)) (lo + m) h (slice_index row (60 * m + s))) ends u)))
     where

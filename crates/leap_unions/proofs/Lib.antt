@@ -1,6 +1,6 @@
 pub mod LeapLaws
 pub mod PieceLaws
-pub mod PlainLaws
+pub mod RegularLaws
 pub mod NominalLaws
 pub mod KeptLaws
 pub mod WalkLaws

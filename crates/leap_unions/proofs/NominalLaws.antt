@@ -8,7 +8,7 @@ use Rattle.definitions.proofs.PlaceLaws.{stays_in_minute}
 use Rattle.sequence.proofs.Walking.{place_at-more}
 use Rattle.leap_unions.specs.Pieces.{announced_from}
 use Rattle.leap_unions.proofs.LeapLaws.{NoLeapEnd}
-use Rattle.leap_unions.proofs.PlainLaws.{short_minute}
+use Rattle.leap_unions.proofs.RegularLaws.{short_minute}
 
 long_enough : (b : Bool) → 60 ≤ (if b then 61 else 60)
 long_enough true = omega arith

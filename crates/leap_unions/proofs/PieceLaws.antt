@@ -1,4 +1,4 @@
--- Unions of walks by the minutes in which they begin: joined, and of single walks, plain ones and none.
+-- Unions of walks by the minutes in which they begin: joined, and of single walks, regular ones and none.
 use Rattle.std.proofs.Common.{◌≡◌, ℕ, ◌+◌, ◌<◌, ◌≤◌, inl, inr, true, bit_or, List, slice_index, Option, Some, None, MatchOption, refl, sym, ◌∙◌, subst, arith}
 use Rattle.std.proofs.lemmas.Bool.{cases_lt}
 use Rattle.std.proofs.lemmas.Nat.{or_lt}
@@ -14,7 +14,7 @@ use Rattle.definitions.proofs.BoundExistLaws.{byte_of}
 use Rattle.definitions.proofs.KeyLaws.{same_sequence}
 use Rattle.definitions.proofs.PlaceLaws.{within_minute}
 use Rattle.definitions.proofs.SetLaws.{sent}
-use Rattle.span_unions.proofs.UnionLaws.{has_or, of_or}
+use Rattle.minute_parts.proofs.UnionLaws.{has_or, of_or}
 use Rattle.leap_unions.specs.Pieces.{announced_from, HasWalkFrom, IsUnionFrom, AreUnionsFrom, AreOfBoth}
 
 module _ (window : Window) (second : ℕ) where

@@ -13,12 +13,12 @@ use Rattle.definitions.proofs.BoundExistLaws.{byte_of}
 use Rattle.definitions.proofs.PlaceLaws.{place_at-plain, stays_in_minute}
 use Rattle.definitions.proofs.SetLaws.{sent}
 use Rattle.sequence.proofs.Walking.{place_at-more}
-use Rattle.span_unions.specs.Unions.{IsUnionOver}
-use Rattle.span_unions.proofs.UnionLaws.{one_union, union_one}
+use Rattle.minute_parts.specs.Unions.{IsUnionOver}
+use Rattle.minute_parts.proofs.UnionLaws.{one_union, union_one}
 use Rattle.leap_unions.specs.declared.tapes.KeptTape.{KeptTape}
 use Rattle.leap_unions.specs.Kept.{IsKeptTape}
 use Rattle.leap_unions.specs.Pieces.{announced_from}
-use Rattle.leap_unions.specs.Walks.{plain_from}
+use Rattle.leap_unions.specs.Walks.{unannounced_from}
 use Rattle.leap_unions.proofs.LeapLaws.{last_of_day}
 use Rattle.leap_unions.proofs.NominalLaws.{from_second, goes_on, minutes_on}
 
@@ -56,11 +56,11 @@ module _ (station : Station) (seconds : ℕ) (kept : KeptTape) (is : IsKeptTape 
       (ap in_day (get_or-range_with_len 0 seconds k 0 within ∙ zero-add k) ∙ other)
 
 -- what the walk carries without the announcement, by the row of its minutes
-pub plain_sets : (station : Station) (seconds second first : ℕ) (row : List ℕ) → second < 60
+pub unannounced_sets : (station : Station) (seconds second first : ℕ) (row : List ℕ) → second < 60
     → ((m s : ℕ) → m ≤ (second + seconds - 1) / 60 → s < 60
     → IsUnionOver station false (first + m) (first + 1 + m) s (slice_index row (60 * m + s)))
-    → (k : ℕ) → k < seconds → slice_index row (second + k) ≡ set_at station (plain_from second first) k
-plain_sets station seconds second first row small over k lt =
+    → (k : ℕ) → k < seconds → slice_index row (second + k) ≡ set_at station (unannounced_from second first) k
+unannounced_sets station seconds second first row small over k lt =
     let m : ℕ = (second + k) / 60 in
     let s : ℕ = (second + k) % 60 in
     let at : second + k ≡ 60 * m + s = omega arith in
@@ -70,4 +70,4 @@ plain_sets station seconds second first row small over k lt =
     let told = subst (λ h. IsUnionOver station false (first + m) h s (slice_index row (60 * m + s))) next (over m s (omega (arith, lt)) (omega arith)) in
     ap (slice_index row) at
     ∙ one_union sets (first + m) (first + m + 1) (slice_index row (60 * m + s)) (sets (first + m)) told alone
-    ∙ sym (ap (allowed station false) (place_at-plain (plain_from second first) k refl small))
+    ∙ sym (ap (allowed station false) (place_at-plain (unannounced_from second first) k refl small))

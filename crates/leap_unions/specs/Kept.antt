@@ -3,7 +3,7 @@ use Rattle.std.specs.Prelude.{ℕ, ◌≡◌, ◌+◌, ◌-◌, ◌*◌, ◌/◌
 use Rattle.signal_base.specs.declared.station.Station.{Station}
 use Rattle.definitions.specs.time.Calendar.{century_minutes, is_leap_end}
 use Rattle.definitions.specs.sequences.Walks.{set_at}
-use Rattle.span_unions.specs.Unions.{IsUnionOf}
+use Rattle.minute_parts.specs.Unions.{IsUnionOf}
 use Rattle.leap_unions.specs.declared.kept.Kept.{Kept}
 use Rattle.leap_unions.specs.declared.tapes.KeptTape.{KeptTape}
 use Rattle.leap_unions.specs.Pieces.{announced_from}

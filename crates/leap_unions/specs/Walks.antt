@@ -8,13 +8,13 @@ use Rattle.leap_unions.specs.Pieces.{announced_from}
 use Rattle.leap_unions.specs.Scope.{Scope}
 
 -- the sequence from a minute and second on, without the announcement
-abbrev pub plain_from : ℕ → ℕ → Sequence
-plain_from second first = unannounced (announced_from second first)
+abbrev pub unannounced_from : ℕ → ℕ → Sequence
+unannounced_from second first = unannounced (announced_from second first)
 
 -- in some slot the station may carry another set than without the announcement
 abbrev pub ShowsIn : Scope → ℕ → ℕ → Type 0
 ShowsIn scope second first =
-    (k : ℕ) × (k < scope.seconds) × (set_at scope.station (announced_from second first) k ≢ set_at scope.station (plain_from second first) k)
+    (k : ℕ) × (k < scope.seconds) × (set_at scope.station (announced_from second first) k ≢ set_at scope.station (unannounced_from second first) k)
 
 -- a set for each slot, whether they show the announcement, and whether the walk is known to go on to the next UTC day
 pub record IsLeapWalk (scope : Scope) (second first : ℕ) (walk : LeapWalk) : Type 0 where

@@ -15,5 +15,5 @@ mod unions;
 mod walk;
 
 pub use sets::Sets;
-pub use unions::{LeapFault, LeapUnions};
+pub use unions::LeapUnions;
 pub use walk::LeapWalk;

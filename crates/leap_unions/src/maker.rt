@@ -5,18 +5,18 @@ ghost use Rattle.std.specs.List.{All};
 ghost use Rattle.signal_base.specs.declared.limits.TheConstants.{MOST_SECONDS};
 ghost use Rattle.definitions.specs.sequences.Walks.{set_at};
 ghost use Rattle.definitions.specs.time.Calendar.{century_minutes, is_leap_end};
-ghost use Rattle.span_unions.specs.Unions.{AreRegular};
+ghost use Rattle.minute_parts.specs.Unions.{AreRegular};
 ghost use Rattle.leap_unions.specs.Kept.{IsKept, IsKeptTape, IsRow, row_reach};
 ghost use Rattle.leap_unions.specs.Pieces.{announced_from};
 
 use crate::kept::{Kept, add_from_minute, joined, nothing_kept};
 use crate::leap_ends::next_leap_end;
-use crate::rows::{PLACES, SECONDS, plain_row};
+use crate::rows::{PLACES, SECONDS, regular_row};
 use crate::tapes::{KeptTape, Tape, tape_of};
 use civil::Civil;
 use definitions::Sequence;
+use minute_parts::Unions;
 use signal_base::Station;
-use span_unions::Unions;
 use std::alloc::{AllocError, Global};
 
 // A century has two leap ends a year.
@@ -119,8 +119,8 @@ impl<'a> Maker<'a> {
         }
         let tape = self.kept_tape(leap - reach, reach);
         let near = self.near(&tape, reach);
-        let plain = self.plain(t, leap - reach, reach);
-        let all = joined(&plain, &near);
+        let regular = self.regular(t, leap - reach, reach);
+        let all = joined(&regular, &near);
         Some(Half { tape, near, all })
     }
 
@@ -182,7 +182,7 @@ impl<'a> Maker<'a> {
     }
 
     // The walks that begin in some minutes and meet no leap second.
-    fn plain(&self, lo: u32, hi: u32, reach: u32) -> Kept
+    fn regular(&self, lo: u32, hi: u32, reach: u32) -> Kept
         requires some { lo < hi }
         requires reach { reach ≡ row_reach self.now.seconds }
         requires short { (u : ℕ) → lo ≤ u → u < hi + reach → is_leap_end u ≡ false }
@@ -197,7 +197,7 @@ impl<'a> Maker<'a> {
         Kept {
             lo,
             hi,
-            row: plain_row(self.unions, true, lo, hi, reach),
+            row: regular_row(self.unions, true, lo, hi, reach),
         }
     }
 

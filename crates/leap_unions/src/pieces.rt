@@ -11,14 +11,14 @@ ghost use Rattle.leap_unions.specs.Pieces.{AreOfBoth, AreUnionsFrom};
 use crate::kept::Kept;
 use crate::leap_ends::{LONGEST_YEAR, next_leap_end};
 use crate::maker::row_reach;
-use crate::rows::{SECONDS, plain_row};
+use crate::rows::regular_row;
 use crate::sets::{Sets, either, sets_from};
 use crate::tapes::tape_of;
 use civil::Civil;
 use definitions::Sequence;
+use minute_parts::{Unions, later_minutes};
 use sequence::walkable;
 use signal_base::{Station, Window};
-use span_unions::Unions;
 
 // The inserted second of a minute of 61 seconds.
 const LEAP_SECOND: u8 = 60;
@@ -99,7 +99,7 @@ impl<'a> Walks<'a> {
         let leap = next_leap_end(self.civil, t);
         let reach = row_reach(self.window.seconds);
         if t + reach < leap {
-            return self.plain(t, hi.min(leap - reach), self.reach());
+            return self.regular(t, hi.min(leap - reach), self.reach());
         }
         Piece {
             end: t + 1,
@@ -177,11 +177,11 @@ impl<'a> Walks<'a> {
         ensures value { result ≡ (self.now.second + self.now.window.now.seconds - 1) / 60 }
         ensures few { result ≤ 20 }
     {
-        (self.second as u32 + self.window.seconds as u32 - 1) / SECONDS as u32
+        later_minutes(self.window.seconds, self.second)
     }
 
     // The walks that begin in some minutes and meet no leap second: those that end in time, and then the others.
-    fn plain(&self, t: u32, hi: u32, reach: u32) -> Piece
+    fn regular(&self, t: u32, hi: u32, reach: u32) -> Piece
         requires order { t < hi }
         requires from { self.now.window.now.from ≤ t }
         requires to { hi ≤ self.now.window.now.to }
@@ -202,7 +202,7 @@ impl<'a> Walks<'a> {
         }
         // The station can encode what all stations of the window can.
         self.unions.parts().end();
-        let row = plain_row(self.unions, true, t, cut, reach);
+        let row = regular_row(self.unions, true, t, cut, reach);
         Piece {
             end: cut,
             sets: Some(sets_from(&row, self.second as usize)),

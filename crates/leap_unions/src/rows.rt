@@ -1,11 +1,11 @@
 //! Rows: what walks carry in each second after the start of their first minute, whichever second they begin in.
 
 ghost use Rattle.std.specs.Prelude.{ℕ, ◌≡◌, ◌+◌, ◌*◌, ◌<◌, ◌≤◌, IfSome, slice_index};
-ghost use Rattle.span_unions.specs.Layers.{AreLayers};
-ghost use Rattle.span_unions.specs.Unions.{AreRegular, IsUnionOver};
+ghost use Rattle.minute_parts.specs.Layers.{AreLayers};
+ghost use Rattle.minute_parts.specs.Unions.{AreRegular, IsUnionOver};
 
+use minute_parts::{Layers, Part, Unions};
 use signal_base::MOST_SECONDS;
-use span_unions::{Layers, Part, Unions};
 
 /// How many seconds a minute has that has no leap second.
 pub const SECONDS: usize = 60;
@@ -21,7 +21,7 @@ pub type Row = [u8; PLACES];
 
 /// The unions of walks that begin in the minutes from `lo` up to, and without, `hi`, and reach `reach` minutes that have
 /// 60 seconds each.
-pub fn plain_row(unions: &Unions, announced: bool, lo: u32, hi: u32, reach: u32) -> Row
+pub fn regular_row(unions: &Unions, announced: bool, lo: u32, hi: u32, reach: u32) -> Row
     requires some { lo < hi }
     requires reach { reach ≤ MOST_REACH }
     requires regular { AreRegular announced lo (hi + reach) unions.now.end }

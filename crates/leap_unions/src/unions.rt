@@ -13,23 +13,10 @@ use crate::sets::Sets;
 use crate::walk::{LeapWalk, tape_with, walk_of};
 use civil::Civil;
 use definitions::Block;
+use minute_parts::Unions;
 use signal_base::{Station, Window};
-use span_unions::Unions;
 use std::alloc::{AllocError, Global};
 use std::marker::Model;
-
-/// Why the unions can't be made.
-#[derive(Clone, Copy, Debug, PartialEq, Eq)]
-pub enum LeapFault {
-    /// Memory wasn't found.
-    NoMemory,
-}
-
-impl From<AllocError> for LeapFault {
-    fn from(_error: AllocError) -> LeapFault {
-        LeapFault::NoMemory
-    }
-}
 
 /// What the blocks of a search allow a station where a leap second is announced, for windows of so many seconds. Contracts
 /// see the station and the seconds.
@@ -65,7 +52,7 @@ impl LeapUnions {
         station: Station,
         unions: &Unions,
         seconds: u16,
-    ) -> Result<LeapUnions, LeapFault>
+    ) -> Result<LeapUnions, AllocError>
         requires station { unions.now.station ≡ station }
         requires some { 1 ≤ seconds }
         requires few { seconds ≤ MOST_SECONDS }

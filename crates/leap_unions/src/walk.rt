@@ -5,14 +5,14 @@ ghost use Rattle.std.specs.List.{All};
 ghost use Rattle.signal_base.specs.declared.limits.TheConstants.{MOST_SECONDS};
 ghost use Rattle.definitions.specs.sequences.Walks.{set_at};
 ghost use Rattle.leap_unions.specs.Kept.{IsKeptTape};
-ghost use Rattle.leap_unions.specs.Walks.{IsLeapWalk, plain_from};
+ghost use Rattle.leap_unions.specs.Walks.{IsLeapWalk, unannounced_from};
 
 use crate::leap_ends::LONGEST_YEAR;
-use crate::rows::{Row, SECONDS, plain_row};
+use crate::rows::{Row, SECONDS, regular_row};
 use crate::sets::{Sets, sets_from};
 use crate::tapes::KeptTape;
+use minute_parts::{Unions, later_minutes};
 use signal_base::Station;
-use span_unions::Unions;
 
 /// What an announced walk carries that begins shortly before a leap second may be inserted.
 #[derive(Clone, Copy)]
@@ -90,13 +90,13 @@ fn shows(sets: &Sets, unions: &Unions, seconds: u16, p: u8, first: u32) -> bool
     requires few { seconds ≤ MOST_SECONDS }
     requires second { p < SECONDS }
     requires encoded { first + 1 + (p + seconds - 1) / SECONDS ≤ unions.now.end }
-    ensures shown { result ≡ true → (k : ℕ) × (k < seconds) × (slice_index sets.now k ≢ set_at unions.now.station (plain_from p first) k) }
-    ensures hidden { result ≡ false → (k : ℕ) → k < seconds → slice_index sets.now k ≡ set_at unions.now.station (plain_from p first) k }
+    ensures shown { result ≡ true → (k : ℕ) × (k < seconds) × (slice_index sets.now k ≢ set_at unions.now.station (unannounced_from p first) k) }
+    ensures hidden { result ≡ false → (k : ℕ) → k < seconds → slice_index sets.now k ≡ set_at unions.now.station (unannounced_from p first) k }
 {
     // What ends before the parts' end fits.
     unions.parts().end();
-    let reach = (p as u32 + seconds as u32 - 1) / SECONDS as u32;
-    let row = plain_row(unions, false, first, first + 1, reach);
+    let reach = later_minutes(seconds, p);
+    let row = regular_row(unions, false, first, first + 1, reach);
     some_differ(sets, &row, p as usize, seconds as usize)
 }
 

@@ -5,3 +5,7 @@ pub mod RunLaws
 pub mod EndLaws
 pub mod PartLaws
 pub mod FillLaws
+pub mod WalkLaws
+pub mod UnionLaws
+pub mod TimeLaws
+pub mod SpanLaws

@@ -4,3 +4,8 @@ pub mod Pieces
 pub mod Filling
 pub mod Runs
 pub mod Parts
+pub mod Unions
+pub mod Walks
+pub mod Times
+pub mod Layers
+pub mod HourLayers

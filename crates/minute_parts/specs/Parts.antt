@@ -21,7 +21,7 @@ times_at p u = slice_index_or p.times u []
 
 -- the part of a run by the date
 abbrev pub part_where : Bool → Run → List ℕ
-part_where announced run = if announced then run.announced else run.plain
+part_where announced run = if announced then run.announced else run.unannounced
 
 -- the minute of the local day that is encoded in a minute of a run
 abbrev pub local_time : Run → ℕ → ℕ

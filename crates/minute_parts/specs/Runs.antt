@@ -9,11 +9,11 @@ use Rattle.minute_parts.specs.Dates.{date_facts, date_part, shift_by, unannounce
 -- a run that begins at a minute with these facts
 abbrev pub run_by : Station → ℕ → DateFacts → Run
 run_by station first f =
-    record { first = first; shift = shift_by station f; plain = date_part station (unannounced f); announced = date_part station f }
+    record { first = first; shift = shift_by station f; unannounced = date_part station (unannounced f); announced = date_part station f }
 
 -- the run of a number, and its first minute
 abbrev pub no_run : Run
-no_run = record { first = 0; shift = 0; plain = []; announced = [] }
+no_run = record { first = 0; shift = 0; unannounced = []; announced = [] }
 
 abbrev pub run_at : List Run → ℕ → Run
 run_at runs i = slice_index_or runs i no_run

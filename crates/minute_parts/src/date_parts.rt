@@ -6,7 +6,8 @@ ghost use Rattle.minute_parts.specs.Dates.{AreInRange, date_part, set_by};
 ghost use Rattle.minute_parts.specs.Filling.{IsFilled, none_tell};
 
 use crate::dates::DateFacts;
-use crate::seconds::{Part, dcf_facts, msf_facts, set_by};
+use crate::part::Part;
+use crate::seconds::{dcf_facts, msf_facts, set_by};
 use signal_base::Station;
 
 /// What the date tells, by its facts.

@@ -8,27 +8,14 @@ ghost use Rattle.minute_parts.specs.Parts.{IsInRun, IsPartTable, times_at};
 ghost use Rattle.minute_parts.specs.Runs.{end_of_run, run_at};
 
 use crate::dates::winter_shift;
+use crate::part::Part;
 use crate::runs::{Run, Runs, runs_of};
-use crate::seconds::Part;
 use crate::times::time_part;
 use civil::Civil;
 use definitions::{CENTURY_MINUTES, MINUTES_PER_DAY};
 use signal_base::Station;
 use std::alloc::{AllocError, Global};
 use std::marker::Model;
-
-/// Why the parts can't be made.
-#[derive(Clone, Copy, Debug, PartialEq, Eq)]
-pub enum PartsFault {
-    /// Memory wasn't found.
-    NoMemory,
-}
-
-impl From<AllocError> for PartsFault {
-    fn from(_error: AllocError) -> PartsFault {
-        PartsFault::NoMemory
-    }
-}
 
 /// What a station's seconds may carry in each minute of 60 seconds, in two parts. The one tells of the seconds that
 /// depend on the time of day, the other of those that depend on the date. What a second carries is what the first tells
@@ -62,7 +49,7 @@ impl Model for Parts {
 
 impl Parts {
     /// Makes the parts of a station.
-    pub fn make(alloc: Global, civil: &Civil, station: Station) -> Result<Parts, PartsFault>
+    pub fn make(alloc: Global, civil: &Civil, station: Station) -> Result<Parts, AllocError>
         ensures station { IfOk result (λ p. p.station ≡ station) }
         ensures table { IfOk result (λ p. IsPartTable p) }
     {

@@ -4,12 +4,13 @@ ghost use Rattle.std.specs.Prelude.{◌≡◌, ◌+◌, ◌<◌, ◌≤◌, ◌�
 ghost use Rattle.definitions.specs.codes.Allowed.{encoded_year};
 ghost use Rattle.definitions.specs.time.Calendar.{century_minutes};
 ghost use Rattle.minute_parts.specs.Dates.{AreInRange, date_facts, unannounced};
+ghost use Rattle.minute_parts.specs.Parts.{part_where};
 ghost use Rattle.minute_parts.specs.Runs.{Covers, Extends, Points, days_before, first_of, last_of, run_by};
 
 use crate::date_parts::date_part;
 use crate::dates::{DateFacts, date_facts, shift_by};
+use crate::part::Part;
 use crate::pieces::piece_end;
-use crate::seconds::Part;
 use civil::Civil;
 use definitions::{CENTURY_DAYS, MINUTES_PER_DAY};
 use signal_base::Station;
@@ -23,9 +24,22 @@ pub struct Run {
     /// By how many minutes the local time that is encoded is ahead of the sent minute in UTC, 0 to 540.
     pub shift: u16,
     /// What the date tells where no leap second is announced.
-    pub plain: Part,
+    pub unannounced: Part,
     /// What it tells where one is announced for the end of the UTC month.
     pub announced: Part,
+}
+
+impl Run {
+    /// What the date tells where a leap second is announced, or where none is.
+    pub fn date_part(&self, announced: bool) -> &Part
+        ensures { result.now ≡ part_where announced self.now }
+    {
+        if announced {
+            &self.announced
+        } else {
+            &self.unannounced
+        }
+    }
 }
 
 /// The runs in order, and for each UTC day the number of the run in which it begins.
@@ -103,7 +117,7 @@ fn run_by(station: Station, first: u32, date: &DateFacts) -> Run
     ensures { result ≡ run_by station first date.now }
 {
     let announced = date_part(station, date);
-    let plain = if date.leap {
+    let without = if date.leap {
         date_part(station, &unannounced(date))
     } else {
         announced
@@ -111,7 +125,7 @@ fn run_by(station: Station, first: u32, date: &DateFacts) -> Run
     Run {
         first,
         shift: shift_by(station, date),
-        plain,
+        unannounced: without,
         announced,
     }
 }

@@ -8,10 +8,6 @@ use crate::dates::DateFacts;
 use definitions::{DcfFacts, JjyFacts, MINUTES_PER_HOUR, MsfFacts, WwvbFacts};
 use signal_base::Station;
 
-/// What a part of a telegram tells of each second of a minute of 60: the set of symbols that it may carry, as a mask, or
-/// 0 where the part tells nothing.
-pub type Part = [u8; 60];
-
 /// What a second of a minute of 60 seconds may carry, where the minute `u` of a day with these facts is encoded.
 pub fn set_by(station: Station, date: &DateFacts, u: u16, second: u8) -> u8
     requires time { u < minutes_per_day }

@@ -1,6 +1,6 @@
 //! The parts of each station where memory is ample: how many runs there are, where they end, and a minute that is known.
 
-use crate::{Parts, PartsFault};
+use crate::Parts;
 use civil::Civil;
 use definitions::CENTURY_MINUTES;
 use signal_base::Station;
@@ -12,7 +12,7 @@ fn parts_of(rt: &(impl Abort + AllocGlobal), station: Station) -> Parts {
     };
     match Parts::make(rt.alloc(), &civil, station) {
         Ok(parts) => parts,
-        Err(PartsFault::NoMemory) => panic!(rt; "no memory"),
+        Err(_) => panic!(rt; "no memory"),
     }
 }
 
@@ -67,7 +67,7 @@ fn jjy_at_quarter_to_four(rt: HostRuntime) {
         1, 1, 1, 2, 1, 1, 2, 1, 1, 4, //
         1, 1, 2, 1, 1, 1, 1, 1, 1, 4,
     ];
-    assert_eq!(rt; run.plain, date);
+    assert_eq!(rt; run.unannounced, date);
     let mut warned = date;
     warned[53] = 2;
     warned[54] = 2;

@@ -2,12 +2,14 @@
 
 ghost use Rattle.std.specs.Prelude.{◌≡◌, ◌<◌};
 ghost use Rattle.definitions.specs.time.Calendar.{minutes_per_day};
-ghost use Rattle.minute_parts.specs.Overlay.{is_call_second, is_clock_second, is_time_second, tells_time};
+ghost use Rattle.minute_parts.specs.Overlay.{is_clock_second, is_time_second, tells_time};
 ghost use Rattle.minute_parts.specs.Dates.{time_part, time_set};
 
+use crate::call::{is_call_minute, is_given_up};
 use crate::dates::DateFacts;
-use crate::seconds::{Part, set_by};
-use definitions::{Day, MINUTES_PER_HOUR};
+use crate::part::Part;
+use crate::seconds::set_by;
+use definitions::Day;
 use signal_base::Station;
 use std::array;
 
@@ -64,17 +66,9 @@ fn is_clock_second(second: u8) -> bool
     matches!(second, 1..=3 | 5..=8 | 12..=13 | 15..=18)
 }
 
-// Whether the time of day tells the second in this minute.
+// Whether the time of day tells the second in this minute: always, or where the call sign takes it.
 fn tells_time(station: Station, u: u16, second: u8) -> bool
     ensures { result ≡ tells_time station u second }
 {
-    is_time_second(station, second) || station == Station::Jjy && is_call_second(u, second)
-}
-
-// In the minutes 15 and 45 of the hour JJY gives up some seconds for its call sign.
-fn is_call_second(u: u16, second: u8) -> bool
-    ensures { result ≡ is_call_second u second }
-{
-    let minute = u % MINUTES_PER_HOUR as u16;
-    (minute == 15 || minute == 45) && matches!(second, 40..=48 | 50..=55)
+    is_time_second(station, second) || is_call_minute(u) && is_given_up(station, second as usize)
 }

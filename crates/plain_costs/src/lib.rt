@@ -18,4 +18,5 @@ pub use dut::dut1;
 pub use grids::grid_of;
 pub use laws::{agreeing_costs_cost_alike, grids_agree_with_their_costs};
 pub use plain::plain_cost;
+pub use tenths::{MOST_VALUES, has_dut1, is_dut1_second, symbol_of, value_count};
 pub use unions::{Sets, has_walk, unions_of};

@@ -10,24 +10,11 @@ ghost use Rattle.slot_columns.specs.Parts.{layered_cost, minute_cost, most_cost}
 use crate::limits::SECONDS_PER_MINUTE;
 use crate::part::Part;
 use crate::slots::{Row, SlotCosts};
-use crate::tables::{changed_columns, first_columns, later_columns, sum_of_columns};
+use crate::tables::{first_columns, later_columns, sum_of_columns};
 use signal_base::Station;
 use std::alloc::{AllocError, Global};
 use std::marker::Model;
 use symbol_cost::CostGrid;
-
-/// Why the tables can't be made.
-#[derive(Clone, Copy, Debug, PartialEq, Eq)]
-pub enum ColumnsFault {
-    /// Memory wasn't found.
-    NoMemory,
-}
-
-impl From<AllocError> for ColumnsFault {
-    fn from(_fault: AllocError) -> ColumnsFault {
-        ColumnsFault::NoMemory
-    }
-}
 
 /// What each set of a station's symbols costs in the slots of a window, added up by seconds for each second in which
 /// the walk may begin.
@@ -52,7 +39,7 @@ impl Model for SlotColumns {
 
 impl SlotColumns {
     /// Adds up the costs of a grid.
-    pub fn make(alloc: Global, grid: &CostGrid) -> Result<SlotColumns, ColumnsFault>
+    pub fn make(alloc: Global, grid: &CostGrid) -> Result<SlotColumns, AllocError>
         ensures costs { IfOk result (λ columns. HasCosts columns grid.now.station (length grid.now.rows) (cost_at grid.now.rows)) }
         ensures receivers { IfOk result (λ columns. columns.receivers ≡ grid.now.receivers) }
     {
@@ -107,25 +94,6 @@ impl SlotColumns {
         ensures bound { result ≤ most_cost self.now }
     {
         sum_of_columns(&self.first, &self.later, p as usize, first, rest)
-    }
-
-    /// The same from what it costs where each minute of the walk carries one part: it takes look-ups only for the seconds in which
-    /// the others differ from it.
-    pub fn changed_cost(&self, p: u8, cost: u32, part: &Part, first: &Part, rest: &Part) -> u32
-        requires second { p < SECONDS_PER_MINUTE }
-        requires cost { cost ≡ layered_cost self.now.station (cost_at self.now.rows) (length self.now.rows) p part.now part.now }
-        ensures cost { result ≡ layered_cost self.now.station (cost_at self.now.rows) (length self.now.rows) p first.now rest.now }
-        ensures bound { result ≤ most_cost self.now }
-    {
-        changed_columns(
-            &self.first,
-            &self.later,
-            p as usize,
-            cost,
-            part,
-            first,
-            rest,
-        )
     }
 
     /// What it costs where each minute of the walk carries this part.

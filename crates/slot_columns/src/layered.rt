@@ -5,7 +5,7 @@ ghost use Rattle.slot_columns.specs.declared.limits.TheConstants.{COLUMNS, SETS}
 ghost use Rattle.slot_columns.specs.Layered.{AreAdded, AreLayerCosts, ArePlaces, AreSeconds, AreTermRows, HaveRoom, IsPlace, IsTermRow, column_of, layer_cost, term_cost, term_place};
 ghost use Rattle.slot_columns.specs.Tables.{columns_cost};
 
-use crate::columns::{ColumnsFault, SlotColumns};
+use crate::columns::SlotColumns;
 use crate::limits::{COLUMNS, SECONDS_PER_MINUTE};
 use crate::part::Part;
 use crate::slots::{Row, index_of};
@@ -44,7 +44,7 @@ impl LayerTable {
         columns: &SlotColumns,
         firsts: &[Part],
         rests: &[Part],
-    ) -> Result<LayerTable, ColumnsFault>
+    ) -> Result<LayerTable, AllocError>
         requires { length firsts.now ≡ length rests.now }
         ensures { IfOk result (λ table. AreLayerCosts table columns.now firsts.now rests.now) }
     {

@@ -18,7 +18,7 @@ mod terms;
 mod tests;
 mod walks;
 
-pub use columns::{ColumnsFault, SlotColumns};
+pub use columns::SlotColumns;
 pub use layered::LayerTable;
 pub use limits::SECONDS_PER_MINUTE;
 pub use part::Part;

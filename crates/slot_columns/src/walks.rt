@@ -10,7 +10,7 @@ ghost use Rattle.slot_columns.specs.Days.{day_cost};
 ghost use Rattle.slot_columns.specs.Parts.{AreOfWalks, AreWalkCosts, entry};
 ghost use Rattle.slot_columns.specs.Rows.{IsBounded};
 
-use crate::columns::{ColumnsFault, SlotColumns};
+use crate::columns::SlotColumns;
 use crate::day::{Day, DayColumn};
 use crate::limits::{DAY_MINUTES, LATER_MINUTES, SECONDS_PER_MINUTE};
 use crate::part::Part;
@@ -45,7 +45,7 @@ impl WalkTable {
         alloc: Global,
         columns: &SlotColumns,
         times: &[Part],
-    ) -> Result<WalkTable, ColumnsFault>
+    ) -> Result<WalkTable, AllocError>
         requires { length times.now ≡ minutes_per_day }
         ensures { IfOk result (λ table. AreWalkCosts table columns.now times.now) }
     {

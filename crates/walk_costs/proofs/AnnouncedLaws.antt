@@ -10,7 +10,7 @@ use Rattle.minute_parts.specs.declared.runs.Run.{Run}
 use Rattle.minute_parts.specs.Overlay.{overlay}
 use Rattle.minute_parts.specs.Parts.{IsInRun, IsPartTable, PartTable, local_time, times_at}
 use Rattle.minute_parts.specs.Runs.{end_of_run, first_of, run_at}
-use Rattle.span_unions.proofs.RunLaws.{next_run}
+use Rattle.minute_parts.proofs.SpanLaws.{next_run}
 use Rattle.walk_costs.specs.Shown.{SomeSlotShows, shows_in}
 use Rattle.walk_costs.specs.Walks.{IsRegularWalk, PricedParts, ShowsAnnouncement, last_minute}
 use Rattle.walk_costs.proofs.ShownLaws.{alike_is_silent, of_test, slot_is_silent, slot_shows}
@@ -26,7 +26,7 @@ pub all_silent : (w : PricedParts) (p t0 : ℕ) → ((k : ℕ) → k < length w.
 all_silent w p t0 silent = λ h. h.2 (silent h.0 h.1)
 
 -- where the date tells the same, no slot shows it
-pub none_of_alike : (parts : PartTable) (run : Run) (u p from to : ℕ) → run.plain ≡ run.announced → ¬ (SomeSlotShows parts run u p from to)
+pub none_of_alike : (parts : PartTable) (run : Run) (u p from to : ℕ) → run.unannounced ≡ run.announced → ¬ (SomeSlotShows parts run u p from to)
 none_of_alike parts run u p from to same = λ h.
     (of_test (get_or (times_at parts ((u + (p + h.0) / 60) % 1440)) ((p + h.0) % 60) 0) _ _ h.3).1 (ap (λ xs. get_or xs ((p + h.0) % 60) 0) same)
 
@@ -83,10 +83,10 @@ module _ (w : PricedParts) (station : w.parts.station ≡ w.grid.station) (table
 
 -- the minute lies in a run whose date tells the same
 abbrev pub IsAlikeAt : PartTable → ℕ → Type 0
-IsAlikeAt parts t = (i : ℕ) × IsInRun parts t i × ((run_at parts.runs i).plain ≡ (run_at parts.runs i).announced)
+IsAlikeAt parts t = (i : ℕ) × IsInRun parts t i × ((run_at parts.runs i).unannounced ≡ (run_at parts.runs i).announced)
 
 module _ (parts : PartTable) (lo i end : ℕ) (is_run : i < length parts.runs) (is : end ≡ end_of_run parts.runs parts.end i)
-    (same : (run_at parts.runs i).plain ≡ (run_at parts.runs i).announced) (before : (t : ℕ) → lo ≤ t → t < first_of parts.runs i → IsAlikeAt parts t) where
+    (same : (run_at parts.runs i).unannounced ≡ (run_at parts.runs i).announced) (before : (t : ℕ) → lo ≤ t → t < first_of parts.runs i → IsAlikeAt parts t) where
   -- with the minutes of one more run
   pub more_alike : (t : ℕ) → lo ≤ t → t < end → IsAlikeAt parts t
   more_alike t le lt = elim (cases_lt t (first_of parts.runs i)) [

@@ -6,7 +6,8 @@ use Rattle.signal_base.specs.declared.station.Station.TheVariants.{Dcf77, Msf, W
 use Rattle.symbol_cost.specs.Grid.{Grid, cost_at}
 use Rattle.slot_columns.proofs.MinuteLaws.{in_minute, inside, outside}
 use Rattle.slot_columns.proofs.SetLaws.{none_chosen}
-use Rattle.walk_costs.specs.Dates.{TellsOfCall, given_up, given_up_set, is_given_up}
+use Rattle.minute_parts.specs.Overlay.{is_given_up}
+use Rattle.walk_costs.specs.Dates.{TellsOfCall, given_up, given_up_set}
 use Rattle.walk_costs.proofs.SumLaws.{at_second, cost_in}
 
 -- a slot that isn't in these seconds of the minute costs nothing

@@ -9,7 +9,8 @@ use Rattle.minute_parts.specs.Runs.{end_of_run, first_of, run_at}
 use Rattle.slot_columns.specs.Parts.{minute_cost, split_cost, split_set, walk_cost}
 use Rattle.walk_costs.specs.Crossings.{IsAcross, run_across}
 use Rattle.walk_costs.specs.Dates.{IsAdded, given_up, minutes_to_call}
-use Rattle.walk_costs.specs.Walks.{ArePriced, PricedParts, last_minute, later_minutes}
+use Rattle.minute_parts.specs.Walks.{later_minutes}
+use Rattle.walk_costs.specs.Walks.{ArePriced, PricedParts, last_minute}
 use Rattle.walk_costs.proofs.SumLaws.{cost_in}
 use Rattle.walk_costs.proofs.TotalLaws.{IsTotal}
 use Rattle.walk_costs.proofs.WalkLaws.{AreRunsOf, date_in, total_by_runs}

@@ -7,8 +7,10 @@ use Rattle.symbol_cost.specs.Grid.{Grid, cost_at}
 use Rattle.symbol_cost.specs.declared.limits.TheConstants.{RECEIVER_COST}
 use Rattle.slot_columns.specs.Parts.{minute_cost, most_cost}
 use Rattle.slot_columns.proofs.SetLaws.{none_chosen}
-use Rattle.walk_costs.specs.Dates.{given_up, given_up_set, is_given_up, kept, kept_set, part_cost}
-use Rattle.walk_costs.specs.Walks.{AreSmall, later_minutes}
+use Rattle.minute_parts.specs.Overlay.{is_given_up}
+use Rattle.walk_costs.specs.Dates.{given_up, given_up_set, kept, kept_set, part_cost}
+use Rattle.minute_parts.specs.Walks.{later_minutes}
+use Rattle.walk_costs.specs.Walks.{AreSmall}
 use Rattle.walk_costs.proofs.SumLaws.{cost_in, made_part, part_by_second, sum_le, sum_of_two}
 use Rattle.walk_costs.proofs.WalkLaws.{lost, lost_sum}
 

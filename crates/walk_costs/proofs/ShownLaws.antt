@@ -7,13 +7,12 @@ use Rattle.definitions.specs.declared.sequence.Sequence.{Sequence}
 use Rattle.definitions.specs.time.Calendar.{minute_length}
 use Rattle.definitions.specs.sequences.Walks.{set_at, unannounced}
 use Rattle.minute_parts.specs.declared.runs.Run.{Run}
-use Rattle.minute_parts.specs.Overlay.{is_time_second, overlay}
+use Rattle.minute_parts.specs.Overlay.{is_given_up, is_time_second, overlay}
 use Rattle.minute_parts.specs.Parts.{IsInRun, IsPartTable, PartTable, local_time, times_at}
 use Rattle.minute_parts.specs.Runs.{run_at}
-use Rattle.span_unions.proofs.RunLaws.{leaves}
-use Rattle.walk_costs.specs.Dates.{is_given_up}
+use Rattle.minute_parts.proofs.SpanLaws.{leaves}
 use Rattle.walk_costs.specs.Shown.{DiffersElsewhere, SomeSlotShows, shows_in}
-use Rattle.walk_costs.specs.Walks.{ArePriced, IsPlainIn, PricedParts, ShowsAnnouncement, last_minute}
+use Rattle.walk_costs.specs.Walks.{ArePriced, IsRegularIn, PricedParts, ShowsAnnouncement, last_minute}
 use Rattle.walk_costs.proofs.SplitLaws.{calls, tells_by}
 use Rattle.walk_costs.proofs.SlotLaws.{set_in}
 
@@ -74,15 +73,15 @@ module _ (w : PricedParts) (station : w.parts.station ≡ w.grid.station) (table
   told_is i k t s within minute of_minute here = set_in w station table true p t0 second short i k t s within minute of_minute here
 
   untold_is : (i k t s : ℕ) → k < length w.grid.rows → t ≡ t0 + (p + k) / 60 → s ≡ (p + k) % 60 → IsInRun w.parts t i
-      → set_at w.grid.station (unannounced told) k ≡ overlay (time i t s) (get_or (run i).plain s 0)
+      → set_at w.grid.station (unannounced told) k ≡ overlay (time i t s) (get_or (run i).unannounced s 0)
   untold_is i k t s within minute of_minute here = set_in w station table false p t0 second (λ u from to. refl) i k t s within minute of_minute here
 
   pub shown_at : (i k t s : ℕ) → k < length w.grid.rows → t ≡ t0 + (p + k) / 60 → s ≡ (p + k) % 60 → IsInRun w.parts t i → time i t s ≡ 0
-      → get_or (run i).plain s 0 ≢ get_or (run i).announced s 0 → ShowsAnnouncement w told
+      → get_or (run i).unannounced s 0 ≢ get_or (run i).announced s 0 → ShowsAnnouncement w told
   shown_at i k t s within minute of_minute here none other = (
     k,
     within,
-    λ e. differ_by (time i t s) (get_or (run i).announced s 0) (get_or (run i).plain s 0) none (λ same. other (sym same))
+    λ e. differ_by (time i t s) (get_or (run i).announced s 0) (get_or (run i).unannounced s 0) none (λ same. other (sym same))
         (sym (told_is i k t s within minute of_minute here) ∙ e ∙ untold_is i k t s within minute of_minute here),
   )
 
@@ -108,15 +107,15 @@ module _ (w : PricedParts) (station : w.parts.station ≡ w.grid.station) (table
       let with = told_is i k t s within refl refl here in
       let without = untold_is i k t s within refl refl here in
       elim (cases_eq (time i t s) 0) [
-        | inr some ↦ with ∙ same_by_time (time i t s) (get_or (run i).announced s 0) (get_or (run i).plain s 0) some ∙ sym without
-        | inl none ↦ elim (cases_eq (get_or (run i).plain s 0) (get_or (run i).announced s 0)) [
+        | inr some ↦ with ∙ same_by_time (time i t s) (get_or (run i).announced s 0) (get_or (run i).unannounced s 0) some ∙ sym without
+        | inl none ↦ elim (cases_eq (get_or (run i).unannounced s 0) (get_or (run i).announced s 0)) [
           | inl same ↦ with ∙ ap (overlay (time i t s)) (sym same) ∙ sym without
           | inr other ↦ (let shows = to_test _ _ _ (sym (in_time i k) ∙ none) other in absurd cc)
         ]
       ]
 
   -- where the date tells the same, the slot doesn't show it
-  pub alike_is_silent : (i k : ℕ) → k < length w.grid.rows → IsInRun w.parts (t0 + (p + k) / 60) i → (run i).plain ≡ (run i).announced
+  pub alike_is_silent : (i k : ℕ) → k < length w.grid.rows → IsInRun w.parts (t0 + (p + k) / 60) i → (run i).unannounced ≡ (run i).announced
       → set_at w.grid.station told k ≡ set_at w.grid.station (unannounced told) k
   alike_is_silent i k within here same =
       let t : ℕ = t0 + (p + k) / 60 in
@@ -124,43 +123,43 @@ module _ (w : PricedParts) (station : w.parts.station ≡ w.grid.station) (table
       told_is i k t s within refl refl here ∙ ap (λ xs. overlay (time i t s) (get_or xs s 0)) (sym same) ∙ sym (untold_is i k t s within refl refl here)
 
 module _ (w : PricedParts) (costs : List (List ℕ)) (more : List ℕ) (priced : ArePriced w.parts w.grid costs more)
-    (p t0 i : ℕ) (plain : IsPlainIn w true p t0 i) where
+    (p t0 i : ℕ) (regular : IsRegularIn w true p t0 i) where
   abbrev run_of : Run
   run_of = run_at w.parts.runs i
 
   abbrev in_walk : Sequence
-  in_walk = told w priced.station priced.table p t0 plain.second plain.short
+  in_walk = told w priced.station priced.table p t0 regular.second regular.short
 
   here : (k t : ℕ) → k < length w.grid.rows → t ≡ t0 + (p + k) / 60 → IsInRun w.parts t i
   here k t within minute = record {
-    is_run = plain.begins.is_run;
-    begun = omega (arith, plain.begins.begun, minute);
-    not_over = omega (arith, minute, within, plain.ends);
+    is_run = regular.begins.is_run;
+    begun = omega (arith, regular.begins.begun, minute);
+    not_over = omega (arith, minute, within, regular.ends);
   }
 
   shown_in : (k t s : ℕ) → k < length w.grid.rows → t ≡ t0 + (p + k) / 60 → s ≡ (p + k) % 60
-      → get_or (times_at w.parts (local_time run_of t)) s 0 ≡ 0 → get_or run_of.plain s 0 ≢ get_or run_of.announced s 0 → ShowsAnnouncement w in_walk
+      → get_or (times_at w.parts (local_time run_of t)) s 0 ≡ 0 → get_or run_of.unannounced s 0 ≢ get_or run_of.announced s 0 → ShowsAnnouncement w in_walk
   shown_in k t s within minute of_minute =
-      shown_at w priced.station priced.table p t0 plain.second plain.short i k t s within minute of_minute (here k t within minute)
+      shown_at w priced.station priced.table p t0 regular.second regular.short i k t s within minute of_minute (here k t within minute)
 
   -- by its slots
   pub slots_show : SomeSlotShows w.parts run_of (local_time run_of t0) p 0 (length w.grid.rows) → ShowsAnnouncement w in_walk
-  slots_show h = slot_shows w priced.station priced.table p t0 plain.second plain.short i h.0 h.2 (here h.0 _ h.2 refl) h.3
+  slots_show h = slot_shows w priced.station priced.table p t0 regular.second regular.short i h.0 h.2 (here h.0 _ h.2 refl) h.3
 
   pub show_slots : ShowsAnnouncement w in_walk → SomeSlotShows w.parts run_of (local_time run_of t0) p 0 (length w.grid.rows)
   show_slots h = elim (cases_Bool (shows_in w.parts run_of (local_time run_of t0) p h.0)) [
     | inl shows ↦ (h.0, omega arith, h.1, shows)
-    | inr silent ↦ absurd (h.2 (slot_is_silent w priced.station priced.table p t0 plain.second plain.short i h.0 h.1 (here h.0 _ h.1 refl) silent))
+    | inr silent ↦ absurd (h.2 (slot_is_silent w priced.station priced.table p t0 regular.second regular.short i h.0 h.1 (here h.0 _ h.1 refl) silent))
   ]
 
   -- where the date tells the same, none shows it
-  pub none_shown : run_of.plain ≡ run_of.announced → ¬ (ShowsAnnouncement w in_walk)
-  none_shown same = λ h. h.2 (alike_is_silent w priced.station priced.table p t0 plain.second plain.short i h.0 h.1 (here h.0 _ h.1 refl) same)
+  pub none_shown : run_of.unannounced ≡ run_of.announced → ¬ (ShowsAnnouncement w in_walk)
+  none_shown same = λ h. h.2 (alike_is_silent w priced.station priced.table p t0 regular.second regular.short i h.0 h.1 (here h.0 _ h.1 refl) same)
 
   -- where it tells another set, the time of day doesn't always tell of that second
-  not_by_time : (s : ℕ) → s < 60 → get_or run_of.plain s 0 ≢ get_or run_of.announced s 0 → is_time_second w.parts.station s ≡ false
+  not_by_time : (s : ℕ) → s < 60 → get_or run_of.unannounced s 0 ≢ get_or run_of.announced s 0 → is_time_second w.parts.station s ≡ false
   not_by_time s lt other = elim (cases_Bool (is_time_second w.parts.station s)) [
-    | inl always ↦ absurd (other (priced.table.date_alone false i s plain.begins.is_run lt always ∙ sym (priced.table.date_alone true i s plain.begins.is_run lt always)))
+    | inl always ↦ absurd (other (priced.table.date_alone false i s regular.begins.is_run lt always ∙ sym (priced.table.date_alone true i s regular.begins.is_run lt always)))
     | inr e ↦ e
   ]
 
@@ -169,7 +168,7 @@ module _ (w : PricedParts) (costs : List (List ℕ)) (more : List ℕ) (priced :
   slot s = (s + 60 - p) % 60
 
   second_is : (s : ℕ) → s < 60 → s ≡ (p + slot s) % 60
-  second_is s lt = let small = plain.second in omega arith
+  second_is s lt = let small = regular.second in omega arith
 
   pub elsewhere : 60 ≤ length w.grid.rows → DiffersElsewhere w.grid.station run_of → ShowsAnnouncement w in_walk
   elsewhere long d =
@@ -182,22 +181,22 @@ module _ (w : PricedParts) (costs : List (List ℕ)) (more : List ℕ) (priced :
       let silent = tells_by st v s ∙ or_from _ _ (not_by_time s d.1 d.3) (no_call (calls st v) (is_given_up st s) kept) in
       shown_in k t s (omega (arith, long)) refl (second_is s d.1) (priced.table.time_alone v s (omega arith) d.1 silent) d.3
 
-  in_two_minutes : 120 ≤ length w.grid.rows → (s : ℕ) → s < 60 → get_or run_of.plain s 0 ≢ get_or run_of.announced s 0 → ShowsAnnouncement w in_walk
+  in_two_minutes : 120 ≤ length w.grid.rows → (s : ℕ) → s < 60 → get_or run_of.unannounced s 0 ≢ get_or run_of.announced s 0 → ShowsAnnouncement w in_walk
   in_two_minutes long s lt other =
       let k : ℕ = slot s in
       let t : ℕ = t0 + (p + k) / 60 in
       let is = second_is s lt in
-      let some = priced.table.date_told true i s plain.begins.is_run lt (not_by_time s lt other) in
-      elim (leaves w.parts priced.table true i plain.begins.is_run s lt t (λ none. omega (arith, none, some))) [
+      let some = priced.table.date_told true i s regular.begins.is_run lt (not_by_time s lt other) in
+      elim (leaves w.parts priced.table true i regular.begins.is_run s lt t (λ none. omega (arith, none, some))) [
         | inl first ↦ shown_in k t s (omega (arith, long)) refl is first other
         | inr second ↦ shown_in (k + 60) (t + 1) s (omega (arith, long)) (omega arith) (omega (arith, is)) second other
       ]
 
-  pub all_shown : 120 ≤ length w.grid.rows → (run_of.plain ≡ run_of.announced → ⊥) → ShowsAnnouncement w in_walk
+  pub all_shown : 120 ≤ length w.grid.rows → (run_of.unannounced ≡ run_of.announced → ⊥) → ShowsAnnouncement w in_walk
   all_shown long other =
-      elim (same_or_differ 60 (λ s. get_or run_of.plain s 0) (λ s. get_or run_of.announced s 0)) [
+      elim (same_or_differ 60 (λ s. get_or run_of.unannounced s 0) (λ s. get_or run_of.announced s 0)) [
         | inr d ↦ in_two_minutes long d.0 d.1 d.2
-        | inl same ↦ absurd (other (ext_get_or 0 run_of.plain run_of.announced
-            (priced.table.date_seconds false i plain.begins.is_run ∙ sym (priced.table.date_seconds true i plain.begins.is_run))
-            (λ s lt. same s (omega (arith, lt, priced.table.date_seconds false i plain.begins.is_run)))))
+        | inl same ↦ absurd (other (ext_get_or 0 run_of.unannounced run_of.announced
+            (priced.table.date_seconds false i regular.begins.is_run ∙ sym (priced.table.date_seconds true i regular.begins.is_run))
+            (λ s lt. same s (omega (arith, lt, priced.table.date_seconds false i regular.begins.is_run)))))
       ]

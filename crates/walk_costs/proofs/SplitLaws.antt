@@ -3,8 +3,8 @@ use Rattle.std.proofs.Common.{◌≡◌, ℕ, ◌+◌, ◌-◌, ◌%◌, ◌<◌
 use Rattle.std.proofs.lemmas.Bool.{cases_lt, eq-eqb, eqb-true, eqb-false, ne_eqb}
 use Rattle.signal_base.specs.declared.station.Station.{Station}
 use Rattle.signal_base.specs.declared.station.Station.TheVariants.{Dcf77, Msf, Wwvb, Jjy}
-use Rattle.minute_parts.specs.Overlay.{is_time_second, overlay, tells_time}
-use Rattle.walk_costs.specs.Dates.{is_given_up, minutes_to_call}
+use Rattle.minute_parts.specs.Overlay.{is_given_up, is_time_second, overlay, tells_time}
+use Rattle.walk_costs.specs.Dates.{minutes_to_call}
 
 -- the minutes of the local day in which a station sends its call sign
 abbrev pub calls : Station → ℕ → Bool

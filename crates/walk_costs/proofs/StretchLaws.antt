@@ -5,8 +5,9 @@ use Rattle.std.proofs.lemmas.Bool.{cases_lt, eqb-true, eqb-false}
 use Rattle.slot_columns.specs.Parts.{entry, most_cost}
 use Rattle.walk_costs.specs.declared.date.DateCost.{DateCost}
 use Rattle.walk_costs.specs.Dates.{IsAdded, cost_at_call, minutes_to_call}
-use Rattle.walk_costs.specs.Stretches.{AreAddedCosts, ArePlainFrom}
-use Rattle.walk_costs.specs.Walks.{ArePriced, IsDateCost, PricedParts, cost_of, last_minute, later_minutes}
+use Rattle.walk_costs.specs.Stretches.{AreAddedCosts, AreRegularFrom}
+use Rattle.minute_parts.specs.Walks.{later_minutes}
+use Rattle.walk_costs.specs.Walks.{ArePriced, IsDateCost, PricedParts, cost_of, last_minute}
 use Rattle.walk_costs.proofs.WalkLaws.{total_at}
 
 module _ (w : PricedParts) (announced : Bool) (p lo : ℕ) where
@@ -107,7 +108,7 @@ to_call_later u j le = omega arith
 
 -- Minutes on end that add up by the same numbers, in one day by the local time.
 module _ (w : PricedParts) (costs : List (List ℕ)) (more : List ℕ) (priced : ArePriced w.parts w.grid costs more) (date : DateCost) (is : IsDateCost w date)
-    (t to : ℕ) (plain : ArePlainFrom w date t to) (u later alike added : ℕ) (time : u ≡ (t + date.shift) % 1440)
+    (t to : ℕ) (regular : AreRegularFrom w date t to) (u later alike added : ℕ) (time : u ≡ (t + date.shift) % 1440)
     (count : later ≡ later_minutes (length w.grid.rows) date.second) (within : t + alike ≤ to) (local : u + alike ≤ 1440)
     (one : (last_minute w date.second t / 1440 == t / 1440) ≡ true → IsAdded w.grid date.second added)
     (two : (last_minute w date.second t / 1440 == t / 1440) ≡ false → added ≡ 0)
@@ -117,7 +118,7 @@ module _ (w : PricedParts) (costs : List (List ℕ)) (more : List ℕ) (priced :
   pub in_piece : (j : ℕ) → j < alike → (x y : ℕ) → x ≡ entry costs date.second (u + j) → y ≡ cost_at_call date.by_call (minutes_to_call (u + j))
       → (x + (y + added) ≡ cost_of w date.announced date.second (t + j)) × (cost_of w date.announced date.second (t + j) ≤ most_cost w.grid)
   in_piece j lt x y by_time by_date =
-      let here = plain (t + j) (omega arith) (omega (arith, lt, within)) in
+      let here = regular (t + j) (omega arith) (omega (arith, lt, within)) in
       let day : u + j < 1440 = omega (arith, lt, local) in
       let dut1 = added_alike w date.second t j added one two
       (subst (λ l. (t + l) / 1440 ≡ t / 1440 → (t + j + l) / 1440 ≡ (t + j) / 1440) count (λ e. same e j lt))

@@ -8,13 +8,14 @@ use Rattle.definitions.specs.sequences.Walks.{set_at}
 use Rattle.definitions.specs.heard.Costs.{sum_below}
 use Rattle.definitions.proofs.CostLaws.{sum_below_bound, sum_below_same}
 use Rattle.symbol_cost.specs.Grid.{Grid, cost_at}
-use Rattle.minute_parts.specs.Overlay.{is_time_second, overlay}
+use Rattle.minute_parts.specs.Overlay.{is_given_up, is_time_second, overlay}
 use Rattle.minute_parts.specs.Parts.{IsInRun, part_where, times_at}
 use Rattle.minute_parts.specs.Runs.{run_at}
 use Rattle.slot_columns.specs.Parts.{minute_cost, most_cost, walk_cost, walk_set}
 use Rattle.slot_columns.proofs.SetLaws.{none_chosen}
-use Rattle.walk_costs.specs.Dates.{IsAdded, date_cost, given_up, given_up_set, is_given_up, minutes_to_call, part_cost}
-use Rattle.walk_costs.specs.Walks.{ArePriced, IsPlainIn, PricedParts, last_minute, later_minutes}
+use Rattle.walk_costs.specs.Dates.{IsAdded, date_cost, given_up, given_up_set, minutes_to_call, part_cost}
+use Rattle.minute_parts.specs.Walks.{later_minutes}
+use Rattle.walk_costs.specs.Walks.{ArePriced, IsRegularIn, PricedParts, last_minute}
 use Rattle.walk_costs.proofs.SumLaws.{at_second, cost_in, most_of_few, part_by_second, sum_le, sums_of_two}
 use Rattle.walk_costs.proofs.SlotLaws.{set_in}
 use Rattle.walk_costs.proofs.SplitLaws.{call_minute, calls, parts_of_second, tells_by}
@@ -173,15 +174,15 @@ module _ (w : PricedParts) (costs : List (List ℕ)) (more : List ℕ) (priced :
 
 -- a walk in one run
 module _ (w : PricedParts) (costs : List (List ℕ)) (more : List ℕ) (priced : ArePriced w.parts w.grid costs more)
-    (announced : Bool) (p t0 i : ℕ) (plain : IsPlainIn w announced p t0 i) where
+    (announced : Bool) (p t0 i : ℕ) (regular : IsRegularIn w announced p t0 i) where
   pub one_run : AreRunsOf w announced p t0 (run_at w.parts.runs i).shift (λ m. i)
   one_run = record {
-    second = plain.second;
-    short = plain.short;
+    second = regular.second;
+    short = regular.short;
     each = λ m le. record {
-      is_run = plain.begins.is_run;
-      begun = omega (arith, plain.begins.begun);
-      not_over = omega (arith, plain.ends, le);
+      is_run = regular.begins.is_run;
+      begun = omega (arith, regular.begins.begun);
+      not_over = omega (arith, regular.ends, le);
     };
     shifts = λ m le. refl;
   }

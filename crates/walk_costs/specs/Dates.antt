@@ -2,14 +2,15 @@
 use Rattle.std.specs.Prelude.{ℕ, ◌≡◌, ◌+◌, ◌-◌, ◌%◌, ◌<◌, ◌≤◌, Bool, true, false, ◌||◌, if◌then◌else◌, List, length, map, slice_index, unwrap_or, ℤ}
 use Rattle.std.specs.List.{range_with_len}
 use Rattle.signal_base.specs.declared.station.Station.{Station}
-use Rattle.signal_base.specs.declared.station.Station.TheVariants.{Jjy}
-use Rattle.definitions.specs.codes.Vocabulary.{free, is_within, only}
+use Rattle.definitions.specs.codes.Vocabulary.{free, only}
+use Rattle.definitions.specs.time.Calendar.{minutes_per_hour}
 use Rattle.definitions.specs.heard.Costs.{least}
 use Rattle.definitions.specs.heard.Dut1.{dut1_symbol, dut1_values, has_dut1, is_dut1_second}
 use Rattle.symbol_cost.specs.Grid.{Grid, cost_at}
 use Rattle.slot_columns.specs.Parts.{layered_cost, minute_cost}
 use Rattle.slot_columns.specs.declared.limits.TheConstants.{SECONDS_PER_MINUTE}
-use Rattle.walk_costs.specs.declared.call.TheConstants.{CALL_BEGIN, CALL_END}
+use Rattle.minute_parts.specs.declared.call.TheConstants.{CALL_BEGIN, CALL_END, CALL_MINUTE, CALL_MINUTES}
+use Rattle.minute_parts.specs.Overlay.{is_given_up}
 use Rattle.walk_costs.specs.declared.date.ByCall.{ByCall}
 use Rattle.walk_costs.specs.declared.date.ByCall.TheVariants.{Never, Each}
 
@@ -17,12 +18,7 @@ use Rattle.walk_costs.specs.declared.date.ByCall.TheVariants.{Never, Each}
 abbrev pub part_cost : Grid → ℕ → List ℕ → ℕ
 part_cost grid p part = layered_cost grid.station (cost_at grid.rows) (length grid.rows) p part part
 
--- JJY gives up some seconds of the date for its call sign, in the minutes 15 and 45 of each hour; no other station does
-abbrev pub is_given_up : Station → ℕ → Bool
-is_given_up Jjy s = is_within 40 48 s || is_within 50 55 s
-is_given_up station s = false
-
--- what the date tells of these seconds, and 0 elsewhere
+-- what the date tells of the seconds that JJY gives up for its call sign, and 0 elsewhere
 abbrev pub given_up_set : Station → List ℕ → ℕ → ℕ
 given_up_set station part s = if is_given_up station s then slice_index part s else 0
 
@@ -41,9 +37,9 @@ kept_set station part s = if is_given_up station s then 0 else slice_index part 
 unfoldable pub kept : Station → List ℕ → List ℕ
 kept station part = map (kept_set station part) (range_with_len 0 60)
 
--- the first minute from v, a minute of an hour, on that is 15 or 45: it comes so many minutes later
+-- the first minute from v, a minute of an hour, on in which the call sign is sent: it comes so many minutes later
 abbrev pub minutes_to_call : ℕ → ℕ
-minutes_to_call v = (75 - v % 60) % 30
+minutes_to_call v = (minutes_per_hour + CALL_MINUTE - v % minutes_per_hour) % CALL_MINUTES
 
 -- what the date tells costs this in a walk of which the call sign takes walk minute m
 abbrev pub date_cost : Grid → ℕ → ℕ → List ℕ → ℕ

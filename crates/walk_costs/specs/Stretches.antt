@@ -6,11 +6,11 @@ use Rattle.walk_costs.specs.declared.crossing.Crossing.{Crossing}
 use Rattle.walk_costs.specs.declared.date.DateCost.{DateCost}
 use Rattle.walk_costs.specs.declared.stretch.TheConstants.{STRETCH}
 use Rattle.walk_costs.specs.Crossings.{IsAcross}
-use Rattle.walk_costs.specs.Walks.{IsPlainIn, PricedParts, ShowsAnnouncement, cost_of}
+use Rattle.walk_costs.specs.Walks.{IsRegularIn, PricedParts, ShowsAnnouncement, cost_of}
 
 -- the walks that begin in the minutes from lo up to, and without, hi lie in the run of the date
-abbrev pub ArePlainFrom : PricedParts → DateCost → ℕ → ℕ → Type 0
-ArePlainFrom w date lo hi = (t0 : ℕ) → lo ≤ t0 → t0 < hi → IsPlainIn w date.announced date.second t0 date.run
+abbrev pub AreRegularFrom : PricedParts → DateCost → ℕ → ℕ → Type 0
+AreRegularFrom w date lo hi = (t0 : ℕ) → lo ≤ t0 → t0 < hi → IsRegularIn w date.announced date.second t0 date.run
 
 -- and these go from the run of a crossing to the next
 abbrev pub AreAcrossFrom : PricedParts → Crossing → ℕ → ℕ → Type 0
@@ -30,7 +30,7 @@ HaveRoom w lo from costs = (i : ℕ) → i < STRETCH → from ≤ lo + i → sli
 
 -- the walks of the announced sequences that begin in second p of the minutes from lo up to, and without, hi lie in the run i
 abbrev pub AreInRun : PricedParts → ℕ → ℕ → ℕ → ℕ → Type 0
-AreInRun w p i lo hi = (t0 : ℕ) → lo ≤ t0 → t0 < hi → IsPlainIn w true p t0 i
+AreInRun w p i lo hi = (t0 : ℕ) → lo ≤ t0 → t0 < hi → IsRegularIn w true p t0 i
 
 -- flag i of some flags is that of the minute lo + i: of the minutes from `from` up to, and without, `to` those were marked in
 -- whose second p an announced sequence begins that shows the announcement, and all other flags stayed as they were

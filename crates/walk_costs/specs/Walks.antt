@@ -9,7 +9,8 @@ use Rattle.symbol_cost.specs.Grid.{Grid, cost_at}
 use Rattle.symbol_cost.specs.declared.limits.TheConstants.{RECEIVER_COST}
 use Rattle.minute_parts.specs.Parts.{IsInRun, IsPartTable, PartTable, part_where}
 use Rattle.minute_parts.specs.Runs.{end_of_run, run_at}
-use Rattle.span_unions.specs.Unions.{AreRegular}
+use Rattle.minute_parts.specs.Unions.{AreRegular}
+use Rattle.minute_parts.specs.Walks.{later_minutes}
 use Rattle.slot_columns.specs.Layered.{LayerSums, layer_cost}
 use Rattle.slot_columns.specs.Parts.{AreWalkCosts}
 use Rattle.slot_columns.specs.declared.limits.TheConstants.{SECONDS_PER_MINUTE}
@@ -23,15 +24,11 @@ pub record PricedParts : Type 0 where
   pub parts : PartTable
   pub grid : Grid
 
--- how many minutes a walk of n slots goes on after its first minute, of which it takes second p first
-abbrev pub later_minutes : ℕ → ℕ → ℕ
-later_minutes n p = (p + n - 1) / SECONDS_PER_MINUTE
-
 abbrev pub last_minute : PricedParts → ℕ → ℕ → ℕ
 last_minute w p t0 = t0 + later_minutes (length w.grid.rows) p
 
 -- the walk from second p of the minute t0 has 60 seconds in each minute, and lies in the run i
-pub record IsPlainIn (w : PricedParts) (announced : Bool) (p t0 i : ℕ) : Type 0 where
+pub record IsRegularIn (w : PricedParts) (announced : Bool) (p t0 i : ℕ) : Type 0 where
   pub second : p < SECONDS_PER_MINUTE
   pub begins : IsInRun w.parts t0 i
   pub ends : last_minute w p t0 < end_of_run w.parts.runs w.parts.end i
@@ -64,7 +61,7 @@ pub record ArePriced (parts : PartTable) (grid : Grid) (costs : List (List ℕ))
 pub record AreDateCosts (parts : PartTable) (grid : Grid) (dates : LayerSums) : Type 0 where
   pub count : dates.pairs ≡ length parts.runs
   pub each : (i p : ℕ) → i < length parts.runs → p < SECONDS_PER_MINUTE
-      → layer_cost dates i p ≡ part_cost grid p (kept grid.station (run_at parts.runs i).plain)
+      → layer_cost dates i p ≡ part_cost grid p (kept grid.station (run_at parts.runs i).unannounced)
 
 -- all that is kept of a station
 pub record AreKept (parts : PartTable) (grid : Grid) (costs : List (List ℕ)) (more : List ℕ) (by_date : LayerSums) : Type 0 where
@@ -79,9 +76,9 @@ ShowsAnnouncement w q =
 -- what is told of the walks that lie in the run i and begin in second p
 abbrev pub IsShown : PricedParts → Bool → ℕ → ℕ → Shown → Type 0
 IsShown w announced p i Never =
-    (t0 : ℕ) → IsPlainIn w announced p t0 i → ¬ (ShowsAnnouncement w (record { first = t0; second = p; announced = announced }))
+    (t0 : ℕ) → IsRegularIn w announced p t0 i → ¬ (ShowsAnnouncement w (record { first = t0; second = p; announced = announced }))
 IsShown w announced p i Always =
-    (t0 : ℕ) → IsPlainIn w announced p t0 i → ShowsAnnouncement w (record { first = t0; second = p; announced = announced })
+    (t0 : ℕ) → IsRegularIn w announced p t0 i → ShowsAnnouncement w (record { first = t0; second = p; announced = announced })
 IsShown w announced p i Sometimes = Unit {0}
 
 -- what the date of a run costs where a walk begins in this second, for each walk minute that the call sign may take

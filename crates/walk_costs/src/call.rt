@@ -1,17 +1,13 @@
 //! The seconds that JJY gives up for its call sign, and what the date tells in them.
 
-ghost use Rattle.std.specs.Prelude.{◌≡◌, ◌<◌, ℕ, false, length};
+ghost use Rattle.std.specs.Prelude.{◌≡◌, ◌<◌, length};
 ghost use Rattle.symbol_cost.specs.Grid.{cost_at};
 ghost use Rattle.slot_columns.specs.Parts.{minute_cost};
-ghost use Rattle.walk_costs.specs.Dates.{given_up, given_up_set, is_given_up};
+ghost use Rattle.walk_costs.specs.Dates.{given_up, given_up_set};
 
+use minute_parts::{CALL_BEGIN, CALL_END, gives_up, is_given_up};
 use signal_base::Station;
 use slot_columns::{Part, SECONDS_PER_MINUTE, SlotColumns};
-
-/// The first second that the call sign may take, and the one after its last.
-pub const CALL_BEGIN: usize = 40;
-
-pub const CALL_END: usize = 56;
 
 /// What the date tells in walk minute `m` of the seconds that the station gives up for its call sign costs this: a look at 16
 /// slots at most.
@@ -37,16 +33,6 @@ pub fn call_cost(columns: &SlotColumns, p: u8, m: u8, part: &Part) -> u32
     cost
 }
 
-/// Whether the station gives up seconds for its call sign.
-pub fn gives_up(station: Station) -> bool
-    ensures { result ≡ false → (s : ℕ) → is_given_up station s ≡ false }
-{
-    match station {
-        Station::Jjy => true,
-        Station::Dcf77 | Station::Msf | Station::Wwvb => false,
-    }
-}
-
 // What the date tells of a second that the call sign takes.
 fn given_up_set(station: Station, part: &Part, second: usize) -> u8
     requires { second < SECONDS_PER_MINUTE }
@@ -56,15 +42,5 @@ fn given_up_set(station: Station, part: &Part, second: usize) -> u8
         part[second]
     } else {
         0
-    }
-}
-
-/// Whether the call sign takes the second, in the minutes 15 and 45 of an hour.
-pub fn is_given_up(station: Station, second: usize) -> bool
-    ensures { result ≡ is_given_up station second }
-{
-    match station {
-        Station::Jjy => 40 <= second && second <= 48 || 50 <= second && second <= 55,
-        Station::Dcf77 | Station::Msf | Station::Wwvb => false,
     }
 }

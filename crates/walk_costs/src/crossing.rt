@@ -11,7 +11,6 @@ ghost use Rattle.walk_costs.specs.Walks.{cost_of};
 
 use crate::call::call_cost;
 use crate::walks::{StationWalks, local_time, minutes_to_call};
-use minute_parts::{Part, Run};
 use slot_columns::{SECONDS_PER_MINUTE, SplitCosts};
 
 /// What the dates of a run and of the next one cost in the walks that begin in the one, in one second, and end in the other.
@@ -42,8 +41,8 @@ impl StationWalks {
         let parts = self.unions.parts();
         // The next run's number fits, as the count of runs does.
         parts.runs();
-        let before = date_part(parts.run(run), announced);
-        let after = date_part(parts.run(run + 1), announced);
+        let before = parts.run(run).date_part(announced);
+        let after = parts.run(run + 1).date_part(announced);
         Crossing {
             announced,
             second: p,
@@ -82,7 +81,7 @@ impl StationWalks {
         ensures { result ≡ minute_cost self.now.grid.station (cost_at self.now.grid.rows) (length self.now.grid.rows) p m
             (given_up self.now.grid.station (part_where announced (run_at self.now.parts.runs run))) }
     {
-        let part = date_part(self.unions.parts().run(run), announced);
+        let part = self.unions.parts().run(run).date_part(announced);
         call_cost(&self.columns, p, m, part)
     }
 }
@@ -93,15 +92,4 @@ fn run_across(first: usize, front: u32, m: u8) -> usize
     ensures { result ≡ run_across first front m }
 {
     if (m as u32) < front { first } else { first + 1 }
-}
-
-/// What the date of a run tells.
-pub fn date_part(run: &Run, announced: bool) -> &Part
-    ensures { result.now ≡ part_where announced run.now }
-{
-    if announced {
-        &run.announced
-    } else {
-        &run.plain
-    }
 }

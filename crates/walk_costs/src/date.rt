@@ -1,16 +1,15 @@
 //! What the date of a run costs in a walk.
 
 ghost use Rattle.std.specs.Prelude.{◌≡◌, ◌+◌, ◌-◌, ◌^◌, ◌<◌, ◌≤◌, ℕ, length, slice_index};
+ghost use Rattle.minute_parts.specs.declared.call.TheConstants.{CALL_MINUTES};
 ghost use Rattle.walk_costs.specs.Dates.{cost_at_call, date_cost, kept, kept_set, part_cost};
-ghost use Rattle.walk_costs.specs.Walks.{later_minutes};
+ghost use Rattle.minute_parts.specs.Walks.{later_minutes};
 
-use crate::call::{call_cost, gives_up, is_given_up};
+use crate::call::call_cost;
+use minute_parts::{CALL_MINUTES, gives_up, is_given_up, later_minutes};
 use signal_base::Station;
 use slot_columns::{Part, SECONDS_PER_MINUTE, SlotColumns};
 use std::array;
-
-/// Every so many minutes of an hour JJY sends its call sign.
-pub const CALL_MINUTES: usize = 30;
 
 /// A cost for each minute up to the next call sign.
 pub type ByMinute = [u32; CALL_MINUTES];
@@ -79,8 +78,7 @@ fn walk_minutes(columns: &SlotColumns, p: u8) -> usize
     ensures count { result ≡ later_minutes (length columns.now.rows) p + 1 }
     ensures bound { result ≤ 21 }
 {
-    let seconds = columns.seconds() as usize;
-    (p as usize + seconds).saturating_sub(1) / SECONDS_PER_MINUTE + 1
+    later_minutes(columns.seconds(), p) as usize + 1
 }
 
 // For each minute what is left of a cost.

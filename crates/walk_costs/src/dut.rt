@@ -1,23 +1,17 @@
 //! What is added to a walk's cost where its seconds of DUT1 tell one value of it.
 
 ghost use Rattle.std.specs.Prelude.{◌≡◌, ◌<◌, ◌≤◌, true};
-ghost use Rattle.definitions.specs.codes.Vocabulary.{only};
 ghost use Rattle.definitions.specs.heard.Dut1.{has_dut1};
 ghost use Rattle.plain_costs.specs.Tenths.{tenths_at, value_count};
+ghost use Rattle.plain_costs.specs.declared.tenths.TheConstants.{MOST_VALUES};
 ghost use Rattle.slot_columns.specs.Parts.{most_cost};
 ghost use Rattle.walk_costs.specs.Dates.{IsAdded, free_part, free_set, least_told, part_cost, told_part, told_set};
 
-use crate::tenths::{has_dut1, is_dut1_second, symbol_of, value_count};
+use plain_costs::{MOST_VALUES, has_dut1, is_dut1_second, symbol_of, value_count};
 use signal_base::Station;
 use slot_columns::{Part, SECONDS_PER_MINUTE, SlotColumns};
 use std::array;
-
-// The sets of a 0 and of a 1 alone, and of both.
-const ONLY_ZERO: u8 = 1;
-
-const ONLY_ONE: u8 = 2;
-
-const FREE: u8 = 3;
+use telegram_fields::{FREE, only};
 
 /// By how much a walk from second `p` costs more where its seconds of DUT1 tell the value that costs least, than where
 /// each of them is free. It is nothing where the station doesn't send DUT1.
@@ -52,7 +46,7 @@ fn told_cost(columns: &SlotColumns, station: Station, p: u8, i: usize) -> u32
     requires station { station ≡ columns.now.station }
     requires some { has_dut1 station ≡ true }
     requires second { p < SECONDS_PER_MINUTE }
-    requires value { i < 19 }
+    requires value { i < MOST_VALUES }
     ensures cost { result ≡ part_cost columns.now p (told_part station (tenths_at station i)) }
     ensures not_less { part_cost columns.now p (free_part station) ≤ result }
 {
@@ -61,14 +55,14 @@ fn told_cost(columns: &SlotColumns, station: Station, p: u8, i: usize) -> u32
 
 // The seconds of DUT1 where they tell value `i`.
 fn told_part(station: Station, i: usize) -> Part
-    requires { i < 19 }
+    requires { i < MOST_VALUES }
     ensures { result ≡ told_part station (tenths_at station i) }
 {
     array::from_fn(|second| told_set(station, i, second as u8))
 }
 
 fn told_set(station: Station, i: usize, second: u8) -> u8
-    requires value { i < 19 }
+    requires value { i < MOST_VALUES }
     ensures { result ≡ told_set station (tenths_at station i) second }
 {
     if is_dut1_second(station, second) {
@@ -76,14 +70,6 @@ fn told_set(station: Station, i: usize, second: u8) -> u8
     } else {
         0
     }
-}
-
-// The set of a bit alone.
-fn only(bit: u8) -> u8
-    requires { bit < 2 }
-    ensures { result ≡ only bit }
-{
-    if bit == 0 { ONLY_ZERO } else { ONLY_ONE }
 }
 
 // These seconds where each of them is free.

@@ -3,13 +3,13 @@
 ghost use Rattle.std.specs.Prelude.{◌≡◌, ◌<◌, ℕ, [], IfOk, length, slice_index_or, vec_len};
 ghost use Rattle.minute_parts.specs.Parts.{part_where};
 ghost use Rattle.minute_parts.specs.Runs.{run_at};
+ghost use Rattle.minute_parts.specs.declared.call.TheConstants.{CALL_MINUTES};
 ghost use Rattle.walk_costs.specs.Dates.{cost_at_call, date_cost, kept, part_cost};
 ghost use Rattle.walk_costs.specs.Walks.{AreDateCosts};
 
-use crate::crossing::date_part;
-use crate::date::{ByCall, CALL_MINUTES, by_call_with, kept};
+use crate::date::{ByCall, by_call_with, kept};
 use crate::shown::is_told_alike;
-use crate::walks::{StationWalks, WalksFault};
+use crate::walks::StationWalks;
 use minute_parts::{Part, Parts};
 use signal_base::Station;
 use slot_columns::{LayerTable, SECONDS_PER_MINUTE, SlotColumns};
@@ -37,7 +37,7 @@ impl StationWalks {
         requires run { run < length self.now.parts.runs }
         ensures { (m : ℕ) → m < CALL_MINUTES → cost_at_call result m ≡ date_cost self.now.grid p m (part_where announced (run_at self.now.parts.runs run)) }
     {
-        let part = date_part(self.unions.parts().run(run), announced);
+        let part = self.unions.parts().run(run).date_part(announced);
         by_call_with(
             &self.columns,
             p,
@@ -52,7 +52,7 @@ pub fn dates_of(
     alloc: Global,
     parts: &Parts,
     columns: &SlotColumns,
-) -> Result<LayerTable, WalksFault>
+) -> Result<LayerTable, AllocError>
     ensures { IfOk result (λ dates. AreDateCosts parts.now columns.now dates) }
 {
     let kept = kept_parts(alloc, parts, columns.station())?;
@@ -63,11 +63,11 @@ pub fn dates_of(
 // What the date tells in each run, but of the seconds that are given up.
 fn kept_parts(alloc: Global, parts: &Parts, station: Station) -> Result<Vec<Part>, AllocError>
     ensures count { IfOk result (λ all. vec_len all ≡ length parts.now.runs) }
-    ensures each { IfOk result (λ all. (i : ℕ) → i < length parts.now.runs → slice_index_or all.items i [] ≡ kept station (run_at parts.now.runs i).plain) }
+    ensures each { IfOk result (λ all. (i : ℕ) → i < length parts.now.runs → slice_index_or all.items i [] ≡ kept station (run_at parts.now.runs i).unannounced) }
 {
     let mut all = Vec::with_capacity(alloc, parts.runs())?;
     for i in 0..parts.runs() {
-        all.push(kept(station, &parts.run(i).plain))?;
+        all.push(kept(station, &parts.run(i).unannounced))?;
     }
     Ok(all)
 }

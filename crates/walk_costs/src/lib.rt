@@ -12,14 +12,13 @@ mod marks;
 mod shown;
 mod small;
 mod stretch;
-mod tenths;
 #[cfg(test)]
 mod tests;
 mod walks;
 
-pub use crossing::{Crossing, date_part};
-pub use date::{ByCall, ByMinute, CALL_MINUTES, DateCost};
+pub use crossing::Crossing;
+pub use date::{ByCall, ByMinute, DateCost};
 pub use marks::Flags;
 pub use shown::Shown;
 pub use stretch::{MinuteCosts, STRETCH};
-pub use walks::{StationWalks, WalksFault};
+pub use walks::StationWalks;

@@ -3,12 +3,10 @@
 ghost use Rattle.std.specs.Prelude.{◌≡◌, ◌<◌, ◌≤◌, ◌≢◌, ◌↔◌, ℕ, IsTrue, length, slice_index, true, false};
 ghost use Rattle.signal_base.specs.declared.limits.TheConstants.{MOST_SECONDS};
 ghost use Rattle.definitions.specs.time.Calendar.{minutes_per_day};
-ghost use Rattle.walk_costs.specs.Dates.{is_given_up};
 ghost use Rattle.walk_costs.specs.Shown.{DiffersElsewhere, SomeSlotShows, shows_in};
 
-use crate::call::is_given_up;
 use definitions::MINUTES_PER_DAY;
-use minute_parts::{Parts, Run};
+use minute_parts::{Parts, Run, is_given_up};
 use signal_base::Station;
 use slot_columns::SECONDS_PER_MINUTE;
 
@@ -32,7 +30,7 @@ pub fn differs_elsewhere(station: Station, run: &Run) -> bool
     ensures { result ≡ true → DiffersElsewhere station run.now }
 {
     for s in 0..SECONDS_PER_MINUTE {
-        if !is_given_up(station, s) && run.plain[s] != run.announced[s] {
+        if !is_given_up(station, s) && run.unannounced[s] != run.announced[s] {
             return true;
         }
     }
@@ -42,9 +40,9 @@ pub fn differs_elsewhere(station: Station, run: &Run) -> bool
 /// Whether the date tells the same with the announcement and without it, so that no minute of the run shows it. So it is in
 /// most runs: in all but those of June and December.
 pub fn is_told_alike(run: &Run) -> bool
-    ensures { IsTrue result ↔ (run.now.plain ≡ run.now.announced) }
+    ensures { IsTrue result ↔ (run.now.unannounced ≡ run.now.announced) }
 {
-    run.plain == run.announced
+    run.unannounced == run.announced
 }
 
 /// Whether one of the slots from `from` up to, and without, `to` shows it, of a walk from second `p` of minute `u` of the
@@ -74,5 +72,5 @@ fn slot_shows(parts: &Parts, run: &Run, u: u16, p: u8, k: u16) -> bool
     let place = p as usize + k as usize;
     let s = place % SECONDS_PER_MINUTE;
     let minute = (u as usize + place / SECONDS_PER_MINUTE) % MINUTES_PER_DAY as usize;
-    parts.time_part(minute as u16)[s] == 0 && run.plain[s] != run.announced[s]
+    parts.time_part(minute as u16)[s] == 0 && run.unannounced[s] != run.announced[s]
 }

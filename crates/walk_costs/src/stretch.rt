@@ -2,12 +2,13 @@
 
 ghost use Rattle.std.specs.Prelude.{◌≡◌, ◌≢◌, ◌+◌, ◌-◌, ◌/◌, ◌^◌, ◌<◌, ◌≤◌, ℕ, slice_index};
 ghost use Rattle.definitions.specs.time.Calendar.{century_minutes, minutes_per_day};
+ghost use Rattle.minute_parts.specs.declared.call.TheConstants.{CALL_MINUTES};
 ghost use Rattle.walk_costs.specs.Crossings.{IsCrossing};
-ghost use Rattle.walk_costs.specs.Stretches.{AreAcrossFrom, AreAddedCosts, ArePlainFrom, HaveRoom};
+ghost use Rattle.walk_costs.specs.Stretches.{AreAcrossFrom, AreAddedCosts, AreRegularFrom, HaveRoom};
 ghost use Rattle.walk_costs.specs.Walks.{IsDateCost};
 
 use crate::crossing::Crossing;
-use crate::date::{ByCall, ByMinute, CALL_MINUTES, DateCost};
+use crate::date::{ByCall, ByMinute, DateCost};
 use crate::walks::{StationWalks, local_time, minutes_to_call};
 use definitions::MINUTES_PER_DAY;
 use slot_columns::WalkRow;
@@ -33,7 +34,7 @@ impl StationWalks {
         requires begun { lo ≤ from }
         requires order { from ≤ to }
         requires few { to ≤ lo + STRETCH }
-        requires walks { ArePlainFrom self.now date.now from to }
+        requires walks { AreRegularFrom self.now date.now from to }
         requires room { HaveRoom self.now lo from costs.old }
         ensures { AreAddedCosts self.now date.now.announced date.now.second lo from to costs.old costs.new }
     {
@@ -71,7 +72,7 @@ impl StationWalks {
         requires begun { lo ≤ t }
         requires some { t < to }
         requires few { to ≤ lo + STRETCH }
-        requires walks { ArePlainFrom self.now date.now t to }
+        requires walks { AreRegularFrom self.now date.now t to }
         requires room { HaveRoom self.now lo t costs.old }
         ensures more { t < result }
         ensures within { result ≤ to }

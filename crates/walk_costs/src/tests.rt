@@ -4,18 +4,17 @@ ghost use Rattle.std.specs.Prelude.{◌≡◌, ◌+◌, ◌<◌, ◌≤◌, ℕ,
 ghost use Rattle.signal_base.specs.Limits.{IsPriced};
 ghost use Rattle.signal_base.specs.declared.limits.TheConstants.{MOST_COST};
 ghost use Rattle.definitions.specs.time.Calendar.{century_minutes};
-ghost use Rattle.walk_costs.specs.Walks.{IsPlainIn};
+ghost use Rattle.walk_costs.specs.Walks.{IsRegularIn};
 ghost use Rattle.walk_costs.specs.declared.stretch.TheConstants.{STRETCH};
 
 use crate::walks::meets_leap_end;
 use crate::{MinuteCosts, STRETCH, StationWalks};
 use civil::Civil;
 use definitions::CENTURY_MINUTES;
-use minute_parts::Parts;
+use minute_parts::{Parts, Unions};
 use pulse_log::read_log;
 use signal_base::{CostTable, Station, Tuning};
 use slot_columns::SECONDS_PER_MINUTE;
-use span_unions::Unions;
 use std::alloc::Global;
 use std::test::Fail;
 use symbol_cost::CostGrid;
@@ -121,7 +120,7 @@ fn by_date(walks: &StationWalks, civil: &Civil, p: u8, t0: u32) -> Option<u32> {
 }
 
 fn cost_in_run(walks: &StationWalks, p: u8, t0: u32, run: usize) -> u32
-    requires { IsPlainIn walks.now false p t0 run }
+    requires { IsRegularIn walks.now false p t0 run }
 {
     let date = walks.date_cost(false, p, run);
     walks.cost_by(&date, t0)
@@ -245,8 +244,8 @@ fn stretch(walks: &StationWalks, civil: &Civil, p: u8, lo: u32) -> Option<[u32; 
 
 fn costs_in_run(walks: &StationWalks, p: u8, lo: u32, run: usize) -> MinuteCosts
     requires minute { lo < century_minutes }
-    requires first { IsPlainIn walks.now false p lo run }
-    requires last { IsPlainIn walks.now false p (lo + 2) run }
+    requires first { IsRegularIn walks.now false p lo run }
+    requires last { IsRegularIn walks.now false p (lo + 2) run }
 {
     // What a walk costs fits.
     walks.columns();

@@ -5,42 +5,24 @@ ghost use Rattle.signal_base.specs.declared.limits.TheConstants.{GREATEST_COST};
 ghost use Rattle.definitions.specs.time.Calendar.{century_minutes, is_leap_end, minutes_per_day};
 ghost use Rattle.symbol_cost.specs.Grid.{HasCosts, cost_at};
 ghost use Rattle.minute_parts.specs.Parts.{IsPartTable};
+ghost use Rattle.minute_parts.specs.declared.call.TheConstants.{CALL_MINUTES};
 ghost use Rattle.slot_columns.specs.Parts.{AreWalkCosts, most_cost};
 ghost use Rattle.walk_costs.specs.Dates.{AreAdded, IsAdded, minutes_to_call};
-ghost use Rattle.walk_costs.specs.Walks.{AreSmall, IsDateCost, IsPlainIn, IsShown, ShowsAnnouncement, cost_of, last_minute, later_minutes};
+ghost use Rattle.minute_parts.specs.Walks.{later_minutes};
+ghost use Rattle.walk_costs.specs.Walks.{AreSmall, IsDateCost, IsRegularIn, IsShown, ShowsAnnouncement, cost_of, last_minute};
 
-use crate::date::{CALL_MINUTES, DateCost};
+use crate::date::DateCost;
 use crate::dut::added;
 use crate::kept::dates_of;
 use crate::shown::{Shown, TWO_MINUTES, differs_elsewhere, is_told_alike, some_slot_shows};
 use crate::small::look_at_all;
 use civil::Civil;
 use definitions::{CENTURY_MINUTES, MINUTES_PER_DAY, MINUTES_PER_HOUR};
-use minute_parts::{Part, Parts};
-use slot_columns::{ColumnsFault, LayerTable, SECONDS_PER_MINUTE, SlotColumns, WalkTable};
-use span_unions::Unions;
+use minute_parts::{CALL_MINUTE, CALL_MINUTES, Part, Parts, Unions, later_minutes};
+use slot_columns::{LayerTable, SECONDS_PER_MINUTE, SlotColumns, WalkTable};
 use std::alloc::{AllocError, Global};
 use std::marker::Model;
 use symbol_cost::CostGrid;
-
-/// Why the tables can't be made.
-#[derive(Clone, Copy, Debug, PartialEq, Eq)]
-pub enum WalksFault {
-    /// Memory wasn't found.
-    NoMemory,
-}
-
-impl From<AllocError> for WalksFault {
-    fn from(_error: AllocError) -> WalksFault {
-        WalksFault::NoMemory
-    }
-}
-
-impl From<ColumnsFault> for WalksFault {
-    fn from(_fault: ColumnsFault) -> WalksFault {
-        WalksFault::NoMemory
-    }
-}
 
 /// What a station's sequences cost in the slots of a window. Contracts see the parts of its telegrams and the grid of
 /// costs.
@@ -65,7 +47,7 @@ impl Model for StationWalks {
 
 impl StationWalks {
     /// Adds up what the parts of a station cost by its grid.
-    pub fn make(alloc: Global, unions: Unions, grid: &CostGrid) -> Result<StationWalks, WalksFault>
+    pub fn make(alloc: Global, unions: Unions, grid: &CostGrid) -> Result<StationWalks, AllocError>
         requires { unions.station ≡ grid.now.station }
         ensures parts { IfOk result (λ walks. walks.parts ≡ unions) }
         ensures costs { IfOk result (λ walks. HasCosts walks.grid grid.now.station (length grid.now.rows) (cost_at grid.now.rows)) }
@@ -115,8 +97,8 @@ impl StationWalks {
     /// The run in which the walk from second `p` of the minute `t0` lies, where that is a walk through minutes of 60 seconds
     /// that lie in one run. None exactly where it isn't.
     pub fn run_of_walk(&self, civil: &Civil, announced: bool, p: u8, t0: u32) -> Option<usize>
-        ensures found { IfSome result (λ i. IsPlainIn self.now announced p t0 i) }
-        ensures none { IsNone result → (i : ℕ) → ¬ (IsPlainIn self.now announced p t0 i) }
+        ensures found { IfSome result (λ i. IsRegularIn self.now announced p t0 i) }
+        ensures none { IsNone result → (i : ℕ) → ¬ (IsRegularIn self.now announced p t0 i) }
     {
         let parts = self.unions.parts();
         if p as usize >= SECONDS_PER_MINUTE || t0 >= parts.end() {
@@ -138,7 +120,7 @@ impl StationWalks {
     pub fn cost(&self, civil: &Civil, announced: bool, p: u8, t0: u32) -> Option<u32>
         ensures cost { IfSome result (λ cost. cost ≡ cost_of self.now announced p t0) }
         ensures bound { IfSome result (λ cost. cost ≤ most_cost self.now.grid) }
-        ensures none { IsNone result → (i : ℕ) → ¬ (IsPlainIn self.now announced p t0 i) }
+        ensures none { IsNone result → (i : ℕ) → ¬ (IsRegularIn self.now announced p t0 i) }
     {
         match self.run_of_walk(civil, announced, p, t0) {
             Some(run) => Some(self.cost_in(announced, p, t0, run)),
@@ -148,7 +130,7 @@ impl StationWalks {
 
     // What the sequence costs, whose walk lies in the run of this number.
     fn cost_in(&self, announced: bool, p: u8, t0: u32, number: usize) -> u32
-        requires { IsPlainIn self.now announced p t0 number }
+        requires { IsRegularIn self.now announced p t0 number }
         ensures cost { result ≡ cost_of self.now announced p t0 }
         ensures bound { result ≤ most_cost self.now.grid }
     {
@@ -197,7 +179,7 @@ impl StationWalks {
 
     /// Whether an announced sequence shows the announcement, whose walk from second `p` of the minute `t0` lies in the run.
     pub fn shows(&self, p: u8, run: usize, t0: u32) -> bool
-        requires { IsPlainIn self.now true p t0 run }
+        requires { IsRegularIn self.now true p t0 run }
         ensures { IsTrue result ↔ ShowsAnnouncement self.now (record { first = t0; second = p; announced = true }) }
     {
         match self.shown(true, p, run) {
@@ -209,7 +191,7 @@ impl StationWalks {
 
     // The same by a look at the slots.
     pub(crate) fn shows_in_slot(&self, p: u8, run: usize, t0: u32) -> bool
-        requires { IsPlainIn self.now true p t0 run }
+        requires { IsRegularIn self.now true p t0 run }
         ensures { IsTrue result ↔ ShowsAnnouncement self.now (record { first = t0; second = p; announced = true }) }
     {
         let parts = self.unions.parts();
@@ -222,7 +204,7 @@ impl StationWalks {
     /// lies in the run.
     pub fn cost_by(&self, date: &DateCost, t0: u32) -> u32
         requires date { IsDateCost self.now date.now }
-        requires walk { IsPlainIn self.now date.now.announced date.now.second t0 date.now.run }
+        requires walk { IsRegularIn self.now date.now.announced date.now.second t0 date.now.run }
         ensures cost { result ≡ cost_of self.now date.now.announced date.now.second t0 }
         ensures bound { result ≤ most_cost self.now.grid }
     {
@@ -239,8 +221,7 @@ impl StationWalks {
         ensures count { result ≡ later_minutes (length self.now.grid.rows) p }
         ensures bound { result ≤ 20 }
     {
-        let seconds = self.columns.seconds() as usize;
-        ((p as usize + seconds).saturating_sub(1) / SECONDS_PER_MINUTE) as u32
+        later_minutes(self.columns.seconds(), p)
     }
 
     /// What the seconds of DUT1 add: nothing where the walk goes on to another UTC day.
@@ -260,7 +241,7 @@ impl StationWalks {
 }
 
 // What the walks through a day cost by the time of day.
-fn walks_of(alloc: Global, parts: &Parts, columns: &SlotColumns) -> Result<WalkTable, WalksFault>
+fn walks_of(alloc: Global, parts: &Parts, columns: &SlotColumns) -> Result<WalkTable, AllocError>
     requires { IsPartTable parts.now }
     ensures { IfOk result (λ walks. AreWalkCosts walks columns.now parts.now.times) }
 {
@@ -312,10 +293,11 @@ pub fn local_time(shift: u16, t: u32) -> u16
     ((t + shift as u32) % MINUTES_PER_DAY) as u16
 }
 
-/// After how many minutes the minute 15 or 45 of the hour comes.
+/// After how many minutes the call sign of JJY is sent.
 pub fn minutes_to_call(u: u16) -> u8
     ensures minutes { result ≡ minutes_to_call u }
     ensures bound { result < CALL_MINUTES }
 {
-    ((75 - u % MINUTES_PER_HOUR as u16) % CALL_MINUTES as u16) as u8
+    ((MINUTES_PER_HOUR as u16 + CALL_MINUTE - u % MINUTES_PER_HOUR as u16)
+        % CALL_MINUTES as u16) as u8
 }

@@ -3,7 +3,7 @@ use Rattle.signal_base.specs.declared.station.Station.{Station}
 use Rattle.symbol_cost.specs.Grid.{Grid, cost_at}
 use Rattle.minute_parts.specs.Parts.{PartTable}
 use Rattle.slot_columns.specs.Parts.{layered_cost}
-use Rattle.span_unions.specs.Layers.{AreLayers}
+use Rattle.minute_parts.specs.Layers.{AreLayers}
 use Rattle.block_costs.proofs.UnionLaws.{layers_cost}
 use Rattle.block_costs.proofs.asked.cost_as_asked.Goals as goal
 

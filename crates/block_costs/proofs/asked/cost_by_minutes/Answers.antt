@@ -3,7 +3,7 @@ use Rattle.signal_base.specs.declared.station.Station.{Station}
 use Rattle.symbol_cost.specs.Grid.{Grid, cost_at}
 use Rattle.minute_parts.specs.Parts.{PartTable}
 use Rattle.slot_columns.specs.Parts.{minute_cost}
-use Rattle.span_unions.specs.Unions.{IsUnionOver}
+use Rattle.minute_parts.specs.Unions.{IsUnionOver}
 use Rattle.block_costs.proofs.SumLaws.{all_minutes, bounded, minute_more, most_fits, none_yet}
 use Rattle.block_costs.proofs.asked.cost_by_minutes.Goals as goal
 

@@ -1,10 +1,10 @@
 use Rattle.std.proofs.Common.{◌≡◌, ◌+◌, ◌*◌, ℕ, true, [], ◌∷◌, ◌++◌, List, length, sym, ap, subst, ◌∙◌, arith}
 use Rattle.signal_base.specs.declared.station.Station.{Station}
 use Rattle.symbol_cost.specs.Grid.{Grid}
-use Rattle.span_unions.specs.Hours.{AreTimeLayers}
+use Rattle.minute_parts.specs.HourLayers.{AreTimeLayers}
 use Rattle.minute_parts.specs.Parts.{PartTable}
-use Rattle.walk_costs.specs.Dates.{is_given_up}
-use Rattle.walk_costs.specs.Walks.{later_minutes}
+use Rattle.minute_parts.specs.Overlay.{is_given_up}
+use Rattle.minute_parts.specs.Walks.{later_minutes}
 use Rattle.block_costs.specs.Hours.{AreHourLayers, IsHourLayer}
 use Rattle.block_costs.proofs.HourLaws.{hours_more}
 use Rattle.block_costs.proofs.hours.add_hour.Goals as goal

@@ -1,7 +1,7 @@
 use Rattle.std.proofs.Common.{◌∙◌, false, subst, ap}
 use Rattle.signal_base.specs.declared.station.Station.{Station}
 use Rattle.minute_parts.specs.Parts.{PartTable}
-use Rattle.span_unions.specs.Layers.{AreLayers}
+use Rattle.minute_parts.specs.Layers.{AreLayers}
 use Rattle.block_costs.proofs.KeptLaws.{gathered_more}
 use Rattle.block_costs.proofs.kept.gather.Goals as goal
 

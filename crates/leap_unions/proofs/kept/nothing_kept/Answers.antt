@@ -1,4 +1,4 @@
-use Rattle.span_unions.proofs.UnionLaws.{nothing_told}
+use Rattle.minute_parts.proofs.UnionLaws.{nothing_told}
 use Rattle.leap_unions.specs.declared.rows.TheConstants.{PLACES}
 use Rattle.leap_unions.proofs.kept.nothing_kept.Goals as goal
 

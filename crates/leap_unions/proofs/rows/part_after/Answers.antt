@@ -1,6 +1,6 @@
 use Rattle.std.proofs.Common.{Option, IfSome, subst, arith}
-use Rattle.span_unions.specs.declared.layers.Layers.{Layers}
-use Rattle.span_unions.specs.Layers.{AreLayers}
+use Rattle.minute_parts.specs.declared.layers.Layers.{Layers}
+use Rattle.minute_parts.specs.Layers.{AreLayers}
 use Rattle.leap_unions.proofs.rows.part_after.Goals as goal
 
 pub returns-else-m-eq0 : goal.returns-else-m-eq0

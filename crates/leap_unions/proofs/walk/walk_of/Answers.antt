@@ -3,7 +3,7 @@ use Rattle.std.proofs.lemmas.Bool.{cases_Bool}
 use Rattle.signal_base.specs.declared.station.Station.{Station}
 use Rattle.definitions.specs.codes.Allowed.{allowed}
 use Rattle.definitions.specs.sequences.Walks.{set_at}
-use Rattle.leap_unions.specs.Walks.{plain_from}
+use Rattle.leap_unions.specs.Walks.{unannounced_from}
 use Rattle.leap_unions.proofs.NominalLaws.{from_second}
 use Rattle.leap_unions.proofs.WalkLaws.{next_day}
 use Rattle.leap_unions.proofs.walk.walk_of.Goals as goal
@@ -30,13 +30,13 @@ returns c =
       sets = carried;
       shows = (
         λ is.
-            let found = subst (λ (s : Station). (k : ℕ) × (k < c.args.seconds) × (slice_index sets k ≢ set_at s (plain_from p first) k)) c.requires.unions
+            let found = subst (λ (s : Station). (k : ℕ) × (k < c.args.seconds) × (slice_index sets k ≢ set_at s (unannounced_from p first) k)) c.requires.unions
             (c.shows.ensures.shown is) in
             (found.0, found.1, λ same. found.2 (carried found.0 found.1 ∙ same)),
         λ some. elim (cases_Bool c.shows.result) [
           | inl is ↦ is
           | inr not ↦ absurd (some.2 (sym (carried some.0 some.1)
-              ∙ subst (λ (s : Station). slice_index sets some.0 ≡ set_at s (plain_from p first) some.0) c.requires.unions (c.shows.ensures.hidden not some.0 some.1)))
+              ∙ subst (λ (s : Station). slice_index sets some.0 ≡ set_at s (unannounced_from p first) some.0) c.requires.unions (c.shows.ensures.hidden not some.0 some.1)))
         ],
       );
       next_day = λ goes.

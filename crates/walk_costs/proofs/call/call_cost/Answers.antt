@@ -3,7 +3,8 @@ use Rattle.signal_base.specs.declared.station.Station.{Station}
 use Rattle.definitions.proofs.CostLaws.{sum_below_more}
 use Rattle.slot_columns.proofs.MinuteLaws.{in_minute, inside, same_sum}
 use Rattle.slot_columns.proofs.SumLaws.{sum_of_none}
-use Rattle.walk_costs.specs.Dates.{given_up, given_up_set, is_given_up}
+use Rattle.minute_parts.specs.Overlay.{is_given_up}
+use Rattle.walk_costs.specs.Dates.{given_up, given_up_set}
 use Rattle.walk_costs.proofs.CallLaws.{beside_call, given_at, tells_of_call}
 use Rattle.walk_costs.proofs.SumLaws.{cost_in}
 use Rattle.walk_costs.proofs.WalkLaws.{none_lost}

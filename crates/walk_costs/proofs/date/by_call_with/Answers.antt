@@ -3,7 +3,8 @@ use Rattle.std.proofs.Math.ListN.{set}
 use Rattle.signal_base.specs.declared.station.Station.{Station}
 use Rattle.symbol_cost.specs.Grid.{cost_at}
 use Rattle.slot_columns.specs.Parts.{minute_cost}
-use Rattle.walk_costs.specs.Dates.{given_up, is_given_up}
+use Rattle.minute_parts.specs.Overlay.{is_given_up}
+use Rattle.walk_costs.specs.Dates.{given_up}
 use Rattle.walk_costs.proofs.DateLaws.{all_lost, before_all, kept_and_given, minute_lost, none_before, none_given, one_more_lost}
 use Rattle.walk_costs.proofs.WalkLaws.{lost_le, none_lost}
 use Rattle.walk_costs.proofs.date.by_call_with.Goals as goal

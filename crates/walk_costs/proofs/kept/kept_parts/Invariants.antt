@@ -6,5 +6,5 @@ use Rattle.walk_costs.proofs.kept.kept_parts.Given as goal
 abbrev pub invariant-loop-i : goal.invariant-loop-i
 invariant-loop-i l = record {
   count : vec_len l.all ≡ l.i;
-  each : (i : ℕ) → i < l.i → slice_index_or l.all.items i [] ≡ kept l.station (run_at l.parts.runs i).plain;
+  each : (i : ℕ) → i < l.i → slice_index_or l.all.items i [] ≡ kept l.station (run_at l.parts.runs i).unannounced;
 }

@@ -1,7 +1,8 @@
 use Rattle.std.proofs.Common.{◌≡◌, ◌+◌, ◌*◌, ◌<◌, ◌≤◌, ℕ, false, true, length, get_or, sym, ap, ◌∙◌, subst, arith}
 use Rattle.definitions.specs.codes.Allowed.{allowed}
 use Rattle.definitions.specs.time.Calendar.{minute_length}
-use Rattle.walk_costs.specs.Walks.{PricedParts, later_minutes}
+use Rattle.minute_parts.specs.Walks.{later_minutes}
+use Rattle.walk_costs.specs.Walks.{PricedParts}
 use Rattle.block_costs.specs.Days.{IsHourAdded, hour_begin}
 use Rattle.block_costs.proofs.DayLaws.{added_alike}
 use Rattle.block_costs.proofs.blocks.StationBlocks.add_hour_costs.Goals as goal

@@ -1,7 +1,8 @@
 use Rattle.std.proofs.Common.{◌≡◌, ◌+◌, ◌-◌, ◌<◌, ◌≤◌, ℕ, false, true, length, ap, ◌∙◌, subst, arith}
 use Rattle.definitions.specs.codes.Allowed.{allowed}
 use Rattle.definitions.specs.time.Calendar.{minute_length}
-use Rattle.walk_costs.specs.Walks.{PricedParts, later_minutes}
+use Rattle.minute_parts.specs.Walks.{later_minutes}
+use Rattle.walk_costs.specs.Walks.{PricedParts}
 use Rattle.block_costs.specs.Blocks.{AreUnionsOfWalks}
 use Rattle.block_costs.proofs.HourLaws.{unannounced_unions}
 use Rattle.block_costs.proofs.blocks.StationBlocks.union_cost.Goals as goal
@@ -14,7 +15,7 @@ returns-then-never_shows-clause-cost c = λ sets unions.
     let same = subst (λ (v : PricedParts). (t s : ℕ) → c.args.lo ≤ t → t ≤ c.args.hi - 1 + c.later_minutes.result → minute_length true t ≡ 60 → s < 60
     → allowed v.grid.station true (t, s) ≡ allowed v.grid.station false (t, s)) c.self.view_is (c.never_shows.ensures.alike c.if-never_shows.true) in
     let announced = subst (λ a. AreUnionsOfWalks w.grid.station a c.args.p c.args.lo c.args.hi n sets) c.if-not-announced.false unions in
-    c.plain_cost-then-never_shows.ensures.cost sets
+    c.unannounced_cost-then-never_shows.ensures.cost sets
     (unannounced_unions w.grid.station c.args.p c.args.lo c.args.hi n c.later_minutes.result sets c.requires.second later
     (λ t s ge le lt. same t s ge le (subst (λ a. minute_length a t ≡ 60) c.if-not-announced.false (c.requires.regular.short t ge (omega (arith, le, later, c.requires.some)))) lt) announced)
 

@@ -9,24 +9,10 @@ use Rattle.minute_parts.specs.Parts.{IsInRun, IsPartTable, PartTable, part_where
 use Rattle.minute_parts.specs.Runs.{end_of_run, run_at}
 use Rattle.slot_columns.specs.Layered.{part_at}
 use Rattle.slot_columns.specs.Parts.{layered_cost}
-use Rattle.walk_costs.specs.Dates.{is_given_up, part_cost}
-use Rattle.walk_costs.specs.Walks.{later_minutes}
-use Rattle.block_costs.proofs.CrossLaws.{all_kept, crossing_cost, crossing_small}
+use Rattle.minute_parts.specs.Overlay.{is_given_up}
+use Rattle.minute_parts.specs.Walks.{later_minutes}
+use Rattle.block_costs.proofs.CrossLaws.{crossing_cost, crossing_small}
 use Rattle.block_costs.proofs.hours.Hours.across.Goals as goal
-
-pub changed_cost-dates-requires-clause-cost : goal.changed_cost-dates-requires-clause-cost
-changed_cost-dates-requires-clause-cost c =
-    let w = c.args.walks.now in
-    let p = c.args.p in
-    let run = run_at w.parts.runs c.run_of-run.result in
-    let parts_is = c.parts-parts.ensures ∙ c.unions-unions.ensures.unions in
-    let grid_is = c.columns-columns.ensures.columns in
-    let station = c.station.ensures ∙ ap (λ (g : Grid). g.station) grid_is in
-    let no_call = λ (s : ℕ). ap (λ (st : Station). is_given_up st s) (sym station) ∙ c.sends_no_call.ensures c.if-not-sends_no_call.false s in
-    let run_is : c.run-at.result.now ≡ run = c.run-at.ensures ∙ ap (λ (v : PartTable). run_at v.runs c.run_of-run.result) parts_is in
-    let before_is : c.date_part-before.result.now ≡ part_where c.args.announced run = c.date_part-before.ensures ∙ ap (part_where c.args.announced) run_is in
-    let cost = c.kept_date_cost-date.ensures ∙ all_kept w.grid p (part_where c.args.announced run) no_call ∙ ap (part_cost w.grid p) (sym before_is) in
-    subst (λ (g : Grid). c.kept_date_cost-date.result ≡ part_cost g p c.date_part-before.result.now) (sym grid_is) cost
 
 pub returns : goal.returns
 returns c =
@@ -41,7 +27,7 @@ returns c =
     let parts_is = c.parts-parts.ensures ∙ c.unions-unions.ensures.unions in
     let grid_is = c.columns-columns.ensures.columns in
     let station = c.station.ensures ∙ ap (λ (g : Grid). g.station) grid_is in
-    let no_call = λ (s : ℕ). ap (λ (st : Station). is_given_up st s) (sym station) ∙ c.sends_no_call.ensures c.if-not-sends_no_call.false s in
+    let no_call = λ (s : ℕ). ap (λ (st : Station). is_given_up st s) (sym station) ∙ c.gives_up.ensures c.if-gives_up.false s in
     let run_is : c.run-at.result.now ≡ run = c.run-at.ensures ∙ ap (λ (v : PartTable). run_at v.runs i) parts_is in
     let next_is : c.run-next.result.now ≡ next = c.run-next.ensures ∙ ap (λ (v : PartTable). run_at v.runs (i + 1)) parts_is in
     let before_is : c.date_part-before.result.now ≡ part_where a run = c.date_part-before.ensures ∙ ap (part_where a) run_is in
@@ -78,8 +64,8 @@ returns c =
     c.index.ensures ∙ get_or_default h.costs.items (p * 24 + hour) c.index.result.now 0 place
     ∙ c.requires.hours.priced.each p hour c.requires.second in_day
     ∙ ap (λ (b : Bool). if b then layered_cost w.grid.station (cost_at w.grid.rows) (length w.grid.rows) p first rest else 0) (lt-ltb hour (length h.firsts.items) within) in
-    let dated : c.changed_cost-dates.result ≡ layered_cost w.grid.station (cost_at w.grid.rows) (length w.grid.rows) p dates both =
-    subst (λ (g : Grid). c.changed_cost-dates.result ≡ layered_cost g.station (cost_at g.rows) (length g.rows) p dates both) grid_is c.changed_cost-dates.ensures.cost in
+    let dated : c.layered_cost-dates.result ≡ layered_cost w.grid.station (cost_at w.grid.rows) (length w.grid.rows) p dates both =
+    subst (λ (g : Grid). c.layered_cost-dates.result ≡ layered_cost g.station (cost_at g.rows) (length g.rows) p dates both) grid_is c.layered_cost-dates.ensures.cost in
     let layers = (c.requires.hours.layers.each hour within).layers in
     record {
       cost_is = λ sets unions.

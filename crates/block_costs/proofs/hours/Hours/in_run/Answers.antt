@@ -5,8 +5,8 @@ use Rattle.symbol_cost.specs.Grid.{Grid}
 use Rattle.minute_parts.specs.declared.runs.Run.{Run}
 use Rattle.minute_parts.specs.Parts.{IsPartTable, PartTable, part_where}
 use Rattle.minute_parts.specs.Runs.{end_of_run, first_of, run_at}
-use Rattle.walk_costs.specs.Dates.{is_given_up}
-use Rattle.walk_costs.specs.Walks.{later_minutes}
+use Rattle.minute_parts.specs.Overlay.{is_given_up}
+use Rattle.minute_parts.specs.Walks.{later_minutes}
 use Rattle.block_costs.proofs.HourLaws.{kept_hour}
 use Rattle.block_costs.proofs.hours.Hours.in_run.Goals as goal
 

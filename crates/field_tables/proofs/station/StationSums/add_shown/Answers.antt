@@ -1,7 +1,8 @@
 use Rattle.std.proofs.Common.{◌≡◌, ℕ, ◌+◌, ◌-◌, ◌⊎◌, ◌<◌, ◌≤◌, ◌↔◌, inl, inr, false, true, get_or, length, sym, ap, subst, arith}
-use Rattle.span_unions.specs.Unions.{AreRegular}
+use Rattle.minute_parts.specs.Unions.{AreRegular}
 use Rattle.walk_costs.specs.Stretches.{AreMarked}
-use Rattle.walk_costs.specs.Walks.{PricedParts, ShowsAnnouncement, later_minutes}
+use Rattle.minute_parts.specs.Walks.{later_minutes}
+use Rattle.walk_costs.specs.Walks.{PricedParts, ShowsAnnouncement}
 use Rattle.walk_costs.proofs.MarkLaws.{chained, none_marked}
 use Rattle.field_tables.proofs.MinuteLaws.{one_regular}
 use Rattle.field_tables.proofs.station.StationSums.add_shown.Goals as goal

@@ -2,8 +2,9 @@ use Rattle.std.proofs.Common.{◌+◌, ◌*◌, ◌/◌, ◌<◌, ◌≤◌, ℕ
 use Rattle.definitions.specs.heard.Costs.{set_cost, sum_below}
 use Rattle.symbol_cost.specs.Grid.{Grid, cost_at}
 use Rattle.slot_columns.specs.Parts.{most_cost}
-use Rattle.span_unions.specs.Unions.{AreRegular}
-use Rattle.walk_costs.specs.Walks.{PricedParts, later_minutes}
+use Rattle.minute_parts.specs.Unions.{AreRegular}
+use Rattle.minute_parts.specs.Walks.{later_minutes}
+use Rattle.walk_costs.specs.Walks.{PricedParts}
 use Rattle.block_costs.specs.Days.{IsHourAdded, hour_begin}
 use Rattle.field_tables.specs.Sums.{AreSums, Sums}
 use Rattle.field_tables.proofs.DayLaws.{day_regular, hour_price}

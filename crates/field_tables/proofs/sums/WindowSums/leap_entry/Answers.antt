@@ -6,7 +6,8 @@ use Rattle.definitions.specs.heard.Costs.{station_cost}
 use Rattle.definitions.specs.sequences.Walks.{IsLegal}
 use Rattle.symbol_cost.specs.Grid.{Grid, cost_at}
 use Rattle.leap_unions.specs.Pieces.{announced_from}
-use Rattle.walk_costs.specs.Walks.{PricedParts, ShowsAnnouncement, later_minutes}
+use Rattle.minute_parts.specs.Walks.{later_minutes}
+use Rattle.walk_costs.specs.Walks.{PricedParts, ShowsAnnouncement}
 use Rattle.field_tables.specs.Sums.{Sums, costs_by}
 use Rattle.field_tables.proofs.LeapLaws.{first_is, legal_near_leap, shows_more}
 use Rattle.field_tables.proofs.MinuteLaws.{shows_leap, some_shows}

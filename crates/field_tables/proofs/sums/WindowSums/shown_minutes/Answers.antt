@@ -1,8 +1,9 @@
 use Rattle.std.proofs.Common.{◌≡◌, ◌+◌, ◌<◌, ◌≤◌, inl, inr, List, length, get_or, sym, ap, ◌∙◌, subst, arith}
 use Rattle.std.proofs.lemmas.Bool.{cases_lt}
 use Rattle.std.proofs.lemmas.List.{get_or_default}
-use Rattle.span_unions.specs.Unions.{AreRegular}
-use Rattle.walk_costs.specs.Walks.{PricedParts, ShowsAnnouncement, later_minutes}
+use Rattle.minute_parts.specs.Unions.{AreRegular}
+use Rattle.minute_parts.specs.Walks.{later_minutes}
+use Rattle.walk_costs.specs.Walks.{PricedParts, ShowsAnnouncement}
 use Rattle.field_tables.specs.Hours.{no_walks, sequence_at}
 use Rattle.field_tables.specs.Sums.{AreSums, Sums}
 use Rattle.field_tables.proofs.MinuteLaws.{regular_walks, shows_leap, some_shows}

@@ -1,7 +1,7 @@
 use Rattle.std.proofs.Common.{◌≡◌, ◌-◌, ◌≤◌, ℕ, min, ap, ◌∙◌, subst, arith}
 use Rattle.signal_base.specs.declared.station.Station.{Station}
 use Rattle.definitions.proofs.BoundExistLaws.{a_union}
-use Rattle.span_unions.specs.Walks.{reach}
+use Rattle.minute_parts.specs.Walks.{reach}
 use Rattle.field_tables.specs.Blocks.{AreUnionsOver}
 use Rattle.field_tables.specs.Sums.{AreSums, Sums}
 use Rattle.field_tables.proofs.BlockLaws.{has_walk, no_walk, union_over}

@@ -15,6 +15,6 @@ returns c =
     let later = c.later_minutes.ensures.count in (
       λ yes.
           let early = ltb-true (q.first + c.later_minutes.result) c.self.inside.end yes in
-          walks sums are q c.requires.plain c.requires.second (omega (arith, from, c.if-q-self.false)) (omega (arith, to, c.if-q-self-2.false)) (omega (arith, early, later, end)),
-      λ walk. lt-ltb (q.first + c.later_minutes.result) c.self.inside.end (omega (arith, walks_early sums are q c.requires.plain c.requires.second walk, later, end)),
+          walks sums are q c.requires.unannounced c.requires.second (omega (arith, from, c.if-q-self.false)) (omega (arith, to, c.if-q-self-2.false)) (omega (arith, early, later, end)),
+      λ walk. lt-ltb (q.first + c.later_minutes.result) c.self.inside.end (omega (arith, walks_early sums are q c.requires.unannounced c.requires.second walk, later, end)),
     )

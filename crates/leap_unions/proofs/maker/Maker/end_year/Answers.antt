@@ -1,7 +1,7 @@
 use Rattle.std.proofs.Common.{replicate, refl, subst, sym}
 use Rattle.std.specs.List.{All}
 use Rattle.std.proofs.lemmas.List.Elements.{All-push}
-use Rattle.span_unions.proofs.UnionLaws.{nothing_told}
+use Rattle.minute_parts.proofs.UnionLaws.{nothing_told}
 use Rattle.leap_unions.specs.declared.rows.TheConstants.{PLACES}
 use Rattle.leap_unions.specs.Kept.{IsKept}
 use Rattle.leap_unions.proofs.KeptLaws.{row_none}

@@ -32,7 +32,7 @@ near-near-requires-clause-century c =
 pub returns-clause-all : goal.returns-clause-all
 returns-clause-all c =
     let w = c.args.self.now in
-    let plain = c.plain-plain in
+    let regular = c.regular-regular in
     let near = c.near-near in
-    kept_joined w.station w.seconds plain.result near.result c.joined-all.result w.few (omega (arith, plain.ensures.kept.some)) plain.ensures.kept.row near.ensures.kept
-    (omega (arith, plain.ensures.ends, near.ensures.begins, c.kept_tape-tape.ensures.begins)) c.joined-all.ensures.lo c.joined-all.ensures.hi c.joined-all.ensures.row
+    kept_joined w.station w.seconds regular.result near.result c.joined-all.result w.few (omega (arith, regular.ensures.kept.some)) regular.ensures.kept.row near.ensures.kept
+    (omega (arith, regular.ensures.ends, near.ensures.begins, c.kept_tape-tape.ensures.begins)) c.joined-all.ensures.lo c.joined-all.ensures.hi c.joined-all.ensures.row

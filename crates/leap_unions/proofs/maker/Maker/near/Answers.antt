@@ -1,5 +1,5 @@
 use Rattle.std.proofs.Common.{◌≡◌, ◌+◌, ◌-◌, ◌*◌, ℕ, replicate, slice_index, subst, arith, refl, rules}
-use Rattle.span_unions.proofs.UnionLaws.{nothing_told}
+use Rattle.minute_parts.proofs.UnionLaws.{nothing_told}
 use Rattle.definitions.specs.sequences.Walks.{set_at}
 use Rattle.leap_unions.specs.declared.rows.TheConstants.{PLACES}
 use Rattle.leap_unions.specs.Kept.{IsRow}

@@ -15,7 +15,7 @@ returns-then-last-run_end-clause-never c =
     let parts_is = c.parts-parts.ensures ∙ ap (λ (v : PricedParts). v.parts) c.self.view_is in
     let end = c.run_end.ensures ∙ ap (λ (v : PartTable). end_of_run v.runs v.end c.loop-i.i) parts_is in
     let run_is = c.run.ensures ∙ ap (λ (v : PartTable). run_at v.runs c.loop-i.i) parts_is in
-    let same = subst (λ (r : Run). r.plain ≡ r.announced) run_is (c.is_told_alike.ensures.0 c.if-not-is_told_alike.false) in
+    let same = subst (λ (r : Run). r.unannounced ≡ r.announced) run_is (c.is_told_alike.ensures.0 c.if-not-is_told_alike.false) in
     let count = c.runs-i-end.ensures ∙ ap (λ (v : PartTable). length v.runs) parts_is in
     λ told. never w station table c.args.lo c.args.last
     (λ t le within. more_alike w.parts c.args.lo i c.run_end.result (omega (arith, c.loop-i-test.true, count)) end same c.loop-i.invariant.alike t le
@@ -30,7 +30,7 @@ returns-then-last-run_end-clause-alike c =
     let parts_is = c.parts-parts.ensures ∙ ap (λ (v : PricedParts). v.parts) c.self.view_is in
     let end = c.run_end.ensures ∙ ap (λ (v : PartTable). end_of_run v.runs v.end c.loop-i.i) parts_is in
     let run_is = c.run.ensures ∙ ap (λ (v : PartTable). run_at v.runs c.loop-i.i) parts_is in
-    let same = subst (λ (r : Run). r.plain ≡ r.announced) run_is (c.is_told_alike.ensures.0 c.if-not-is_told_alike.false) in
+    let same = subst (λ (r : Run). r.unannounced ≡ r.announced) run_is (c.is_told_alike.ensures.0 c.if-not-is_told_alike.false) in
     let count = c.runs-i-end.ensures ∙ ap (λ (v : PartTable). length v.runs) parts_is in
     λ told. same_sets w station table c.args.lo c.args.last
     (λ t le within. more_alike w.parts c.args.lo i c.run_end.result (omega (arith, c.loop-i-test.true, count)) end same c.loop-i.invariant.alike t le
@@ -44,7 +44,7 @@ loop-i-preserved c =
     let parts_is = c.parts-parts.ensures ∙ ap (λ (v : PricedParts). v.parts) c.self.view_is in
     let end = c.run_end.ensures ∙ ap (λ (v : PartTable). end_of_run v.runs v.end c.loop-i.i) parts_is in
     let run_is = c.run.ensures ∙ ap (λ (v : PartTable). run_at v.runs c.loop-i.i) parts_is in
-    let same = subst (λ (r : Run). r.plain ≡ r.announced) run_is (c.is_told_alike.ensures.0 c.if-not-is_told_alike.false) in
+    let same = subst (λ (r : Run). r.unannounced ≡ r.announced) run_is (c.is_told_alike.ensures.0 c.if-not-is_told_alike.false) in
     let count = c.runs-i-end.ensures ∙ ap (λ (v : PartTable). length v.runs) parts_is in
     record {
       alike = alike_before_next w.parts c.args.lo i c.run_end.result (omega (arith, c.loop-i-test.true, count)) end same c.loop-i.invariant.alike table

@@ -11,7 +11,7 @@ pub returns-then-is_told_alike : goal.returns-then-is_told_alike
 returns-then-is_told_alike c =
     let parts_is = c.parts-parts.ensures ∙ ap (λ (v : PricedParts). v.parts) c.self.view_is in
     let run_is = c.run-run.ensures ∙ ap (λ (v : PartTable). run_at v.runs c.args.number) parts_is in
-    let alike = subst (λ (r : Run). r.plain ≡ r.announced) run_is (c.is_told_alike.ensures.0 c.if-is_told_alike.true) in
+    let alike = subst (λ (r : Run). r.unannounced ≡ r.announced) run_is (c.is_told_alike.ensures.0 c.if-is_told_alike.true) in
     let run = run_at c.args.self.now.parts.runs c.args.number in
     (λ no. cc, λ h. absurd (none_of_alike c.args.self.now.parts run (local_time run c.args.t0) c.args.p c.args.from c.args.to alike h))
 

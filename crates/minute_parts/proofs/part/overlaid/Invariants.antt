@@ -1,0 +1,11 @@
+use Rattle.std.proofs.Common.{◌≡◌, ◌<◌, ℕ, length, get_or}
+use Rattle.minute_parts.specs.Overlay.{overlay}
+use Rattle.minute_parts.specs.declared.part.TheConstants.{SECONDS}
+use Rattle.minute_parts.proofs.part.overlaid.Given as goal
+
+abbrev pub invariant-loop-s : goal.invariant-loop-s
+invariant-loop-s l = record {
+  long : length l.part ≡ SECONDS;
+  sets : (s : ℕ) → s < l.s → get_or l.part s 0 ≡ overlay (get_or l.time s 0) (get_or l.date s 0);
+  bytes : (s : ℕ) → s < l.s → get_or l.part s 0 < 256;
+}

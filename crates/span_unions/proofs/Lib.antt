@@ -1,4 +1,0 @@
-pub mod WalkLaws
-pub mod UnionLaws
-pub mod TimeLaws
-pub mod RunLaws
