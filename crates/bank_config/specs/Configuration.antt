@@ -15,6 +15,7 @@ use Rattle.bank_config.specs.declared.fault.Key.{Key}
 use Rattle.bank_config.specs.declared.fault.Key.TheVariants as key
 use Rattle.bank_config.specs.declared.fault.ConfigFault.TheVariants.{NotToml, WrongKind, UnknownKey}
 use Rattle.signal_base.specs.declared.limits.TheConstants.{GREATEST_COST, LEAST_WEIGHT, MOST_DELAY, MOST_RECEIVERS, MOST_WEIGHT}
+use Rattle.bank_config.specs.declared.limits.TheConstants.{DEFAULT_CEILING, DEFAULT_DELAY, DEFAULT_WEIGHT}
 use Rattle.bank_config.specs.declared.places.Place.TheVariants.{Top, OfReceiver, OfTable}
 use Rattle.bank_config.specs.Checked.{Checked, ◌>>=◌, required, optional, in_range}
 use Rattle.bank_config.specs.Values.{all_of_kind, costs_in, each, is_file, is_name, is_table, list_in, number_in, station_in, text_in}
@@ -56,8 +57,8 @@ abbrev pub receiver_in : Station → ℕ → Data → Checked PlainReceiver
 receiver_in top number value =
     name_at (key.Name number) value >>= (λ name.
     file_at (key.File number) value >>= (λ file.
-    number_at (key.Delay number) (codes "delay_ms") 0 MOST_DELAY 0 value >>= (λ delay.
-    number_at (key.Weight number) (codes "weight") LEAST_WEIGHT MOST_WEIGHT LEAST_WEIGHT value >>= (λ weight.
+    number_at (key.Delay number) (codes "delay_ms") 0 MOST_DELAY DEFAULT_DELAY value >>= (λ delay.
+    number_at (key.Weight number) (codes "weight") LEAST_WEIGHT MOST_WEIGHT DEFAULT_WEIGHT value >>= (λ weight.
     optional top (station_in (key.ReceiverStation number)) (get (codes "station") value) >>= (λ station.
     Ok (record { name = name; file = file; tuning = record { delay = delay; weight = weight }; station = station }))))))
 
@@ -70,11 +71,14 @@ tables_in value =
 
 -- the cost table
 abbrev pub cost_table_in : Data → Checked CostTable
-cost_table_in (table members) =
-    optional difference_table.low (costs_in key.Low) (get (codes "low") (table members)) >>= (λ low.
-    optional difference_table.high (costs_in key.High) (get (codes "high") (table members)) >>= (λ high.
+cost_table_in value =
+    if is_table value
+    then (
+    optional difference_table.low (costs_in key.Low) (get (codes "low") value) >>= (λ low.
+    optional difference_table.high (costs_in key.High) (get (codes "high") value) >>= (λ high.
     Ok (record { low = low; high = high })))
-cost_table_in _ = Err (WrongKind key.CostTable)
+    )
+    else Err (WrongKind key.CostTable)
 
 -- no unknown key stands at the top, in a receiver or in the cost table
 abbrev pub all_known : Data → List Data → Bool
@@ -86,7 +90,7 @@ all_known config receivers =
 abbrev pub configuration_in : Data → Checked PlainConfig
 configuration_in config =
     required key.Station (get (codes "station") config) >>= station_in key.Station >>= (λ station.
-    number_at key.Ceiling (codes "ceiling") 0 GREATEST_COST GREATEST_COST config >>= (λ ceiling.
+    number_at key.Ceiling (codes "ceiling") 0 GREATEST_COST DEFAULT_CEILING config >>= (λ ceiling.
     required key.Receiver (get (codes "receiver") config) >>= tables_in >>= (λ tables.
     each (receiver_in station) 1 tables >>= (λ receivers.
     optional difference_table cost_table_in (get (codes "table") config) >>= (λ costs.

@@ -3,3 +3,4 @@ pub mod Values
 pub mod Places
 pub mod Configuration
 pub mod InRange
+pub mod Examples

@@ -2,6 +2,7 @@
 #![tactic(auto)]
 
 mod config;
+mod examples;
 mod fault;
 #[cfg(test)]
 mod fault_tests;
@@ -15,5 +16,5 @@ mod values;
 
 pub use config::{Config, Receiver};
 pub use fault::{ConfigFault, Key};
-pub use limits::{CONFIG_LIMIT, LONGEST_FILE};
+pub use limits::{CONFIG_LIMIT, DEFAULT_CEILING, DEFAULT_DELAY, DEFAULT_WEIGHT, LONGEST_FILE};
 pub use read::read_config;

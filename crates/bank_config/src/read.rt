@@ -14,7 +14,7 @@ ghost use Rattle.bank_config.specs.Values.{costs_in, each, station_in};
 ghost use Rattle.toml.specs.Data.{get};
 ghost use Rattle.toml.specs.View.{view};
 
-use crate::limits::{CONFIG_LIMIT, COSTS};
+use crate::limits::{CONFIG_LIMIT, COSTS, DEFAULT_CEILING, DEFAULT_DELAY, DEFAULT_WEIGHT};
 use crate::lists::{costs_in, tables_in};
 use crate::places::Place;
 use crate::values::{file_at, name_at, number_at, required, station_in};
@@ -54,7 +54,7 @@ fn receiver_in(
         Key::Delay { receiver },
         0,
         MOST_DELAY as u32,
-        0,
+        DEFAULT_DELAY as u32,
     )?;
     let weight = number_at(
         table,
@@ -62,7 +62,7 @@ fn receiver_in(
         Key::Weight { receiver },
         LEAST_WEIGHT as u32,
         MOST_WEIGHT as u32,
-        LEAST_WEIGHT as u32,
+        DEFAULT_WEIGHT as u32,
     )?;
     let station = station_at(table, receiver, top)?;
     let name = String::from_str(alloc, name)?;
@@ -171,7 +171,7 @@ fn config_in(alloc: Global, config: &Value) -> Result<Config, ConfigFault>
         Key::Ceiling,
         0,
         GREATEST_COST,
-        GREATEST_COST,
+        DEFAULT_CEILING,
     )?;
     let tables = tables_in(required(config, "receiver", Key::Receiver)?)?;
     let receivers = receivers_in(alloc, tables, station)?;

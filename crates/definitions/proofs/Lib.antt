@@ -18,6 +18,7 @@ pub mod JuneLaws
 pub mod UnionLaws
 pub mod BoundLaws
 pub mod SpanLaws
+pub mod LeapLaws
 pub mod BlockLaws
 pub mod ExistLaws
 pub mod ChildLaws

@@ -130,7 +130,7 @@ half n lt = omega arith
 
 wwvb_bit : (f : WwvbFacts) (s : ℕ) → f.us_code < 4 → IsBit (wwvb.wwvb_bit f s)
 wwvb_bit f s lt =
-    either IsBit (s == 55) _ _ (flag (f.year % 4 == 0))
+    either IsBit (s == 55) _ _ (flag _)
     (either IsBit (s == 56) _ _ (flag f.leap)
     (either IsBit (s == 57) _ _ (half f.us_code lt)
     (either IsBit (s == 58) _ _ (mod_bit f.us_code) (carried (wwvb.wwvb_fields f) s))))

@@ -13,6 +13,7 @@ pub mod examples;
 mod fields;
 mod jjy;
 mod laws;
+mod leaps;
 mod level;
 mod msf;
 mod parity;
@@ -37,6 +38,7 @@ pub use laws::{
     keys_differ, phase_fits_best, the_ceiling_is_admitted, the_least_two_are_the_answer,
     waveforms_differ, window_has_one_answer,
 };
+pub use leaps::{leap_seconds_end_half_years, leap_years_show};
 pub use level::Level;
 pub use msf::MsfFacts;
 pub use parity::{dcf77_groups_are_even, jjy_groups_are_even, msf_groups_are_odd, weights_add_up};

@@ -8,3 +8,4 @@ pub mod WindowLaws
 pub mod StationLaws
 pub mod StatusLaws
 pub mod ExampleLaws
+pub mod DutLaws

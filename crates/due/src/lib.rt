@@ -3,6 +3,7 @@
 //! speak of, laws and worked examples.
 #![tactic(auto)]
 
+mod bank_examples;
 mod bank_laws;
 mod due;
 mod duts;
@@ -10,6 +11,7 @@ mod examples;
 mod laws;
 mod status;
 
+pub use bank_examples::{banks_of_configurations, costs_of_a_phase, duts_of_four_stations};
 pub use bank_laws::{
     a_station_is_heard_where_a_receiver_listens, bank_has_one_answer,
     the_order_of_receivers_does_not_matter, window_is_in_range,

@@ -3,7 +3,7 @@ use Rattle.std.specs.Prelude.{ℕ, ◌≡◌, ◌+◌, ◌<◌, ◌≤◌, ◌==
 use Rattle.std.specs.Fmt.{decimal}
 use Rattle.definitions.specs.declared.level.Level.{Level}
 use Rattle.definitions.specs.declared.level.Level.TheVariants.{High, Low, Unknown}
-use Rattle.definitions.specs.heard.Logs.{Records}
+use Rattle.definitions.specs.heard.Logs.{Record, Records, time_of, level_of}
 use Rattle.formats.specs.declared.limits.TheConstants.{MOST_RECORDS, TIME_LIMIT}
 use Rattle.formats.specs.declared.fault.LineFault.{LineFault}
 use Rattle.formats.specs.declared.fault.LineFault.TheVariants.{Shape, NotRising, TooManyRecords}
@@ -36,17 +36,17 @@ letter Low = letter_l
 letter Unknown = letter_x
 
 -- the bytes of a record: the time in milliseconds, below 10^12, a space and the letter
-abbrev pub SpellsRecord : List ℕ → ℕ × Level → Type 0
-SpellsRecord bytes r = (r.0 < TIME_LIMIT) × (bytes ≡ decimal r.0 ++ space ∷ letter r.1 ∷ [])
+abbrev pub SpellsRecord : List ℕ → Record → Type 0
+SpellsRecord bytes r = (time_of r < TIME_LIMIT) × (bytes ≡ decimal (time_of r) ++ space ∷ letter (level_of r) ∷ [])
 
 -- a record's line
-abbrev pub IsRecord : List ℕ → ℕ × Level → Type 0
+abbrev pub IsRecord : List ℕ → Record → Type 0
 IsRecord line r = SpellsRecord (without_cr line) r
 
 -- the time is above that of the last of the records
 abbrev pub IsLater : Records → ℕ → Type 0
 IsLater [] time = Unit {0}
-IsLater (r ∷ []) time = r.0 < time
+IsLater (r ∷ []) time = time_of r < time
 IsLater (r ∷ s ∷ rs) time = IsLater (s ∷ rs) time
 
 -- Reading the lines after the records so far gives all these records.
@@ -54,7 +54,7 @@ abbrev pub ReadsOn : Records → List (List ℕ) → Records → Type 0
 ReadsOn before [] records = records ≡ before
 ReadsOn before (line ∷ lines) records =
     (IsSkipped line × ReadsOn before lines records)
-    ⊎ ((r : ℕ × Level) × IsRecord line r × IsLater before r.0 × (length before < MOST_RECORDS)
+    ⊎ ((r : Record) × IsRecord line r × IsLater before (time_of r) × (length before < MOST_RECORDS)
     × ReadsOn (before ++ r ∷ []) lines records)
 
 -- the text is a log of these records
@@ -63,10 +63,10 @@ IsLog text records = ReadsOn [] (lines_of text) records
 
 -- the line is bad in this way after these records
 abbrev pub IsBad : Records → List ℕ → LineFault → Type 0
-IsBad before line Shape = ¬ (IsSkipped line) × ((r : ℕ × Level) → ¬ (IsRecord line r))
-IsBad before line NotRising = (r : ℕ × Level) × IsRecord line r × ¬ (IsLater before r.0)
+IsBad before line Shape = ¬ (IsSkipped line) × ((r : Record) → ¬ (IsRecord line r))
+IsBad before line NotRising = (r : Record) × IsRecord line r × ¬ (IsLater before (time_of r))
 IsBad before line TooManyRecords =
-    (r : ℕ × Level) × IsRecord line r × IsLater before r.0 × (MOST_RECORDS ≤ length before)
+    (r : Record) × IsRecord line r × IsLater before (time_of r) × (MOST_RECORDS ≤ length before)
 
 -- the first bad line of the text has this number, counted from 1, and is bad in this way
 pub record IsRefused (text : List ℕ) (line_number : ℕ) (fault : LineFault) : Type 0 where

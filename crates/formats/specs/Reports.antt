@@ -9,6 +9,7 @@ use Rattle.signal_base.specs.declared.window.Window.{Window}
 use Rattle.definitions.specs.declared.sequence.Sequence.{Sequence}
 use Rattle.definitions.specs.declared.answer.Answer.{Answer}
 use Rattle.definitions.specs.declared.answer.Answer.TheVariants.{Nothing, Decided, Undecided}
+use Rattle.definitions.specs.time.Places.{Place, minute_of, second_of}
 use Rattle.definitions.specs.time.Spelling.{minute_text}
 use Rattle.definitions.specs.sequences.Walks.{place_at}
 use Rattle.formats.specs.Bytes.{space, line, station_name, sequence_text}
@@ -22,8 +23,8 @@ abbrev pub minute_line : Window → ℕ → ℕ → List ℕ
 minute_line window t k = line (codes "minute " ++ minute_text t ++ codes " at " ++ decimal (slot_begin window k))
 
 -- a text for a place in slot k, where a minute begins there
-abbrev pub at_minute : (ℕ → ℕ → List ℕ) → ℕ × ℕ → ℕ → List ℕ
-at_minute text place k = if place.1 == 0 then text place.0 k else []
+abbrev pub at_minute : (ℕ → ℕ → List ℕ) → Place → ℕ → List ℕ
+at_minute text place k = if second_of place == 0 then text (minute_of place) k else []
 
 -- the texts of the minutes that begin in the first n slots, in order
 unfoldable pub at_minutes : (ℕ → ℕ → List ℕ) → Sequence → ℕ → List ℕ

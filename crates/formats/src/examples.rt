@@ -6,7 +6,7 @@ mod refusals;
 mod reports;
 
 pub use listings::{feeds, listed_minutes, sentences};
-pub use logs::{bad_lines, good_logs, lines_of_texts};
+pub use logs::{bad_lines, good_logs, limits_of_logs, lines_of_texts};
 pub use refusals::{refused_certificates, refused_configurations, refused_logs, refused_words};
 pub use reports::{
     heads_of_reports, minutes_of_reports, reports_without_a_decision, summaries_of_trials,

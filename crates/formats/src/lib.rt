@@ -16,7 +16,7 @@ mod word_law;
 mod words;
 
 pub use examples::{
-    bad_lines, feeds, good_logs, heads_of_reports, lines_of_texts, listed_minutes,
+    bad_lines, feeds, good_logs, heads_of_reports, limits_of_logs, lines_of_texts, listed_minutes,
     minutes_of_reports, refused_certificates, refused_configurations, refused_logs, refused_words,
     reports_without_a_decision, sentences, summaries_of_trials,
 };

@@ -18,6 +18,7 @@ use Rattle.definitions.specs.declared.zone.Zone.TheVariants.{Utc, CentralEurope,
 use Rattle.definitions.specs.time.Calendar.{utc_fields, is_leap_month, is_leap_end, century_minutes}
 use Rattle.definitions.specs.time.Summer.{is_eu_summer, eu_change_within, us_code}
 use Rattle.definitions.specs.time.Zones.{zone_fields}
+use Rattle.definitions.specs.time.Places.{Place, minute_of, second_of}
 use Rattle.definitions.specs.codes.Dcf77.{dcf_second}
 use Rattle.definitions.specs.codes.Msf.{msf_second}
 use Rattle.definitions.specs.codes.Wwvb.{wwvb_second}
@@ -118,12 +119,12 @@ jjy_facts announced t =
       long = is_long announced t;
     }
 
--- the set of symbols that second s of the minute t may carry at a station
-abbrev pub allowed : Station → Bool → ℕ × ℕ → ℕ
-allowed Dcf77 announced place = dcf_second (dcf_facts announced place.0) place.1
-allowed Msf announced place = msf_second (msf_facts announced place.0) place.1
-allowed Wwvb announced place = wwvb_second (wwvb_facts announced place.0) place.1
-allowed Jjy announced place = jjy_second (jjy_facts announced place.0) place.1
+-- the set of symbols that a station may carry at a place
+abbrev pub allowed : Station → Bool → Place → ℕ
+allowed Dcf77 announced place = dcf_second (dcf_facts announced (minute_of place)) (second_of place)
+allowed Msf announced place = msf_second (msf_facts announced (minute_of place)) (second_of place)
+allowed Wwvb announced place = wwvb_second (wwvb_facts announced (minute_of place)) (second_of place)
+allowed Jjy announced place = jjy_second (jjy_facts announced (minute_of place)) (second_of place)
 
 -- what the 61 seconds that a minute can have may carry, or none where its year isn't encoded; a second 60 that the
 -- minute doesn't have carries nothing

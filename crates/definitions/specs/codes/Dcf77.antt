@@ -1,7 +1,7 @@
 -- DCF77: what each second of a minute may carry (PTB's description of the time code).
 use Rattle.std.specs.Prelude.{ℕ, ◌<◌, ◌≤◌, ◌+◌, ◌%◌, ◌==◌, nat_lt, if◌then◌else◌, List, [], ◌∷◌}
 use Rattle.definitions.specs.declared.dcf77.DcfFacts.{DcfFacts}
-use Rattle.definitions.specs.codes.Vocabulary.{only, free, no_second, Field, weights_from, carried_bit, ones, is_within}
+use Rattle.definitions.specs.codes.Vocabulary.{only, free, no_second, Field, Weighed, weights_from, carried_bit, ones, is_within}
 
 -- each fact is in its range
 pub record AreInRange (f : DcfFacts) : Type 0 where
@@ -16,24 +16,24 @@ pub record AreInRange (f : DcfFacts) : Type 0 where
 abbrev pub no_reduction : ℕ
 no_reduction = 2
 
-abbrev pub minute_weights : List (ℕ × ℕ)
+abbrev pub minute_weights : List Weighed
 minute_weights = weights_from 21 (1 ∷ 2 ∷ 4 ∷ 8 ∷ 10 ∷ 20 ∷ 40 ∷ [])
 
-abbrev pub hour_weights : List (ℕ × ℕ)
+abbrev pub hour_weights : List Weighed
 hour_weights = weights_from 29 (1 ∷ 2 ∷ 4 ∷ 8 ∷ 10 ∷ 20 ∷ [])
 
-abbrev pub day_weights : List (ℕ × ℕ)
+abbrev pub day_weights : List Weighed
 day_weights = weights_from 36 (1 ∷ 2 ∷ 4 ∷ 8 ∷ 10 ∷ 20 ∷ [])
 
 -- Monday is 1, Sunday is 7
-abbrev pub weekday_weights : List (ℕ × ℕ)
+abbrev pub weekday_weights : List Weighed
 weekday_weights = weights_from 42 (1 ∷ 2 ∷ 4 ∷ [])
 
-abbrev pub month_weights : List (ℕ × ℕ)
+abbrev pub month_weights : List Weighed
 month_weights = weights_from 45 (1 ∷ 2 ∷ 4 ∷ 8 ∷ 10 ∷ [])
 
 -- the last two digits of the year
-abbrev pub year_weights : List (ℕ × ℕ)
+abbrev pub year_weights : List Weighed
 year_weights = weights_from 50 (1 ∷ 2 ∷ 4 ∷ 8 ∷ 10 ∷ 20 ∷ 40 ∷ 80 ∷ [])
 
 abbrev pub weekday_from_monday : ℕ → ℕ

@@ -2,7 +2,7 @@
 use Rattle.std.specs.Prelude.{ℕ, ◌<◌, ◌≤◌, ◌%◌, Bool, ◌==◌, ◌&&◌, ◌||◌, nat_lt, if◌then◌else◌, List, [], ◌∷◌}
 use Rattle.definitions.specs.declared.jjy.JjyFacts.{JjyFacts}
 pub use Rattle.definitions.specs.codes.MarkedCode.{marker, minute_weights, hour_weights, day_weights}
-use Rattle.definitions.specs.codes.Vocabulary.{only, free, unscored, no_second, Field, weights_from, carried_bit, ones, is_one_of, is_within}
+use Rattle.definitions.specs.codes.Vocabulary.{only, free, unscored, no_second, Field, Weighed, weights_from, carried_bit, ones, is_one_of, is_within}
 
 -- each fact is in its range
 pub record AreInRange (f : JjyFacts) : Type 0 where
@@ -13,11 +13,11 @@ pub record AreInRange (f : JjyFacts) : Type 0 where
   pub weekday : f.weekday < 7
 
 -- the last two digits of the year
-abbrev pub year_weights : List (ℕ × ℕ)
+abbrev pub year_weights : List Weighed
 year_weights = weights_from 41 (80 ∷ 40 ∷ 20 ∷ 10 ∷ 8 ∷ 4 ∷ 2 ∷ 1 ∷ [])
 
 -- Sunday is 0
-abbrev pub weekday_weights : List (ℕ × ℕ)
+abbrev pub weekday_weights : List Weighed
 weekday_weights = weights_from 50 (4 ∷ 2 ∷ 1 ∷ [])
 
 -- the seconds with a marker

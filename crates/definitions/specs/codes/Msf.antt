@@ -1,7 +1,7 @@
 -- MSF: what each second of a minute may carry (NPL's MSF 60 kHz time and date code).
 use Rattle.std.specs.Prelude.{ℕ, ◌<◌, ◌≤◌, ◌+◌, ◌*◌, ◌-◌, ◌%◌, ◌==◌, ◌&&◌, nat_lt, if◌then◌else◌, List, [], ◌∷◌}
 use Rattle.definitions.specs.declared.msf.MsfFacts.{MsfFacts}
-use Rattle.definitions.specs.codes.Vocabulary.{only, free, no_second, Field, weights_from, carried_bit, ones, is_within}
+use Rattle.definitions.specs.codes.Vocabulary.{only, free, no_second, Field, Weighed, weights_from, carried_bit, ones, is_within}
 
 -- each fact is in its range
 pub record AreInRange (f : MsfFacts) : Type 0 where
@@ -17,23 +17,23 @@ abbrev pub minute_marker : ℕ
 minute_marker = 4
 
 -- the last two digits of the year
-abbrev pub year_weights : List (ℕ × ℕ)
+abbrev pub year_weights : List Weighed
 year_weights = weights_from 17 (80 ∷ 40 ∷ 20 ∷ 10 ∷ 8 ∷ 4 ∷ 2 ∷ 1 ∷ [])
 
-abbrev pub month_weights : List (ℕ × ℕ)
+abbrev pub month_weights : List Weighed
 month_weights = weights_from 25 (10 ∷ 8 ∷ 4 ∷ 2 ∷ 1 ∷ [])
 
-abbrev pub day_weights : List (ℕ × ℕ)
+abbrev pub day_weights : List Weighed
 day_weights = weights_from 30 (20 ∷ 10 ∷ 8 ∷ 4 ∷ 2 ∷ 1 ∷ [])
 
 -- Sunday is 0
-abbrev pub weekday_weights : List (ℕ × ℕ)
+abbrev pub weekday_weights : List Weighed
 weekday_weights = weights_from 36 (4 ∷ 2 ∷ 1 ∷ [])
 
-abbrev pub hour_weights : List (ℕ × ℕ)
+abbrev pub hour_weights : List Weighed
 hour_weights = weights_from 39 (20 ∷ 10 ∷ 8 ∷ 4 ∷ 2 ∷ 1 ∷ [])
 
-abbrev pub minute_weights : List (ℕ × ℕ)
+abbrev pub minute_weights : List Weighed
 minute_weights = weights_from 45 (40 ∷ 20 ∷ 10 ∷ 8 ∷ 4 ∷ 2 ∷ 1 ∷ [])
 
 -- the fields of a minute

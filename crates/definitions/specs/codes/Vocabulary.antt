@@ -19,8 +19,18 @@ unscored = 255
 abbrev pub no_second : ℕ
 no_second = 0
 
--- The weights of some consecutive seconds, the first of them given: pairs of a second and its weight.
-abbrev pub weights_from : ℕ → List ℕ → List (ℕ × ℕ)
+-- a second of a telegram, and the weight of its bit
+abbrev pub Weighed : Type 0
+Weighed = ℕ × ℕ
+
+abbrev pub its_second : Weighed → ℕ
+its_second w = w.0
+
+abbrev pub its_weight : Weighed → ℕ
+its_weight w = w.1
+
+-- the weights of some consecutive seconds, the first of them given
+abbrev pub weights_from : ℕ → List ℕ → List Weighed
 weights_from second [] = []
 weights_from second (w ∷ ws) = (second, w) ∷ weights_from (second + 1) ws
 
@@ -34,28 +44,32 @@ digit_bit value weight =
     else value / 100 % 10 / (weight / 100) % 2
 
 -- the weight of a second, where the table has it
-abbrev pub weight_of : List (ℕ × ℕ) → ℕ → Option ℕ
-weight_of weights second = option_map (λ w. w.1) (find (λ w. w.0 == second) weights)
+abbrev pub weight_of : List Weighed → ℕ → Option ℕ
+weight_of weights second = option_map its_weight (find (λ w. its_second w == second) weights)
 
 -- a field of a telegram: the weights of its seconds, and its value
 abbrev pub Field : Type 0
-Field = List (ℕ × ℕ) × ℕ
+Field = List Weighed × ℕ
+
+abbrev pub weights_of : Field → List Weighed
+weights_of field = field.0
+
+-- the number that a field tells
+abbrev pub value_of : Field → ℕ
+value_of field = field.1
 
 -- the bit that a second carries: that of the field that has it, and 0 in a second of no field
 abbrev pub carried_bit : List Field → ℕ → ℕ
 carried_bit [] second = 0
-carried_bit (f ∷ fs) second = option_map_or (digit_bit f.1) (weight_of f.0 second) (carried_bit fs second)
+carried_bit (f ∷ fs) second = option_map_or (digit_bit (value_of f)) (weight_of (weights_of f) second) (carried_bit fs second)
 
--- the number that a field tells, and the sum of the weights of its ones
-abbrev pub value_of : Field → ℕ
-value_of field = field.1
-
+-- the sum of the weights of a field's ones
 abbrev pub weight_of_ones : Field → ℕ
-weight_of_ones field = sum_by (λ w. w.1 * digit_bit field.1 w.1) field.0
+weight_of_ones field = sum_by (λ w. its_weight w * digit_bit (value_of field) (its_weight w)) (weights_of field)
 
 -- how many ones a field has
-abbrev pub ones : List (ℕ × ℕ) → ℕ → ℕ
-ones weights value = sum_by (λ w. digit_bit value w.1) weights
+abbrev pub ones : List Weighed → ℕ → ℕ
+ones weights value = sum_by (λ w. digit_bit value (its_weight w)) weights
 
 -- the second is one of these
 abbrev pub is_one_of : List ℕ → ℕ → Bool

@@ -2,7 +2,7 @@
 use Rattle.std.specs.Prelude.{ℕ, ◌<◌, ◌≤◌, ◌/◌, ◌%◌, Bool, ◌==◌, ◌||◌, nat_lt, if◌then◌else◌, List, [], ◌∷◌, ◌++◌}
 use Rattle.definitions.specs.declared.wwvb.WwvbFacts.{WwvbFacts}
 pub use Rattle.definitions.specs.codes.MarkedCode.{marker, minute_weights, hour_weights, day_weights}
-use Rattle.definitions.specs.codes.Vocabulary.{only, free, no_second, Field, weights_from, carried_bit, is_one_of, is_within}
+use Rattle.definitions.specs.codes.Vocabulary.{only, free, no_second, Field, Weighed, weights_from, carried_bit, is_one_of, is_within}
 
 -- each fact is in its range
 pub record AreInRange (f : WwvbFacts) : Type 0 where
@@ -13,7 +13,7 @@ pub record AreInRange (f : WwvbFacts) : Type 0 where
   pub us_code : f.us_code < 4
 
 -- the last two digits of the year
-abbrev pub year_weights : List (ℕ × ℕ)
+abbrev pub year_weights : List Weighed
 year_weights = weights_from 45 (80 ∷ 40 ∷ 20 ∷ 10 ∷ []) ++ weights_from 50 (8 ∷ 4 ∷ 2 ∷ 1 ∷ [])
 
 -- the fields of a minute

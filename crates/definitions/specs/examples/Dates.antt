@@ -1,7 +1,7 @@
 -- Days and minutes by their dates, and what is around a change of summer time.
-use Rattle.std.specs.Prelude.{ℕ, ◌+◌, ◌-◌, ◌*◌, ◌/◌, ◌%◌, ◌==◌, ◌&&◌, nat_lt, if◌then◌else◌, Bool, false, List, [], ◌∷◌, map, slice_index}
+use Rattle.std.specs.Prelude.{ℕ, ◌+◌, ◌-◌, ◌*◌, ◌/◌, ◌%◌, ◌==◌, ◌&&◌, ◌||◌, nat_lt, if◌then◌else◌, Bool, true, false, List, [], ◌∷◌, map, slice_index}
 use Rattle.signal_base.specs.declared.station.Station.TheVariants.{Wwvb}
-use Rattle.definitions.specs.time.Calendar.{minutes_per_day, minutes_per_hour}
+use Rattle.definitions.specs.time.Calendar.{minutes_per_day, minutes_per_hour, utc_fields}
 use Rattle.definitions.specs.codes.Allowed.{allowed, dcf_facts, msf_facts}
 use Rattle.definitions.specs.time.Summer.{is_eu_summer, is_eu_change, us_code}
 
@@ -20,6 +20,17 @@ on year month day =
 -- a minute of a day
 abbrev pub at : ℕ → ℕ → ℕ → ℕ
 at day hour minute = day * minutes_per_day + hour * minutes_per_hour + minute
+
+-- of each month, from January to December: a leap second may come at its end, in June and in December
+abbrev pub months_of_leap_seconds : List Bool
+months_of_leap_seconds =
+    false ∷ false ∷ false ∷ false ∷ false ∷ true ∷ false ∷ false ∷ false ∷ false ∷ false ∷ true ∷ []
+
+-- the first minute of 1 January or of 1 July
+abbrev pub begins_half_year : ℕ → Bool
+begins_half_year t =
+    let f = utc_fields t in
+    ((f.month == 1) || (f.month == 7)) && (f.day == 1) && ((f.hour == 0) && (f.minute == 0))
 
 -- of a day: whether 00:59 UTC is in European summer time, whether a change stands at 01:00, whether that is in it
 abbrev pub eu_around : ℕ → List Bool

@@ -1,5 +1,5 @@
 -- Sequences, windows and blocks for examples.
-use Rattle.std.specs.Prelude.{ℕ, ◌==◌, true, false, if◌then◌else◌, List, [], ◌∷◌, map}
+use Rattle.std.specs.Prelude.{ℕ, ◌≡◌, ◌⊎◌, ◌==◌, true, false, if◌then◌else◌, List, [], ◌∷◌, map}
 use Rattle.signal_base.specs.declared.window.Window.{Window}
 use Rattle.definitions.specs.declared.sequence.Sequence.{Sequence}
 use Rattle.definitions.specs.declared.block.Block.{Block}
@@ -11,6 +11,10 @@ use Rattle.definitions.specs.examples.Dates.{at, on}
 -- the sequence from a second of a minute on, without a leap second
 abbrev pub from_place : ℕ → ℕ → Sequence
 from_place first second = record { first = first; second = second; announced = false }
+
+-- the sequence is one of two, from the first second of a minute on and from the second after
+abbrev pub IsEither : Sequence → Type 0
+IsEither q = (q ≡ from_place 720 0) ⊎ (q ≡ from_place 720 1)
 
 -- a walk from the first second of 2000-06-30T23:59Z on, as it would be with a leap second
 abbrev pub leap_walk : List (ℕ × ℕ)

@@ -10,6 +10,7 @@ use Rattle.signal_base.specs.Mask.{has_bit}
 use Rattle.signal_base.specs.Waveform.{symbol_count, waveform}
 use Rattle.definitions.specs.declared.sequence.Sequence.{Sequence}
 use Rattle.definitions.specs.time.Calendar.{minutes_per_day}
+use Rattle.definitions.specs.time.Places.{minute_of, second_of}
 use Rattle.definitions.specs.codes.Vocabulary.{unscored}
 use Rattle.definitions.specs.codes.Allowed.{stations_of}
 use Rattle.definitions.specs.heard.Logs.{low_count}
@@ -58,7 +59,7 @@ abbrev pub symbols_of : Station → List ℕ
 symbols_of station = range_with_len 0 (symbol_count station)
 
 -- what a set of symbols costs, from the costs of the symbols: the cheapest of the set, and nothing where the
--- second isn't scored
+-- second isn't scored. A set of none of the station's symbols would cost nothing, but no second of a minute has one.
 abbrev pub set_cost : Station → (ℕ → ℕ) → ℕ → ℕ
 set_cost station costs set =
     if set == unscored then 0 else unwrap_or (least (map costs (filter (has_bit set) (symbols_of station)))) 0
@@ -66,19 +67,19 @@ set_cost station costs set =
 -- all slots of the walk lie in one UTC day
 abbrev pub lies_in_one_day : ℕ → Sequence → Bool
 lies_in_one_day n q =
-    list_all (λ k. (place_at q k).0 / minutes_per_day == q.first / minutes_per_day) (range_with_len 0 n)
+    list_all (λ k. minute_of (place_at q k) / minutes_per_day == q.first / minutes_per_day) (range_with_len 0 n)
 
 -- what the sets of n slots cost a station, but for the seconds that tell DUT1
 abbrev pub cost_outside_dut1 : Station → (ℕ → ℕ → ℕ) → ℕ → Sequence → ℕ
 cost_outside_dut1 station costs n q =
-    sum_below n (λ k. if is_dut1_second station (place_at q k).1 then 0 else set_cost station (costs k) (set_at station q k))
+    sum_below n (λ k. if is_dut1_second station (second_of (place_at q k)) then 0 else set_cost station (costs k) (set_at station q k))
 
 -- what these seconds cost where they tell d tenths
 abbrev pub dut1_cost : Station → (ℕ → ℕ → ℕ) → ℕ → Sequence → ℤ → ℕ
 dut1_cost station costs n q d =
-    sum_below n (λ k. let s = (place_at q k).1 in if is_dut1_second station s then costs k (dut1_symbol station d s) else 0)
+    sum_below n (λ k. let s = second_of (place_at q k) in if is_dut1_second station s then costs k (dut1_symbol station d s) else 0)
 
--- what they cost at the least
+-- what they cost at the least; nothing where the station has no values to tell
 abbrev pub least_dut1_cost : Station → (ℕ → ℕ → ℕ) → ℕ → Sequence → ℕ
 least_dut1_cost station costs n q = unwrap_or (least (map (dut1_cost station costs n q) (dut1_values station))) 0
 

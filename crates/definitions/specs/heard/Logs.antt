@@ -4,20 +4,30 @@ use Rattle.std.specs.List.{list_any}
 use Rattle.definitions.specs.declared.level.Level.{Level}
 use Rattle.definitions.specs.declared.level.Level.TheVariants.{High, Low, Unknown}
 
--- a log: times in milliseconds, which rise, and the level from each time on
+-- a record of a log: a time in milliseconds, and the level from then on
+abbrev pub Record : Type 0
+Record = ℕ × Level
+
+abbrev pub time_of : Record → ℕ
+time_of r = r.0
+
+abbrev pub level_of : Record → Level
+level_of r = r.1
+
+-- a log: records whose times rise
 abbrev pub Records : Type 0
-Records = List (ℕ × Level)
+Records = List Record
 
 -- the level of the last record
 abbrev pub last_level : Records → Level
 last_level [] = Unknown
-last_level (r ∷ []) = r.1
+last_level (r ∷ []) = level_of r
 last_level (r ∷ s ∷ rs) = last_level (s ∷ rs)
 
 -- The level at millisecond m is that of the last record not after it, where some record is later.
 abbrev pub level_at : Records → ℕ → Level
 level_at log m =
-    if list_any (λ r. nat_lt m r.0) log then last_level (filter (λ r. nat_le r.0 m) log) else Unknown
+    if list_any (λ r. nat_lt m (time_of r)) log then last_level (filter (λ r. nat_le (time_of r) m) log) else Unknown
 
 -- how many of some milliseconds are low, with one more of this level; none where one of them is unknown
 abbrev pub count_level : Level → Option ℕ → Option ℕ

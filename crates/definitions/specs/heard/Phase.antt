@@ -4,7 +4,7 @@ use Rattle.signal_base.specs.declared.station.Station.{Station}
 use Rattle.signal_base.specs.declared.station.Station.TheVariants.{Jjy}
 use Rattle.definitions.specs.declared.level.Level.{Level}
 use Rattle.definitions.specs.declared.level.Level.TheVariants.{High, Low}
-use Rattle.definitions.specs.heard.Logs.{Records}
+use Rattle.definitions.specs.heard.Logs.{Records, time_of, level_of}
 use Rattle.definitions.specs.heard.Receivers.{Receiver}
 
 -- The carrier falls as a second begins; at JJY it rises.
@@ -19,8 +19,8 @@ abbrev pub start_edges : Station → Records → List ℕ
 start_edges station [] = []
 start_edges station (r ∷ []) = []
 start_edges station (r ∷ s ∷ rs) =
-    if is_start_edge station r.1 s.1
-    then s.0 ∷ start_edges station (s ∷ rs)
+    if is_start_edge station (level_of r) (level_of s)
+    then time_of s ∷ start_edges station (s ∷ rs)
     else start_edges station (s ∷ rs)
 
 -- the offsets of a receiver's start edges in a window of n seconds, in milliseconds from a whole second of the window
@@ -30,9 +30,13 @@ offsets start n r =
     map (λ e. (e - begin) % 1000)
     (filter (λ e. nat_le begin e && nat_lt e (begin + 1000 * n)) (start_edges r.station r.heard.log))
 
+-- how far two numbers are apart; the one of these differences that would be below 0 is 0
+abbrev pub distance : ℕ → ℕ → ℕ
+distance x y = (x - y) + (y - x)
+
 -- how far two offsets are apart, on a circle of a second
 abbrev pub circular_distance : ℕ → ℕ → ℕ
-circular_distance x y = min ((x - y) + (y - x)) (1000 - ((x - y) + (y - x)))
+circular_distance x y = min (distance x y) (1000 - distance x y)
 
 -- how far the start edges agree with a phase: each within 50 ms of it counts the milliseconds that are left
 abbrev pub agreement : ℕ → ℕ → List Receiver → ℕ → ℕ

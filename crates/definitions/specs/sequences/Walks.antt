@@ -4,6 +4,7 @@ use Rattle.signal_base.specs.declared.station.Station.{Station}
 use Rattle.signal_base.specs.declared.window.Window.{Window}
 use Rattle.definitions.specs.declared.sequence.Sequence.{Sequence}
 use Rattle.definitions.specs.time.Calendar.{century_minutes, minute_length}
+use Rattle.definitions.specs.time.Places.{Place, minute_of, second_of}
 use Rattle.definitions.specs.codes.Allowed.{allowed, has_station, CanBeEncoded}
 
 -- the numbers that a sequence can have
@@ -11,13 +12,15 @@ pub record IsSequence (q : Sequence) : Type 0 where
   pub first_minute : q.first < century_minutes
   pub first_second : q.second ≤ 60
 
--- the second after (minute, second)
-abbrev pub next_place : Bool → ℕ × ℕ → ℕ × ℕ
+-- the place one second later
+abbrev pub next_place : Bool → Place → Place
 next_place announced place =
-    if nat_lt (place.1 + 1) (minute_length announced place.0) then (place.0, place.1 + 1) else (place.0 + 1, 0)
+    if nat_lt (second_of place + 1) (minute_length announced (minute_of place))
+    then (minute_of place, second_of place + 1)
+    else (minute_of place + 1, 0)
 
--- the minute and second in slot k
-unfoldable pub place_at : Sequence → ℕ → ℕ × ℕ
+-- the place in slot k
+unfoldable pub place_at : Sequence → ℕ → Place
 place_at q zero = (q.first, q.second)
 place_at q (suc k) = next_place q.announced (place_at q k)
 
@@ -30,7 +33,7 @@ pub record IsWalkable (window : Window) (q : Sequence) : Type 0 where
   pub not_before : window.from ≤ q.first
   pub before_end : q.first < window.to
   pub second : q.second < minute_length q.announced q.first
-  pub encoded : (k : ℕ) → k < window.seconds → CanBeEncoded window.stations (place_at q k).0
+  pub encoded : (k : ℕ) → k < window.seconds → CanBeEncoded window.stations (minute_of (place_at q k))
 
 -- the same beginning without a leap second
 abbrev pub unannounced : Sequence → Sequence

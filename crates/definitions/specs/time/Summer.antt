@@ -16,18 +16,28 @@ is_second_sunday month d = is_sunday_of month d && (nat_lt 7 d.day && nat_le d.d
 abbrev pub is_last_sunday : ℕ → Day → Bool
 is_last_sunday month d = is_sunday_of month d && nat_lt (month_length d.year d.month) (d.day + 7)
 
+-- a day, and whether a season is on as it begins
+abbrev pub DayAndSeason : Type 0
+DayAndSeason = Day × Bool
+
+abbrev pub day_of : DayAndSeason → Day
+day_of s = s.0
+
+abbrev pub is_in_season : DayAndSeason → Bool
+is_in_season s = s.1
+
 -- A season begins in the course of some days and ends in the course of others. The day that comes n days after the
 -- first, and whether the season is on as that day begins.
-unfoldable pub season_at : (Day → Bool) → (Day → Bool) → ℕ → Day × Bool
+unfoldable pub season_at : (Day → Bool) → (Day → Bool) → ℕ → DayAndSeason
 season_at begins ends zero = (first_day, false)
 season_at begins ends (suc n) =
     let s = season_at begins ends n in
-    (next_day s.0, if begins s.0 then true else if ends s.0 then false else s.1)
+    (next_day (day_of s), if begins (day_of s) then true else if ends (day_of s) then false else is_in_season s)
 
 -- Europe: from the last Sunday of March to the last Sunday of October, at 01:00 UTC (Directive 2000/84/EC). The rule is
 -- kept to 2099.
 abbrev pub eu_season : ℕ → Bool
-eu_season n = (season_at (is_last_sunday 3) (is_last_sunday 10) n).1
+eu_season n = is_in_season (season_at (is_last_sunday 3) (is_last_sunday 10) n)
 
 -- a minute is in European summer time
 abbrev pub is_eu_summer : ℕ → Bool
@@ -56,8 +66,8 @@ abbrev pub us_ends : Day → Bool
 us_ends d = if nat_lt d.year 2007 then is_last_sunday 10 d else is_first_sunday 11 d
 
 -- WWVB's two bits by the UTC day (NIST Special Publication 432): 2 as summer time begins on it, 3 in summer time, 1 as it ends on it, 0 otherwise
-abbrev pub us_code_on : Day × Bool → ℕ
-us_code_on s = if us_begins s.0 then 2 else if us_ends s.0 then 1 else if s.1 then 3 else 0
+abbrev pub us_code_on : DayAndSeason → ℕ
+us_code_on s = if us_begins (day_of s) then 2 else if us_ends (day_of s) then 1 else if is_in_season s then 3 else 0
 
 abbrev pub us_code : ℕ → ℕ
 us_code t = us_code_on (season_at us_begins us_ends (t / minutes_per_day))

@@ -2,13 +2,14 @@
 //! day, hour and minute.
 
 ghost use Rattle.std.specs.Prelude.{◌≡◌, ◌∷◌, ◌-◌, ◌+◌, ◌*◌, [], map, is_some, true, false, None};
+ghost use Rattle.std.specs.List.{range_with_len};
 ghost use Rattle.signal_base.specs.declared.station.Station.TheVariants.{Dcf77, Msf, Wwvb, Jjy};
 ghost use Rattle.definitions.specs.time.Calendar.{day_at, century_minutes, is_leap_end, minute_length, utc_fields};
 ghost use Rattle.definitions.specs.declared.zone.Zone.TheVariants.{CentralEurope, Japan, Uk, Utc};
 ghost use Rattle.definitions.specs.time.Zones.{local_fields};
 ghost use Rattle.definitions.specs.codes.Allowed.{dcf_facts, encoded_year, jjy_facts, msf_facts, telegram_of, wwvb_facts};
 ghost use Rattle.definitions.specs.codes.Vocabulary.{only};
-ghost use Rattle.definitions.specs.examples.Dates.{at, dcf77_around, eu_around, msf_around, on, us_around, us_seconds};
+ghost use Rattle.definitions.specs.examples.Dates.{at, dcf77_around, eu_around, months_of_leap_seconds, msf_around, on, us_around, us_seconds};
 
 /// Weekdays and days of the year, from 2000 to 2099.
 pub fn known_weekdays()
@@ -90,7 +91,8 @@ pub fn announced_changes()
 {}
 
 /// From when on the leap second of 2016 was announced: by DCF77 in the hour before it, by WWVB in its whole month, by JJY
-/// from the second UTC day of the month on.
+/// from the second UTC day of the month on. In the middle of each month of 2000 both announce one in June and December
+/// alone.
 pub fn announced_leap_seconds()
     ensures dcf77 { (dcf_facts true (at (on 2016 12 31) 23 0)).leap ≡ true }
     ensures dcf77_before { (dcf_facts true (at (on 2016 12 31) 22 59)).leap ≡ false }
@@ -98,6 +100,8 @@ pub fn announced_leap_seconds()
     ensures wwvb_before { (wwvb_facts true (at (on 2016 11 30) 23 59)).leap ≡ false }
     ensures jjy { (jjy_facts true (at (on 2016 12 2) 0 0)).leap ≡ true }
     ensures jjy_before { (jjy_facts true (at (on 2016 12 1) 23 59)).leap ≡ false }
+    ensures wwvb_months { map (λ month. (wwvb_facts true (at (on 2000 month 15) 0 0)).leap) (range_with_len 1 12) ≡ months_of_leap_seconds }
+    ensures jjy_months { map (λ month. (jjy_facts true (at (on 2000 month 15) 0 0)).leap) (range_with_len 1 12) ≡ months_of_leap_seconds }
     ensures not_announced { (jjy_facts false (at (on 2016 12 2) 0 0)).leap ≡ false }
 {}
 

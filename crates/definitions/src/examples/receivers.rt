@@ -79,7 +79,7 @@ pub fn edges_near_a_phase()
 {}
 
 /// DUT1 as a minute tells it: of MSF two negative tenths, a tie of -2 and 0, and none; of WWVB -3; the most and the fewest
-/// tenths of each; and what isn't told.
+/// tenths of each; and what isn't told. A minute up to midnight, the last of its day, tells one value.
 pub fn dut1_heard()
     ensures negative { dut_heard Msf (9 ∷ 10 ∷ []) (from_place 720 0) ≡ Tenths (negsuc 1) }
     ensures tied { dut_heard Msf (10 ∷ []) (from_place 720 0) ≡ Tied }
@@ -91,6 +91,7 @@ pub fn dut1_heard()
     ensures wwvb_most { dut_heard Wwvb (36 ∷ 38 ∷ 40 ∷ 43 ∷ []) (from_place 720 0) ≡ Tenths (pos 9) }
     ensures wwvb_fewest { dut_heard Wwvb (37 ∷ 40 ∷ 43 ∷ []) (from_place 720 0) ≡ Tenths (negsuc 8) }
     ensures two_days { dut_heard Msf [] (from_place 1439 30) ≡ Free }
+    ensures to_midnight { dut_heard Msf [] (from_place 1439 0) ≡ Tenths (pos 0) }
     ensures two_hours { dut_heard Msf [] (from_place 779 30) ≡ Tenths (pos 0) }
     ensures not_sent { dut_heard Jjy [] (from_place 720 0) ≡ Absent }
 {}

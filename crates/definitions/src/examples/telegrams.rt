@@ -1,7 +1,8 @@
 //! Worked examples of telegrams, computed from the definitions alone. A minute is named by its date, hour and minute, in
 //! UTC.
 
-ghost use Rattle.std.specs.Prelude.{◌≡◌, ◌+◌, ◌*◌, ◌∷◌, ◌++◌, [], codes, filter, map, true, false};
+ghost use Rattle.std.specs.Prelude.{◌≡◌, ◌+◌, ◌*◌, ◌==◌, ◌∷◌, ◌++◌, [], codes, filter, map, true, false};
+ghost use Rattle.std.specs.List.{range_with_len};
 ghost use Rattle.signal_base.specs.declared.station.Station.TheVariants.{Dcf77, Msf, Wwvb, Jjy};
 ghost use Rattle.signal_base.specs.Mask.{has_bit};
 ghost use Rattle.definitions.specs.codes.Allowed.{allowed, dcf_facts, msf_facts, wwvb_facts, jjy_facts};
@@ -66,9 +67,10 @@ pub fn jjy_at_quarter_to_four()
 {}
 
 /// JJY's call sign in the minutes 15 and 45 of the hour: what the seconds 40, 48 and 50 may carry at 2024-06-10T06:15Z, and
-/// at 06:16Z.
+/// at 06:16Z; and in which minutes of the first hour second 40 isn't scored.
 pub fn jjy_with_its_call_sign()
     ensures sent { map (λ s. allowed Jjy false (at (on 2024 6 10) 6 15, s)) (40 ∷ 48 ∷ 50 ∷ []) ≡ unscored ∷ unscored ∷ free ∷ [] }
+    ensures minutes { filter (λ t. allowed Jjy false (t, 40) == unscored) (range_with_len 0 60) ≡ 15 ∷ 45 ∷ [] }
     ensures not_sent { map (λ s. allowed Jjy false (at (on 2024 6 10) 6 16, s)) (40 ∷ 48 ∷ 50 ∷ []) ≡ only 0 ∷ only 0 ∷ only 0 ∷ [] }
 {}
 

@@ -4,8 +4,17 @@
 ghost use Rattle.std.specs.Prelude.{◌≡◌, ◌∷◌, ◌++◌, [], codes};
 ghost use Rattle.definitions.specs.declared.level.Level.TheVariants.{High, Low, Unknown};
 ghost use Rattle.formats.specs.Bytes.{carriage_return, line, line_feed};
+ghost use Rattle.formats.specs.declared.limits.TheConstants.{LOG_LIMIT, LONGEST_NAME, MOST_RECORDS, TIME_LIMIT};
 ghost use Rattle.formats.specs.declared.fault.LineFault.TheVariants.{NotRising, Shape};
 ghost use Rattle.formats.specs.LogLines.{IsLog, IsRefused, lines_of, without_cr};
+
+/// How much a log may hold, and how long the name of its receiver may be, as it is documented.
+pub fn limits_of_logs()
+    ensures bytes { LOG_LIMIT ≡ 8_000_000 }
+    ensures records { MOST_RECORDS ≡ 200_000 }
+    ensures times { TIME_LIMIT ≡ 1_000_000_000_000 }
+    ensures name { LONGEST_NAME ≡ 32 }
+{}
 
 /// The lines of texts, whose last may lack its LF, and lines without their CR.
 pub fn lines_of_texts()

@@ -28,6 +28,14 @@ pub returns-clause-jjy_before : goal.returns-clause-jjy_before
 unfolding day_at season_at
 returns-clause-jjy_before c = refl
 
+pub returns-clause-wwvb_months : goal.returns-clause-wwvb_months
+unfolding day_at season_at
+returns-clause-wwvb_months c = refl
+
+pub returns-clause-jjy_months : goal.returns-clause-jjy_months
+unfolding day_at season_at
+returns-clause-jjy_months c = refl
+
 pub returns-clause-not_announced : goal.returns-clause-not_announced
 unfolding day_at season_at
 returns-clause-not_announced c = refl

@@ -45,6 +45,10 @@ pub returns-clause-two_days : goal.returns-clause-two_days
 unfolding day_at place_at sum_below
 returns-clause-two_days c = refl
 
+pub returns-clause-to_midnight : goal.returns-clause-to_midnight
+unfolding day_at place_at sum_below
+returns-clause-to_midnight c = refl
+
 pub returns-clause-not_sent : goal.returns-clause-not_sent
 unfolding day_at place_at sum_below
 returns-clause-not_sent c = refl

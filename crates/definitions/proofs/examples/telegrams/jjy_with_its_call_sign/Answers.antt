@@ -7,6 +7,10 @@ pub returns-clause-sent : goal.returns-clause-sent
 unfolding day_at
 returns-clause-sent c = refl
 
+pub returns-clause-minutes : goal.returns-clause-minutes
+unfolding day_at
+returns-clause-minutes c = refl
+
 pub returns-clause-not_sent : goal.returns-clause-not_sent
 unfolding day_at
 returns-clause-not_sent c = refl
