@@ -11,6 +11,8 @@ mod hearing;
 mod loading;
 mod order;
 mod program;
+#[cfg(test)]
+mod station_tests;
 mod stop;
 #[cfg(test)]
 mod tests;

@@ -10,6 +10,7 @@ mod limits;
 mod lists;
 mod places;
 mod read;
+mod tables;
 #[cfg(test)]
 mod tests;
 mod values;

@@ -17,6 +17,7 @@ ghost use Rattle.toml.specs.View.{view};
 use crate::limits::{CONFIG_LIMIT, COSTS, DEFAULT_CEILING, DEFAULT_DELAY, DEFAULT_WEIGHT};
 use crate::lists::{costs_in, tables_in};
 use crate::places::Place;
+use crate::tables::may_make_too_many;
 use crate::values::{file_at, name_at, number_at, required, station_in};
 use crate::{Config, ConfigFault, Key, Receiver};
 use signal_base::{
@@ -189,8 +190,21 @@ fn config_in(alloc: Global, config: &Value) -> Result<Config, ConfigFault>
 
 /// Reads a configuration's text, of at most 1,000,000 bytes. The first fault in the order of the keys decides: the
 /// station, the ceiling, the receivers one after the other, the cost table; an unknown key comes last. `NoMemory`
-/// comes only for want of memory.
+/// comes for want of memory, and where the text may make more than 80,000 tables.
 pub fn read_config(alloc: Global, bytes: &[u8]) -> Result<Config, ConfigFault>
+    requires { length bytes.now ≤ CONFIG_LIMIT }
+    ensures read { IfOk result (λ config. configuration_of bytes.now ≡ Ok (plain_config config)) }
+    ensures in_range { IfOk result IsInRange }
+    ensures refused { IfErr result (λ fault. fault ≢ NoMemory → configuration_of bytes.now ≡ Err fault) }
+{
+    if may_make_too_many(bytes) {
+        return Err(ConfigFault::NoMemory);
+    }
+    read_document(alloc, bytes)
+}
+
+// Reads a configuration's text, whatever tables it makes.
+fn read_document(alloc: Global, bytes: &[u8]) -> Result<Config, ConfigFault>
     requires { length bytes.now ≤ CONFIG_LIMIT }
     ensures read { IfOk result (λ config. configuration_of bytes.now ≡ Ok (plain_config config)) }
     ensures in_range { IfOk result IsInRange }

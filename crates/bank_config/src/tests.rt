@@ -191,3 +191,31 @@ fn knows_keys_in_their_places(rt: HostRuntime) -> Result<(), Fail> {
     }
     Ok(())
 }
+
+// A list of so many empty tables, behind a comment that is no table.
+fn tables(alloc: Global, count: u32) -> Result<String, AllocError> {
+    let mut text = String::new(alloc);
+    text.push_str(" # ")?;
+    for _ in 0..count {
+        text.push_str("[")?;
+    }
+    text.push_str("\nx = [")?;
+    for _ in 0..count {
+        text.push_str("{},")?;
+    }
+    text.push_str("]\n")?;
+    Ok(text)
+}
+
+// The list itself counts as one.
+#[test]
+fn bounds_the_tables_of_a_text(rt: HostRuntime) -> Result<(), Fail> {
+    for (count, fault) in [
+        (79_999, missing(Key::Station)),
+        (80_000, ConfigFault::NoMemory),
+    ] {
+        let text = tables(rt.alloc(), count)?;
+        assert!(rt; read(&rt, text.as_bytes()).err() == Some(fault), "{count}");
+    }
+    Ok(())
+}

@@ -25,11 +25,23 @@ impl Failure {
 
 impl fmt::Display for Failure {
     fn fmt<W: fmt::Write>(&self, f: &mut fmt::Formatter<W>) -> fmt::Result {
-        let name = match self.name.as_str() {
-            OUTPUT => "standard output",
-            name => name,
-        };
+        match self.name.as_str() {
+            OUTPUT => f.write_str("standard output")?,
+            name => write_visibly(f, name)?,
+        }
         let error = self.error;
-        write!(f, "{name}: {error}")
+        write!(f, ": {error}")
     }
+}
+
+// Writes a text with its control characters escaped, as `\n` and `\u{1b}`. On a terminal they would do what they stand for.
+fn write_visibly<W: fmt::Write>(f: &mut fmt::Formatter<W>, text: &str) -> fmt::Result {
+    for c in text.chars() {
+        if c.is_control() {
+            write!(f, "{}", c.escape_default())?;
+        } else {
+            f.write_char(c)?;
+        }
+    }
+    Ok(())
 }

@@ -42,7 +42,7 @@ pub struct RealFiles<M: Machine> {
 }
 
 impl<M: Machine> RealFiles<M> {
-    ghost use Rattle.machine_files.specs.Seeing.{seen_of};
+    ghost use Rattle.machine_files.specs.Seeing.{IsSeenThrough, seen_of};
 
     /// The files of this machine, of which none has failed yet.
     pub fn new(alloc: Global, machine: M) -> RealFiles<M>
@@ -57,6 +57,13 @@ impl<M: Machine> RealFiles<M> {
             faults: 0,
             failure: None,
         }
+    }
+
+    /// The machine whose files these are.
+    pub fn into_machine(self) -> M
+        ensures { IsSeenThrough (M.disk result) (M.failures result) (⟦<RealFiles<M> as Files>⟧.view self) }
+    {
+        self.machine
     }
 
     /// How many faults were counted, of reading and of writing.

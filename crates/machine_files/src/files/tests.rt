@@ -110,3 +110,23 @@ fn counts_and_names_each_failure(rt: HostRuntime) -> Result<(), Fail> {
     }
     Ok(())
 }
+
+// A name may hold what would end the line or move a terminal's cursor.
+#[test]
+fn escapes_control_characters_of_names(rt: HostRuntime) -> Result<(), Fail> {
+    let mut files = RealFiles::new(rt.alloc(), make_machine(rt.alloc(), 1000)?);
+    let mut room = *b"....";
+    assert!(rt;
+        files
+            .read_at("é\\\n\u{1b}[2J\u{9b}\u{7f}.log", 0, &mut room)
+            .is_err()
+    );
+    assert!(rt;
+        says(
+            &rt,
+            &files,
+            "é\\\\n\\u{1b}[2J\\u{9b}\\u{7f}.log: entity not found"
+        )
+    );
+    Ok(())
+}

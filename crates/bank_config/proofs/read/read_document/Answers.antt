@@ -4,8 +4,8 @@ use Rattle.bank_config.specs.declared.fault.ConfigFault.TheVariants.{NoMemory}
 use Rattle.bank_config.specs.Checked.{Checked}
 use Rattle.bank_config.specs.Configuration.{PlainConfig, plain_config}
 use Rattle.bank_config.proofs.OutcomeLaws.{configuration_of-document, configuration_of-none, GivesOrNoMemory-ok, GivesOrNoMemory-err}
-use Rattle.bank_config.proofs.read.read_config.Goals as goal
-use Rattle.bank_config.proofs.read.read_config.Goals.{then-is_memory, else-is_memory}
+use Rattle.bank_config.proofs.read.read_document.Goals as goal
+use Rattle.bank_config.proofs.read.read_document.Goals.{then-is_memory, else-is_memory}
 
 pub returns-in-Ok-clause-read : goal.returns-in-Ok-clause-read
 returns-in-Ok-clause-read c =
