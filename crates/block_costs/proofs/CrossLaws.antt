@@ -22,12 +22,11 @@ use Rattle.minute_parts.specs.Unions.{IsInSome, IsUnionOf, IsUnionOver}
 use Rattle.minute_parts.proofs.SpanLaws.{date_tells, is_of_either, time_tells}
 use Rattle.minute_parts.proofs.TimeLaws.{same_time}
 use Rattle.minute_parts.proofs.UnionLaws.{has_or, none_has, of_or, one_union, union_moved}
-use Rattle.walk_costs.specs.Dates.{kept, part_cost}
 use Rattle.minute_parts.specs.Walks.{later_minutes}
 use Rattle.walk_costs.specs.Walks.{AreSmall, PricedParts}
-use Rattle.walk_costs.proofs.SumLaws.{cost_in, part_by_second, sum_of_two}
+use Rattle.walk_costs.proofs.SumLaws.{cost_in, sum_of_two}
 use Rattle.block_costs.specs.Blocks.{AreUnionsOfWalks, unions_cost}
-use Rattle.block_costs.proofs.HourLaws.{kept_at, none_told, own_second}
+use Rattle.block_costs.proofs.HourLaws.{none_told, own_second}
 
 -- 60 minutes on end, of which the first lie in a run and the others in the next, in which the local time is encoded as before
 module _ (p : PartTable) (table : IsPartTable p) (announced : Bool) (i a s : ℕ) (here : IsInRun p a i) (next : i + 1 < length p.runs)

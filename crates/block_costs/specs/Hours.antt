@@ -8,9 +8,9 @@ use Rattle.minute_parts.specs.HourLayers.{AreTimeLayers}
 use Rattle.minute_parts.specs.Overlay.{is_given_up}
 use Rattle.minute_parts.specs.Walks.{later_minutes}
 use Rattle.walk_costs.specs.Walks.{PricedParts}
-use Rattle.block_costs.specs.declared.hours.HoursInRun.{HoursInRun}
-use Rattle.block_costs.specs.declared.hours.TheConstants.{DAY_HOURS}
-use Rattle.block_costs.specs.declared.minutes.TheConstants.{HOUR_MINUTES}
+use Rattle.block_costs.specs.declared.local_hours.HoursInRun.{HoursInRun}
+use Rattle.block_costs.specs.declared.local_hours.TheConstants.{DAY_HOURS}
+use Rattle.minute_parts.specs.declared.hour_layers.TheConstants.{HOUR_MINUTES}
 use Rattle.block_costs.specs.Blocks.{AreUnionsOfWalks, unions_cost}
 
 -- what the time of day tells in hour h of the local day, which begins so many minutes after its whole hours, and in the minutes

@@ -6,9 +6,9 @@ ghost use Rattle.minute_parts.specs.Unions.{AreRegular};
 ghost use Rattle.slot_columns.specs.declared.limits.TheConstants.{SECONDS_PER_MINUTE};
 ghost use Rattle.minute_parts.specs.Walks.{later_minutes};
 ghost use Rattle.block_costs.specs.Hours.{AreHours, IsHourCost};
-ghost use Rattle.block_costs.specs.declared.minutes.TheConstants.{HOUR_MINUTES};
+ghost use Rattle.minute_parts.specs.declared.hour_layers.TheConstants.{HOUR_MINUTES};
 
-use crate::hours::{DAY_HOURS, Hours, bytes_of};
+use crate::local_hours::{DAY_HOURS, Hours, bytes_of};
 use definitions::{MINUTES_PER_DAY, MINUTES_PER_HOUR};
 use minute_parts::{Part, either, gives_up, hours_tell_time_and_date};
 use walk_costs::StationWalks;

@@ -7,13 +7,13 @@ ghost use Rattle.slot_columns.specs.declared.limits.TheConstants.{SECONDS_PER_MI
 ghost use Rattle.minute_parts.specs.Walks.{later_minutes};
 ghost use Rattle.block_costs.specs.Blocks.{AreUnionsOfWalks, unions_cost};
 ghost use Rattle.block_costs.specs.Hours.{IsHourCost};
-ghost use Rattle.block_costs.specs.declared.minutes.TheConstants.{HOUR_MINUTES};
+ghost use Rattle.minute_parts.specs.declared.hour_layers.TheConstants.{HOUR_MINUTES};
 
-use crate::asked::cost_as_asked;
-use crate::hours::{Hours, hours_of};
 use crate::kept::{Kept, YEAR_DAYS, is_kept, kept_days, kept_years};
-use crate::minutes::HOUR_MINUTES;
+use crate::local_hours::{Hours, hours_of};
+use crate::unkept::cost_as_asked;
 use definitions::MINUTES_PER_DAY;
+use minute_parts::HOUR_MINUTES;
 use std::alloc::{AllocError, Global};
 use std::marker::Model;
 use walk_costs::StationWalks;

@@ -4,10 +4,10 @@
 ghost use Rattle.std.specs.Prelude.{◌≡◌, ◌<◌, ◌≤◌, IfOk, length};
 
 use crate::tests::minute_costs;
-use crate::{HOUR_MINUTES, MinuteCosts, StationBlocks};
+use crate::{MinuteCosts, StationBlocks};
 use civil::Civil;
 use definitions::{CENTURY_MINUTES, MINUTES_PER_HOUR};
-use minute_parts::{Parts, Unions};
+use minute_parts::{HOUR_MINUTES, Parts, Unions};
 use pulse_log::read_log;
 use signal_base::{CostTable, Station, Tuning};
 use std::alloc::Global;

@@ -7,10 +7,10 @@ ghost use Rattle.slot_columns.specs.Parts.{most_cost};
 ghost use Rattle.slot_columns.specs.declared.limits.TheConstants.{SECONDS_PER_MINUTE};
 ghost use Rattle.minute_parts.specs.Walks.{later_minutes};
 ghost use Rattle.block_costs.specs.Days.{AreHoursAdded, IsHourAdded, hour_begin};
-ghost use Rattle.block_costs.specs.declared.hours.TheConstants.{DAY_HOURS};
+ghost use Rattle.block_costs.specs.declared.local_hours.TheConstants.{DAY_HOURS};
 
 use crate::blocks::StationBlocks;
-use crate::hours::{DAY_HOURS, HoursInRun};
+use crate::local_hours::{DAY_HOURS, HoursInRun};
 use definitions::{MINUTES_PER_DAY, MINUTES_PER_HOUR};
 
 /// A cost for each hour of a day.

@@ -3,18 +3,18 @@
 #![tactic(auto)]
 
 mod across;
-mod asked;
 mod blocks;
 #[cfg(test)]
 mod crossing_tests;
 mod day;
-mod hours;
 mod kept;
+mod local_hours;
 mod minutes;
 #[cfg(test)]
 mod tests;
+mod unkept;
 
 pub use blocks::StationBlocks;
 pub use day::HoursOfDay;
-pub use hours::DAY_HOURS;
-pub use minutes::{HOUR_MINUTES, MinuteCosts};
+pub use local_hours::DAY_HOURS;
+pub use minutes::MinuteCosts;

@@ -11,13 +11,10 @@ ghost use Rattle.walk_costs.specs.Stretches.{AreAddedCosts, HaveRoom};
 ghost use Rattle.minute_parts.specs.Walks.{later_minutes};
 ghost use Rattle.walk_costs.specs.Walks.{cost_of, last_minute};
 
-use crate::asked::cost_by_minutes;
 use crate::blocks::StationBlocks;
-use definitions::MINUTES_PER_HOUR;
+use crate::unkept::cost_by_minutes;
+use minute_parts::HOUR_MINUTES;
 use walk_costs::StationWalks;
-
-/// The minutes of an hour.
-pub const HOUR_MINUTES: usize = MINUTES_PER_HOUR as usize;
 
 /// A cost for each minute of an hour.
 pub type MinuteCosts = [u32; HOUR_MINUTES];

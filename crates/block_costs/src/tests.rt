@@ -6,11 +6,11 @@ ghost use Rattle.signal_base.specs.declared.limits.TheConstants.{MOST_COST};
 ghost use Rattle.slot_columns.specs.declared.limits.TheConstants.{SECONDS_PER_MINUTE};
 ghost use Rattle.minute_parts.specs.Unions.{AreRegular};
 ghost use Rattle.minute_parts.specs.Walks.{later_minutes};
-ghost use Rattle.block_costs.specs.declared.minutes.TheConstants.{HOUR_MINUTES};
+ghost use Rattle.minute_parts.specs.declared.hour_layers.TheConstants.{HOUR_MINUTES};
 
-use crate::{HOUR_MINUTES, MinuteCosts, StationBlocks};
+use crate::{MinuteCosts, StationBlocks};
 use civil::Civil;
-use minute_parts::{Parts, Unions};
+use minute_parts::{HOUR_MINUTES, Parts, Unions};
 use pulse_log::read_log;
 use signal_base::{CostTable, Station, Tuning};
 use std::alloc::Global;

@@ -7,7 +7,7 @@ use Rattle.definitions.specs.declared.block.Span.TheVariants.{Hour}
 use Rattle.definitions.specs.answers.Blocks.{IsBlock, union_cost}
 use Rattle.definitions.specs.time.Calendar.{minutes_per_day, minutes_per_hour}
 use Rattle.minute_parts.specs.Walks.{reach}
-use Rattle.block_costs.specs.declared.hours.TheConstants.{DAY_HOURS}
+use Rattle.block_costs.specs.declared.local_hours.TheConstants.{DAY_HOURS}
 use Rattle.field_tables.specs.Blocks.{AreUnionsOver, HasShortWalks}
 use Rattle.field_tables.specs.Scored.{Scored}
 use Rattle.field_tables.specs.Sums.{AreSums, Sums, costs_by}

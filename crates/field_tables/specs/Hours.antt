@@ -12,7 +12,7 @@ use Rattle.definitions.specs.sequences.Windows.{IsWindow}
 use Rattle.walk_costs.specs.Walks.{PricedParts}
 use Rattle.field_tables.specs.declared.minutes.MinuteRow.{MinuteRow}
 use Rattle.field_tables.specs.declared.minutes.TheConstants.{NOT_LEGAL}
-use Rattle.block_costs.specs.declared.minutes.TheConstants.{HOUR_MINUTES}
+use Rattle.minute_parts.specs.declared.hour_layers.TheConstants.{HOUR_MINUTES}
 use Rattle.field_tables.specs.Scored.{Scored, costs_of}
 
 -- what stands past the end of lists

@@ -4,7 +4,7 @@ ghost use Rattle.std.specs.Prelude.{◌≡◌, ◌+◌, ◌%◌, ◌<◌, ◌≤
 ghost use Rattle.definitions.specs.answers.Blocks.{IsBlock, IsUnionBound, first_of};
 ghost use Rattle.definitions.specs.sequences.Walks.{IsSequence};
 ghost use Rattle.definitions.specs.time.Calendar.{minutes_per_day};
-ghost use Rattle.block_costs.specs.declared.hours.TheConstants.{DAY_HOURS};
+ghost use Rattle.block_costs.specs.declared.local_hours.TheConstants.{DAY_HOURS};
 ghost use Rattle.field_tables.specs.Days.{hour_of};
 ghost use Rattle.field_tables.specs.Scored.{costs_of};
 

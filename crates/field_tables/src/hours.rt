@@ -6,7 +6,7 @@ ghost use Rattle.signal_base.specs.declared.station.Station.{Station};
 ghost use Rattle.definitions.specs.answers.Blocks.{IsBlock, union_cost};
 ghost use Rattle.definitions.specs.time.Calendar.{minutes_per_day};
 ghost use Rattle.minute_parts.specs.Walks.{reach};
-ghost use Rattle.block_costs.specs.declared.hours.TheConstants.{DAY_HOURS};
+ghost use Rattle.block_costs.specs.declared.local_hours.TheConstants.{DAY_HOURS};
 ghost use Rattle.field_tables.specs.Blocks.{AreUnionsOver, HasShortWalks};
 ghost use Rattle.field_tables.specs.Days.{IsDayRowOf, hour_of};
 ghost use Rattle.field_tables.specs.Sums.{costs_by};

@@ -27,8 +27,8 @@ pub fn meets_leap_end(civil: &Civil, lo: u32, end: u32) -> bool
 }
 
 impl WindowSums {
-    /// A minute of the block, or its end. Walks that begin before it are meant to end before the last minute of the UTC day in
-    /// which the block begins; no clause says so, and who asks looks whether they are regular.
+    /// A minute of the block, or its end: walks that begin before it should end before the last minute of the UTC day in which
+    /// the block begins. A guess for speed; callers check it.
     pub fn early_until(&self, block: &Block) -> u32
         requires order { block.now.lo < block.now.hi }
         requires century { block.now.hi ≤ century_minutes }

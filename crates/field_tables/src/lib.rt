@@ -1,4 +1,5 @@
-//! What a search asks of a window's sequences and of blocks of them, by tables that are made once for a log.
+//! What a search asks of a window's sequences and of blocks of them, by tables that are made once for a log. They are tables
+//! of costs: of the fields of telegrams, after which the crate is named, they know nothing.
 #![tactic(auto)]
 
 mod bound;

@@ -10,9 +10,10 @@ ghost use Rattle.field_tables.specs.Hours.{IsRowOf, bound_of, sequence_at};
 ghost use Rattle.field_tables.specs.Sums.{costs_by};
 
 use crate::sums::WindowSums;
-use block_costs::{HOUR_MINUTES, MinuteCosts};
+use block_costs::MinuteCosts;
 use civil::Civil;
 use definitions::Block;
+use minute_parts::HOUR_MINUTES;
 
 /// What is or isn't so in each minute of an hour: entry `i` is that of the block's minute that comes `i` minutes after its
 /// first.

@@ -5,7 +5,7 @@ ghost use Rattle.slot_columns.specs.declared.limits.TheConstants.{SECONDS_PER_MI
 ghost use Rattle.minute_parts.specs.Unions.{AreRegular};
 ghost use Rattle.walk_costs.specs.Stretches.{AreMarked};
 ghost use Rattle.minute_parts.specs.Walks.{later_minutes};
-ghost use Rattle.block_costs.specs.declared.minutes.TheConstants.{HOUR_MINUTES};
+ghost use Rattle.minute_parts.specs.declared.hour_layers.TheConstants.{HOUR_MINUTES};
 
 use crate::minutes::Flags;
 use walk_costs::StationWalks;

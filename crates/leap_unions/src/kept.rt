@@ -2,8 +2,9 @@
 
 ghost use Rattle.std.specs.Prelude.{ℕ, ◌≡◌, ◌+◌, ◌*◌, ◌<◌, ◌≤◌, bit_or, slice_index};
 
-use crate::rows::{PLACES, Row, SECONDS};
+use crate::rows::{PLACES, Row};
 use crate::tapes::Tape;
+use minute_parts::SECONDS;
 
 /// The row of the walks that begin in the minutes from `lo` up to, and without, `hi`.
 #[derive(Clone, Copy)]

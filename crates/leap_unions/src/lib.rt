@@ -4,8 +4,8 @@
 
 mod kept;
 mod leap_ends;
-mod maker;
 mod pieces;
+mod row_maker;
 mod rows;
 mod sets;
 mod tapes;

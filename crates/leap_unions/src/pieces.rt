@@ -10,7 +10,7 @@ ghost use Rattle.leap_unions.specs.Pieces.{AreOfBoth, AreUnionsFrom};
 
 use crate::kept::Kept;
 use crate::leap_ends::{LONGEST_YEAR, next_leap_end};
-use crate::maker::row_reach;
+use crate::row_maker::row_reach;
 use crate::rows::regular_row;
 use crate::sets::{Sets, either, sets_from};
 use crate::tapes::tape_of;

@@ -4,11 +4,8 @@ ghost use Rattle.std.specs.Prelude.{ℕ, ◌≡◌, ◌+◌, ◌*◌, ◌<◌, �
 ghost use Rattle.minute_parts.specs.Layers.{AreLayers};
 ghost use Rattle.minute_parts.specs.Unions.{AreRegular, IsUnionOver};
 
-use minute_parts::{Layers, Part, Unions};
+use minute_parts::{Layers, Part, SECONDS, Unions};
 use signal_base::MOST_SECONDS;
-
-/// How many seconds a minute has that has no leap second.
-pub const SECONDS: usize = 60;
 
 /// The most seconds from the start of a walk's first minute to its end.
 pub const PLACES: usize = MOST_SECONDS as usize + SECONDS;

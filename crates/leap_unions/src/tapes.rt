@@ -5,9 +5,10 @@ ghost use Rattle.definitions.specs.codes.Allowed.{encoded_year};
 ghost use Rattle.definitions.specs.sequences.Walks.{IsSequence, place_at, set_at};
 ghost use Rattle.definitions.specs.time.Calendar.{century_minutes};
 
-use crate::rows::{MOST_REACH, PLACES, SECONDS};
+use crate::rows::{MOST_REACH, PLACES};
 use civil::Civil;
 use definitions::Sequence;
+use minute_parts::SECONDS;
 use sequence::{next_place, set_in};
 use signal_base::Station;
 

@@ -7,8 +7,8 @@ ghost use Rattle.definitions.specs.sequences.Windows.{IsWindow};
 ghost use Rattle.definitions.specs.answers.Blocks.{HasWalk, IsBlock, IsUnion};
 ghost use Rattle.leap_unions.specs.Walks.{IsLeapWalk};
 
-use crate::maker::{Maker, Rows};
 use crate::pieces::Walks;
+use crate::row_maker::{Maker, Rows};
 use crate::sets::Sets;
 use crate::walk::{LeapWalk, tape_with, walk_of};
 use civil::Civil;

@@ -8,10 +8,10 @@ ghost use Rattle.leap_unions.specs.Kept.{IsKeptTape};
 ghost use Rattle.leap_unions.specs.Walks.{IsLeapWalk, unannounced_from};
 
 use crate::leap_ends::LONGEST_YEAR;
-use crate::rows::{Row, SECONDS, regular_row};
+use crate::rows::{Row, regular_row};
 use crate::sets::{Sets, sets_from};
 use crate::tapes::KeptTape;
-use minute_parts::{Unions, later_minutes};
+use minute_parts::{SECONDS, Unions, later_minutes};
 use signal_base::Station;
 
 /// What an announced walk carries that begins shortly before a leap second may be inserted.

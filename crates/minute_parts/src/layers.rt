@@ -18,9 +18,8 @@ pub struct Layers {
 
 impl Unions {
     /// The unions over the minutes from `lo` up to, and without, `hi`, and over those that come 1 to `reach` minutes later,
-    /// where these have one union, whichever of them it is. None where the minutes that all of them share tell less than
-    /// all of them together, or where they share none. That comes where the date changes, so a caller asks for the unions
-    /// one by one then.
+    /// where these have one union, whichever of them it is. None if it may differ from minute to minute, as where the date
+    /// changes: a caller then asks for the unions one by one.
     pub fn layers(&self, announced: bool, lo: u32, hi: u32, reach: u32) -> Option<Layers>
         requires some { lo < hi }
         requires regular { AreRegular announced lo (hi + reach) self.now.end }

@@ -27,7 +27,7 @@ pub use call::{
 pub use hour_layers::HOUR_MINUTES;
 pub use laws::{block_unions_are_unions_over_minutes, hours_tell_time_and_date};
 pub use layers::Layers;
-pub use part::{Part, SECONDS, either, same};
+pub use part::{Part, SECONDS, either};
 pub use parts::Parts;
 pub use runs::Run;
 pub use unions::Unions;

@@ -6,7 +6,7 @@
 #![tactic(auto)]
 
 mod columns;
-mod day;
+mod day_columns;
 mod layered;
 mod limits;
 mod part;

@@ -11,7 +11,7 @@ ghost use Rattle.slot_columns.specs.Parts.{AreOfWalks, AreWalkCosts, entry};
 ghost use Rattle.slot_columns.specs.Rows.{IsBounded};
 
 use crate::columns::SlotColumns;
-use crate::day::{Day, DayColumn};
+use crate::day_columns::{Day, DayColumn};
 use crate::limits::{DAY_MINUTES, LATER_MINUTES, SECONDS_PER_MINUTE};
 use crate::part::Part;
 use crate::slots::{Row, SlotCosts};

@@ -1,5 +1,5 @@
 -- What a walk of 60 seconds in each minute costs by the two parts of its telegrams, and what DUT1 adds to it.
-use Rattle.std.specs.Prelude.{ℕ, ◌≡◌, ◌+◌, ◌-◌, ◌%◌, ◌<◌, ◌≤◌, Bool, true, false, ◌||◌, if◌then◌else◌, List, length, map, slice_index, unwrap_or, ℤ}
+use Rattle.std.specs.Prelude.{ℕ, ◌≡◌, ◌+◌, ◌-◌, ◌%◌, ◌<◌, ◌≤◌, true, false, if◌then◌else◌, List, length, map, slice_index, unwrap_or, ℤ}
 use Rattle.std.specs.List.{range_with_len}
 use Rattle.signal_base.specs.declared.station.Station.{Station}
 use Rattle.definitions.specs.codes.Vocabulary.{free, only}

@@ -9,8 +9,8 @@ mod date;
 mod dut;
 mod kept;
 mod marks;
+mod set_costs;
 mod shown;
-mod small;
 mod stretch;
 #[cfg(test)]
 mod tests;

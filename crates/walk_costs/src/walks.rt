@@ -14,8 +14,8 @@ ghost use Rattle.walk_costs.specs.Walks.{AreSmall, IsDateCost, IsRegularIn, IsSh
 use crate::date::DateCost;
 use crate::dut::added;
 use crate::kept::dates_of;
+use crate::set_costs::look_at_all;
 use crate::shown::{Shown, TWO_MINUTES, differs_elsewhere, is_told_alike, some_slot_shows};
-use crate::small::look_at_all;
 use civil::Civil;
 use definitions::{CENTURY_MINUTES, MINUTES_PER_DAY, MINUTES_PER_HOUR};
 use minute_parts::{CALL_MINUTE, CALL_MINUTES, Part, Parts, Unions, later_minutes};

@@ -1,5 +1,5 @@
 use Rattle.std.proofs.Common.{◌≡◌, ◌+◌, ◌<◌, ◌≤◌, ℕ, length, get_or}
-use Rattle.block_costs.specs.declared.hours.TheConstants.{DAY_HOURS}
+use Rattle.block_costs.specs.declared.local_hours.TheConstants.{DAY_HOURS}
 use Rattle.block_costs.proofs.day.add_row.Given as goal
 
 abbrev pub invariant-loop-j : goal.invariant-loop-j

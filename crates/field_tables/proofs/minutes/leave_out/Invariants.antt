@@ -1,5 +1,5 @@
 use Rattle.std.proofs.Common.{ℕ, ◌≡◌, ◌<◌, ◌≤◌, false, if◌then◌else◌, length, get_or}
-use Rattle.block_costs.specs.declared.minutes.TheConstants.{HOUR_MINUTES}
+use Rattle.minute_parts.specs.declared.hour_layers.TheConstants.{HOUR_MINUTES}
 use Rattle.field_tables.specs.declared.minutes.TheConstants.{NOT_LEGAL}
 use Rattle.field_tables.proofs.minutes.leave_out.Given as goal
 

@@ -1,6 +1,6 @@
 use Rattle.std.proofs.Common.{◌-◌, ◌≤◌}
 use Rattle.block_costs.specs.Days.{AreHoursAdded}
-use Rattle.block_costs.specs.declared.hours.TheConstants.{DAY_HOURS}
+use Rattle.block_costs.specs.declared.local_hours.TheConstants.{DAY_HOURS}
 use Rattle.block_costs.proofs.blocks.StationBlocks.add_hours.Given as goal
 
 abbrev pub invariant-loop-h : goal.invariant-loop-h

@@ -1,6 +1,6 @@
 use Rattle.std.proofs.Common.{◌≡◌, ◌-◌, ◌≤◌, length}
 use Rattle.walk_costs.specs.Stretches.{AreAddedCosts}
-use Rattle.block_costs.specs.declared.minutes.TheConstants.{HOUR_MINUTES}
+use Rattle.minute_parts.specs.declared.hour_layers.TheConstants.{HOUR_MINUTES}
 use Rattle.block_costs.proofs.blocks.StationBlocks.add_minute_costs.Given as goal
 
 abbrev pub invariant-loop-t : goal.invariant-loop-t

@@ -1,6 +1,6 @@
 use Rattle.std.proofs.Common.{◌≡◌, ◌-◌, ◌≤◌, length}
 use Rattle.walk_costs.specs.Stretches.{AreMarked}
-use Rattle.block_costs.specs.declared.minutes.TheConstants.{HOUR_MINUTES}
+use Rattle.minute_parts.specs.declared.hour_layers.TheConstants.{HOUR_MINUTES}
 use Rattle.field_tables.proofs.station.StationSums.add_shown.Given as goal
 
 abbrev pub invariant-loop-t : goal.invariant-loop-t

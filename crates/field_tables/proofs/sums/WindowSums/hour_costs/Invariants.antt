@@ -2,7 +2,7 @@ use Rattle.std.proofs.Common.{◌≡◌, ℕ, ◌<◌, slice_index, sum_by, take
 use Rattle.signal_base.specs.declared.station.Station.{Station}
 use Rattle.definitions.specs.heard.Costs.{set_cost, sum_below}
 use Rattle.symbol_cost.specs.Grid.{Grid, cost_at}
-use Rattle.block_costs.specs.declared.hours.TheConstants.{DAY_HOURS}
+use Rattle.block_costs.specs.declared.local_hours.TheConstants.{DAY_HOURS}
 use Rattle.field_tables.specs.Blocks.{AreUnionsOver}
 use Rattle.field_tables.specs.Days.{hour_of}
 use Rattle.field_tables.specs.Sums.{grids_of}

@@ -3,7 +3,7 @@ use Rattle.definitions.specs.heard.Costs.{station_cost}
 use Rattle.symbol_cost.specs.Grid.{Grid, cost_at}
 use Rattle.field_tables.specs.Hours.{sequence_at}
 use Rattle.field_tables.specs.Sums.{grids_of}
-use Rattle.block_costs.specs.declared.minutes.TheConstants.{HOUR_MINUTES}
+use Rattle.minute_parts.specs.declared.hour_layers.TheConstants.{HOUR_MINUTES}
 use Rattle.field_tables.proofs.SumLaws.{IsWithin}
 use Rattle.field_tables.proofs.sums.WindowSums.minute_costs.Given as goal
 

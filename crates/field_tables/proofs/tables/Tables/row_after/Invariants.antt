@@ -1,6 +1,6 @@
 -- The entries of the minutes so far.
 use Rattle.std.proofs.Common.{ℕ, ◌≡◌, ◌<◌, length, get_or}
-use Rattle.block_costs.specs.declared.minutes.TheConstants.{HOUR_MINUTES}
+use Rattle.minute_parts.specs.declared.hour_layers.TheConstants.{HOUR_MINUTES}
 use Rattle.field_tables.specs.Scored.{costs_of}
 use Rattle.field_tables.proofs.RowLaws.{IsEntry}
 use Rattle.field_tables.proofs.tables.Tables.row_after.Given as goal

@@ -1,0 +1,15 @@
+use Rattle.std.proofs.Common.{◌≡◌, ◌%◌, ◌<◌, ℕ, false, [], length, get_or}
+use Rattle.definitions.specs.time.Calendar.{minutes_per_day}
+use Rattle.slot_columns.specs.declared.limits.TheConstants.{REACHED_MINUTES, SECONDS_PER_MINUTE, SETS}
+use Rattle.slot_columns.specs.Parts.{entry}
+use Rattle.slot_columns.specs.Rows.{index_of}
+use Rattle.slot_columns.proofs.day_columns.Day.make.Given as goal
+
+abbrev pub invariant-loop-s : goal.invariant-loop-s
+invariant-loop-s l = record {
+  long : length l.used ≡ SECONDS_PER_MINUTE;
+  count : length l.columns.items ≡ l.s;
+  sets : (s i : ℕ) → s < l.s → i < REACHED_MINUTES → entry l.columns.items s i ≡ index_of (get_or (get_or l.times (i % minutes_per_day) []) s 0);
+  bound : (s i : ℕ) → s < l.s → i < REACHED_MINUTES → entry l.columns.items s i < SETS;
+  unused : (s i : ℕ) → s < l.s → get_or l.used s false ≡ false → i < REACHED_MINUTES → entry l.columns.items s i ≡ 0;
+}
