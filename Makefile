@@ -15,7 +15,7 @@ FRESH = test -x build/tsbank && test -z "$$(find crates.txt crates -name out -pr
 IN_CRATE = test -n "$$CRATE" && test -d "crates/$$CRATE" || { echo "which crate? make $@ CRATE=pulse_log" >&2; exit 2; }; \
 	cd "crates/$$CRATE"
 
-.PHONY: help run build install test check try edits plant fmt bench clean toolchain
+.PHONY: help run build install test check try quick edits plant fmt bench clean toolchain
 
 help: ## lists these targets
 	@sed -n 's/^\([a-z]*\):.*## \(.*\)/make \1|\2/p' Makefile | awk -F'|' '{ printf "%-15s %s\n", $$1, $$2 }'
@@ -31,7 +31,7 @@ run: ## decodes the sample over the century: by build/tsbank, or in about a minu
 			2> ../../build/quick-run.txt || { cat ../../build/quick-run.txt >&2; exit 1; }; \
 	fi
 
-build: ## proves the program's crates and leaves build/tsbank (minutes at first)
+build: ## proves the program's crates and leaves build/tsbank (half an hour at first)
 	cd crates/tsbank && rt run -- encode wwvb 2024-02-29T12:34Z > /dev/null
 	install -d build
 	install -m 755 crates/tsbank/out/tsbank build/tsbank
@@ -54,6 +54,9 @@ check: ## proves one crate: CRATE=NAME
 
 try: ## runs one crate's tests unproved, in seconds: CRATE=NAME
 	@$(IN_CRATE) && rt try --test
+
+quick: ## runs every crate's tests unproved, side by side
+	@tools/quick
 
 edits: ## tries the wrong bodies of one crate, each of which must be refused: CRATE=NAME
 	@$(IN_CRATE) && cd ../.. && rt must-fail "$$CRATE"

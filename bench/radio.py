@@ -240,6 +240,12 @@ def moved(records, chance, most):
     return records[:1] + [(at + chance.below(2 * most + 1) - most, level) for at, level in records[1:]]
 
 
+def stretched(records, by):
+    """Every pulse of low carrier ends so many milliseconds later: all that follows a low is moved by them."""
+    levels = [None] + [level for _, level in records]
+    return [(at + by if before == "L" else at, level) for before, (at, level) in zip(levels, records)]
+
+
 def log_of(records, seconds, delay=0, head=None):
     """The text of a log, every time of it later by the delay, closed a second after its end."""
     lines = [f"# {head}"] if head else []
