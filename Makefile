@@ -18,7 +18,7 @@ IN_CRATE = test -n "$$CRATE" && test -d "crates/$$CRATE" || { echo "which crate?
 .PHONY: help run build install test check try edits plant fmt bench clean toolchain contrib-test contrib-daemons
 
 help: ## lists these targets
-	@sed -n 's/^\([a-z-]*\):.*## \(.*\)/make \1|\2/p' Makefile | awk -F'|' '{ printf "%-15s %s\n", $$1, $$2 }'
+	@sed -n 's/^\([a-z-]*\):.*## \(.*\)/make \1|\2/p' Makefile | awk -F'|' '{ printf "%-21s %s\n", $$1, $$2 }'
 
 run: ## decodes the sample over the century: by build/tsbank, or in about a minute by an unproved run where that is missing or old
 	@if $(FRESH); then \
