@@ -15,10 +15,10 @@ FRESH = test -x build/tsbank && test -z "$$(find crates.txt crates -name out -pr
 IN_CRATE = test -n "$$CRATE" && test -d "crates/$$CRATE" || { echo "which crate? make $@ CRATE=pulse_log" >&2; exit 2; }; \
 	cd "crates/$$CRATE"
 
-.PHONY: help run build install test check try quick edits plant fmt bench clean toolchain
+.PHONY: help run build install test check try quick edits plant fmt bench clean toolchain contrib-test contrib-daemons
 
 help: ## lists these targets
-	@sed -n 's/^\([a-z]*\):.*## \(.*\)/make \1|\2/p' Makefile | awk -F'|' '{ printf "%-15s %s\n", $$1, $$2 }'
+	@sed -n 's/^\([a-z-]*\):.*## \(.*\)/make \1|\2/p' Makefile | awk -F'|' '{ printf "%-21s %s\n", $$1, $$2 }'
 
 run: ## decodes the sample over the century: by build/tsbank, or in about a minute by an unproved run where that is missing or old
 	@if $(FRESH); then \
@@ -76,6 +76,12 @@ bench: ## measures the program: speed, memory, and how often its answers are wro
 	bench/failures
 	bench/terminal
 	bench/wrong-answers
+
+contrib-test: ## tests the scripts of contrib/ with build/tsbank: loggers in, the guard, what daemons are told
+	contrib/test
+
+contrib-daemons: ## runs contrib/live beside chronyd, ntpd and gpsd, where they are installed: some minutes
+	contrib/daemons
 
 clean: ## removes what was built and what checks kept (some gigabytes)
 	rm -rf crates/*/out build
