@@ -74,6 +74,7 @@ bench: ## measures the program: speed, memory, and how often its answers are wro
 	bench/search
 	bench/reading
 	bench/failures
+	bench/terminal
 	bench/wrong-answers
 
 clean: ## removes what was built and what checks kept (some gigabytes)

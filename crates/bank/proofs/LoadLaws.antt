@@ -1,11 +1,13 @@
 -- A configuration and its logs are loaded, or why not.
-use Rattle.std.proofs.Common.{◌≡◌, ℕ, suc, List, [], ◌∷◌, length, ⊎_elim, refl, sym, ap, ◌∙◌, subst}
+use Rattle.std.proofs.Common.{◌≡◌, ◌≢◌, ℕ, suc, List, [], ◌∷◌, length, Option, Some, None, ⊎_elim, refl, sym, ap, ◌∙◌, subst}
 use Rattle.definitions.specs.heard.Logs.{Records}
 use Rattle.bank_files.specs.Told.{Finds, Told}
 use Rattle.bank_files.specs.Fault.{HasFault}
 use Rattle.bank_files.specs.Seen.{ReadFails, SameCounts, Seen}
 use Rattle.bank_config.specs.Configuration.{PlainConfig, PlainReceiver}
-use Rattle.due.specs.Configurations.{IsBadConfiguration, IsConfiguration, logs_of}
+use Rattle.bank_config.specs.declared.fault.ConfigFault.{ConfigFault}
+use Rattle.bank_config.specs.declared.fault.ConfigFault.TheVariants as faults
+use Rattle.due.specs.Configurations.{IsBadConfiguration, IsConfiguration, fault_refusal, logs_of}
 use Rattle.due.specs.Inputs.{Configuration, Contents, Input}
 use Rattle.due.specs.Loads.{Bad_configuration, Bad_log, Reads_configuration, Reads_log}
 use Rattle.due.specs.LogFiles.{IsLogRead}
@@ -130,3 +132,10 @@ module _ (old mid : Seen) (name : List ℕ) (config : PlainConfig) (same : mid.t
         subst (λ (counts : List ℕ → ℕ). HasFault (counts all.3) (new.read_faults all.3)) counts.of_reads all.5,
       )
   logs_not_read new NoMemory counts is = same_counts old mid new counts is
+
+-- a fault that gets a line is one of the text
+pub is_of_text : (fault : ConfigFault) (refusal : Refusal) → fault_refusal fault ≡ Some refusal → fault ≢ faults.NoMemory
+is_of_text fault refusal line e = no_line (sym (ap fault_refusal e) ∙ line)
+  where
+    no_line : ◌≡◌ {A = Option Refusal} None (Some refusal) → ⊥
+    no_line e = cc

@@ -110,36 +110,33 @@ fn configuration_in(alloc: Global, bytes: &[u8]) -> Result<Config, Unloaded>
 {
     match read_config(alloc, bytes) {
         Ok(config) => Ok(config),
-        Err(fault) => {
-            if fault == ConfigFault::NoMemory {
-                return Err(Unloaded::NoMemory);
-            }
-            Err(Unloaded::Refused {
-                refusal: fault_refusal(fault),
-            })
-        }
+        Err(fault) => match fault_refusal(fault) {
+            Some(refusal) => Err(Unloaded::Refused { refusal }),
+            None => Err(Unloaded::NoMemory),
+        },
     }
 }
 
-// The line that a fault gets.
-fn fault_refusal(fault: ConfigFault) -> Refusal
+// The line that a fault of a text gets.
+fn fault_refusal(fault: ConfigFault) -> Option<Refusal>
     ensures { result ≡ fault_refusal fault }
 {
     match fault {
-        ConfigFault::NotToml => Refusal::ConfigNotToml,
-        ConfigFault::Missing { key } => Refusal::ConfigMissing {
+        ConfigFault::NotToml => Some(Refusal::ConfigNotToml),
+        ConfigFault::Missing { key } => Some(Refusal::ConfigMissing {
             key: name_of(key),
             receiver: receiver_of(key),
-        },
-        ConfigFault::WrongKind { key } => Refusal::ConfigWrongKind {
+        }),
+        ConfigFault::WrongKind { key } => Some(Refusal::ConfigWrongKind {
             key: name_of(key),
             receiver: receiver_of(key),
-        },
-        ConfigFault::OutOfRange { key } => Refusal::ConfigOutOfRange {
+        }),
+        ConfigFault::OutOfRange { key } => Some(Refusal::ConfigOutOfRange {
             key: name_of(key),
             receiver: receiver_of(key),
-        },
-        ConfigFault::UnknownKey | ConfigFault::NoMemory => Refusal::ConfigUnknownKey,
+        }),
+        ConfigFault::UnknownKey => Some(Refusal::ConfigUnknownKey),
+        ConfigFault::NoMemory => None,
     }
 }
 

@@ -1,3 +1,4 @@
+pub mod FaultLaws
 pub mod CostLaws
 pub mod EachLaws
 pub mod KindLaws

@@ -1,5 +1,5 @@
 -- A text is a configuration, or it is refused, in one way.
-use Rattle.std.proofs.Common.{◌≡◌, ℕ, ◌<◌, ◌≤◌, ◌⊎◌, inl, inr, List, length, Ok, Err, refl, sym, ◌∙◌, arith}
+use Rattle.std.proofs.Common.{◌≡◌, ℕ, ◌<◌, ◌≤◌, ◌⊎◌, inl, inr, List, length, Some, Ok, Err, refl, sym, ◌∙◌, arith}
 use Rattle.std.proofs.lemmas.Bool.{cases_lt}
 use Rattle.formats.specs.declared.refusal.Refusal.{Refusal}
 use Rattle.formats.specs.declared.refusal.Refusal.TheVariants.{ConfigTooLarge}
@@ -7,12 +7,14 @@ use Rattle.bank_config.specs.declared.limits.TheConstants.{CONFIG_LIMIT}
 use Rattle.bank_config.specs.declared.fault.ConfigFault.{ConfigFault}
 use Rattle.bank_config.specs.Checked.{Checked}
 use Rattle.bank_config.specs.Configuration.{PlainConfig, configuration_of}
+use Rattle.bank_config.specs.declared.fault.ConfigFault.TheVariants.{NotToml, Missing, WrongKind, OutOfRange, UnknownKey, NoMemory}
+use Rattle.bank_config.proofs.FaultLaws.{IsOfText, fault_of_text}
 use Rattle.due.specs.Configurations.{IsConfiguration, IsBadConfiguration, Too_large, Bad_key, fault_refusal}
 
 same_ok : (c : Checked PlainConfig) (a b : PlainConfig) → c ≡ Ok a → c ≡ Ok b → a ≡ b
 same_ok c a b e f = cc
 
-same_refusal : (c : Checked PlainConfig) (a b : ConfigFault) (r s : Refusal) → c ≡ Err a → c ≡ Err b → r ≡ fault_refusal a → s ≡ fault_refusal b → r ≡ s
+same_refusal : (c : Checked PlainConfig) (a b : ConfigFault) (r s : Refusal) → c ≡ Err a → c ≡ Err b → fault_refusal a ≡ Some r → fault_refusal b ≡ Some s → r ≡ s
 same_refusal c a b r s e f g h = cc
 
 ok_or_err : (c : Checked PlainConfig) (a : PlainConfig) (fault : ConfigFault) → c ≡ Ok a → c ≡ Err fault → ⊥
@@ -37,9 +39,17 @@ HasOutcome bytes = ((config : PlainConfig) × IsConfiguration bytes config) ⊎ 
 pub text_has_outcome : (bytes : List ℕ) → HasOutcome bytes
 text_has_outcome bytes = by_size (cases_lt CONFIG_LIMIT (length bytes))
   where
+    refused : length bytes ≤ CONFIG_LIMIT → (fault : ConfigFault) → configuration_of bytes ≡ Err fault → IsOfText fault → (refusal : Refusal) × IsBadConfiguration bytes refusal
+    refused fits NotToml is of_text = (_, Bad_key fits NotToml is refl)
+    refused fits (Missing k) is of_text = (_, Bad_key fits (Missing k) is refl)
+    refused fits (WrongKind k) is of_text = (_, Bad_key fits (WrongKind k) is refl)
+    refused fits (OutOfRange k) is of_text = (_, Bad_key fits (OutOfRange k) is refl)
+    refused fits UnknownKey is of_text = (_, Bad_key fits UnknownKey is refl)
+    refused fits NoMemory is of_text = absurd of_text
+
     by_keys : length bytes ≤ CONFIG_LIMIT → (c : Checked PlainConfig) → configuration_of bytes ≡ c → HasOutcome bytes
     by_keys fits (Ok config) is = inl (config, record { fits = fits; says = is })
-    by_keys fits (Err fault) is = inr (fault_refusal fault, Bad_key fits fault is refl)
+    by_keys fits (Err fault) is = inr (refused fits fault is (fault_of_text bytes fault is))
 
     by_size : (CONFIG_LIMIT < length bytes) ⊎ (length bytes ≤ CONFIG_LIMIT) → HasOutcome bytes
     by_size (inl large) = inr (ConfigTooLarge, Too_large large refl)

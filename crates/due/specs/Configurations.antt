@@ -34,14 +34,14 @@ receiver_of (key.Weight receiver) = Some receiver
 receiver_of (key.ReceiverStation receiver) = Some receiver
 receiver_of other = None
 
--- The line that a fault gets. Want of memory is none that a text can have, and gets no line of its own.
-abbrev pub fault_refusal : ConfigFault → Refusal
-fault_refusal NotToml = ConfigNotToml
-fault_refusal (Missing k) = ConfigMissing (name_of k) (receiver_of k)
-fault_refusal (WrongKind k) = ConfigWrongKind (name_of k) (receiver_of k)
-fault_refusal (OutOfRange k) = ConfigOutOfRange (name_of k) (receiver_of k)
-fault_refusal UnknownKey = ConfigUnknownKey
-fault_refusal NoMemory = ConfigUnknownKey
+-- The line that a fault of a text gets. Want of memory is no fault of a text, and gets none.
+abbrev pub fault_refusal : ConfigFault → Option Refusal
+fault_refusal NotToml = Some ConfigNotToml
+fault_refusal (Missing k) = Some (ConfigMissing (name_of k) (receiver_of k))
+fault_refusal (WrongKind k) = Some (ConfigWrongKind (name_of k) (receiver_of k))
+fault_refusal (OutOfRange k) = Some (ConfigOutOfRange (name_of k) (receiver_of k))
+fault_refusal UnknownKey = Some ConfigUnknownKey
+fault_refusal NoMemory = None
 
 -- these bytes are a configuration
 pub record IsConfiguration (bytes : List ℕ) (config : PlainConfig) : Type 0 where
@@ -52,7 +52,7 @@ pub record IsConfiguration (bytes : List ℕ) (config : PlainConfig) : Type 0 wh
 pub data IsBadConfiguration (bytes : List ℕ) (refusal : Refusal) : Type 0 where
   Too_large : CONFIG_LIMIT < length bytes → refusal ≡ ConfigTooLarge → IsBadConfiguration bytes refusal
   Bad_key : length bytes ≤ CONFIG_LIMIT → (fault : ConfigFault) → configuration_of bytes ≡ Err fault
-      → refusal ≡ fault_refusal fault → IsBadConfiguration bytes refusal
+      → fault_refusal fault ≡ Some refusal → IsBadConfiguration bytes refusal
 
 -- the logs of some receivers, of which the first has this number
 abbrev pub logs_from : ℕ → List PlainReceiver → List LogFile
