@@ -33,13 +33,32 @@ pub struct Fake<'a> {
 
 impl<'a> Fake<'a> {
     pub fn new(host: &'a HostRuntime, words: &'a [&'a [u8]], room: usize) -> Fake<'a> {
+        Fake::with(host, words, room, None)
+    }
+
+    /// One whose standard output goes to this terminal.
+    pub fn at(
+        host: &'a HostRuntime,
+        words: &'a [&'a [u8]],
+        room: usize,
+        screen: &'a Screen,
+    ) -> Fake<'a> {
+        Fake::with(host, words, room, Some(screen))
+    }
+
+    fn with(
+        host: &'a HostRuntime,
+        words: &'a [&'a [u8]],
+        room: usize,
+        screen: Option<&'a Screen>,
+    ) -> Fake<'a> {
         Fake {
             host,
             words,
             room,
             output: RefCell::new(Vec::new(host.alloc())),
             error: RefCell::new(Vec::new(host.alloc())),
-            screen: None,
+            screen,
             glued: Cell::new(false),
         }
     }

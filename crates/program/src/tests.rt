@@ -186,8 +186,7 @@ fn a_report_has_a_line_of_its_own(rt: HostRuntime) -> Result<(), Fail> {
         b"2000-12-31T23:59Z",
     ];
     let screen = Screen::new(rt.alloc(), BLANK);
-    let mut fake = Fake::new(&rt, &words, AMPLE);
-    fake.screen = Some(&screen);
+    let fake = Fake::at(&rt, &words, AMPLE, &screen);
     let progress = Progress::new(&screen, true);
     assert_eq!(rt; status_shown(&rt, &fake, &progress), 1);
     assert!(rt;
