@@ -25,40 +25,21 @@ pub struct Fake<'a> {
     pub room: usize,
     pub output: RefCell<Vec<u8>>,
     pub error: RefCell<Vec<u8>>,
-    /// The terminal to which standard output goes, where it goes to one.
-    pub screen: Option<&'a Screen>,
+    /// The terminal at which progress is shown, if it is, and to which standard output goes.
+    pub screen: Screen,
     /// Whether something was printed behind a line that shows progress.
     pub glued: Cell<bool>,
 }
 
 impl<'a> Fake<'a> {
     pub fn new(host: &'a HostRuntime, words: &'a [&'a [u8]], room: usize) -> Fake<'a> {
-        Fake::with(host, words, room, None)
-    }
-
-    /// One whose standard output goes to this terminal.
-    pub fn at(
-        host: &'a HostRuntime,
-        words: &'a [&'a [u8]],
-        room: usize,
-        screen: &'a Screen,
-    ) -> Fake<'a> {
-        Fake::with(host, words, room, Some(screen))
-    }
-
-    fn with(
-        host: &'a HostRuntime,
-        words: &'a [&'a [u8]],
-        room: usize,
-        screen: Option<&'a Screen>,
-    ) -> Fake<'a> {
         Fake {
             host,
             words,
             room,
             output: RefCell::new(Vec::new(host.alloc())),
             error: RefCell::new(Vec::new(host.alloc())),
-            screen,
+            screen: Screen::new(host.alloc(), BLANK),
             glued: Cell::new(false),
         }
     }
@@ -112,7 +93,7 @@ impl Print for Fake<'_> {
     }
 
     fn write_some(&self, bytes: &[u8]) -> io::Result<usize> {
-        if self.screen.is_some_and(|screen| screen.shows_a_line()) {
+        if self.screen.shows_a_line() {
             self.glued.set(true);
         }
         let mut output = self.output.try_borrow_mut()?;

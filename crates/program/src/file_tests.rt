@@ -11,7 +11,7 @@ use std::test::Fail;
 use std::{env, fs, io, process};
 
 // A path that no other run has. All of them have one length.
-pub(crate) fn own_path(rt: &HostRuntime, letter: char) -> io::Result<String> {
+fn own_path(rt: &HostRuntime, letter: char) -> io::Result<String> {
     let folder = env::temp_dir(rt)?;
     let number = process::id(rt.process());
     let path = format!(in rt.alloc(); "{}/tsbank-{number}-{letter}", folder.as_path().as_str());

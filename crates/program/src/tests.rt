@@ -1,12 +1,10 @@
 //! Runs of the whole program, over made-up words. The texts are worked out from docs/FORMATS.md.
 use crate::command_line::{HostLine, NoWords};
-use crate::fake::{Fake, Screen, holds};
-use crate::file_tests::own_path;
+use crate::fake::{Fake, holds};
 use crate::machine::HostMachine;
 use crate::messages::{explain, explain_no_words};
-use crate::progress::{BLANK, Progress};
+use crate::progress::Progress;
 use due::Status;
-use std::fs;
 use std::rt::Clock;
 use std::test::Fail;
 use std::thread::Threads;
@@ -169,36 +167,20 @@ fn says_nothing_of_answers_and_refused_logs(rt: HostRuntime) {
     }
 }
 
-// A log that tells nothing is searched for as long as any. By the terminal's clock that is more than a second.
+// By the terminal's clock each search of more than some draws takes longer than a second.
 #[test]
-fn a_report_has_a_line_of_its_own(rt: HostRuntime) -> Result<(), Fail> {
-    let path = own_path(&rt, 's')?;
-    fs::write(
-        &rt,
-        path.as_str(),
-        b"station = \"jjy\"\n[[receiver]]\nname = \"a\"\nlog = \"/dev/null\"\n",
-    )?;
-    let words = [
-        b"tsbank".as_slice(),
-        b"decode",
-        path.as_str().as_bytes(),
-        b"--to",
-        b"2000-12-31T23:59Z",
-    ];
-    let screen = Screen::new(rt.alloc(), BLANK);
-    let fake = Fake::at(&rt, &words, AMPLE, &screen);
-    let progress = Progress::new(&screen, true);
-    assert_eq!(rt; status_shown(&rt, &fake, &progress), 1);
-    assert!(rt;
-        holds(
-            &fake.output,
-            "undecided 0\nphase 0\nsequence 2000-01-01T00:00Z 0 no\nsequence 2000-01-01T00:01Z 0 no\n"
-        )
-    );
-    assert!(rt; screen.printed() > 1);
-    assert_eq!(rt; screen.found(), 1);
-    assert!(rt; !screen.shows_a_line());
+fn a_report_has_a_line_of_its_own(rt: HostRuntime) {
+    let words = [b"tsbank".as_slice(), b"trial", b"5"];
+    let fake = Fake::new(&rt, &words, AMPLE);
+    let progress = Progress::new(&fake.screen, true);
+    assert_eq!(rt; status_shown(&rt, &fake, &progress), 0);
+    assert!(rt; holds(&fake.output, TRIAL));
+    assert!(rt; fake.screen.printed() > 1);
+    assert_eq!(rt; fake.screen.found(), 1);
+    assert!(rt; !fake.screen.shows_a_line());
     assert!(rt; !fake.glued.get());
-    fs::remove_file(&rt, path.as_str())?;
-    Ok(())
 }
+
+// What the trial's number stands for, by docs/FORMATS.md.
+const TRIAL: &str =
+    "trial 5\nstation msf\nreceivers 2\nsent 2009-07-04T05:35Z 5 no\ndecided\nfirst 2009-07-04T05:35Z 5 no\n";
