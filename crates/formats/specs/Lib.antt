@@ -12,5 +12,8 @@ pub mod WordValues
 pub mod Orders
 pub mod OrderRanges
 pub mod WordExamples
+pub mod Frames
+pub mod FrameTexts
+pub mod FrameWalks
 pub mod Refusals
 pub mod Examples
