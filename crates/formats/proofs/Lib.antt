@@ -7,3 +7,6 @@ pub mod WordLimitLaws
 pub mod OrderRangeLaws
 pub mod WordExampleLaws
 pub mod LineOfLaws
+pub mod CheapestLaws
+pub mod SymbolLaws
+pub mod ShareLaws

@@ -1,10 +1,15 @@
 //! Worked examples of texts, which the checker computes from the definitions alone.
 
+mod heard;
 mod listings;
 mod logs;
 mod refusals;
 mod reports;
 
+pub use heard::{
+    lines_of_two_seconds, slots_by_their_dut1, slots_by_their_sets, sums_of_two_seconds,
+    text_of_silence,
+};
 pub use listings::{feeds, listed_minutes, sentences};
 pub use logs::{bad_lines, good_logs, limits_of_logs, lines_of_texts};
 pub use refusals::{refused_certificates, refused_configurations, refused_logs, refused_words};

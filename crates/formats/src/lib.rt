@@ -1,10 +1,12 @@
-//! The bytes of every text that the program reads or writes: log lines, reports, listings, the feed, trials and refusals.
-//! The definitions stand in `specs/`; here are the plain types that they speak of, a law of the grammar, and worked
+//! The bytes of every text that the program reads or writes: log lines, reports, listings, the feed, trials, what was heard
+//! and refusals. The definitions stand in `specs/`; here are the plain types that they speak of, laws of them, and worked
 //! examples.
 #![tactic(auto)]
 
 mod examples;
 mod fault;
+mod heard;
+mod heard_law;
 mod key;
 mod limits;
 mod log_law;
@@ -16,11 +18,18 @@ mod word_law;
 mod words;
 
 pub use examples::{
-    bad_lines, feeds, good_logs, heads_of_reports, limits_of_logs, lines_of_texts, listed_minutes,
-    minutes_of_reports, refused_certificates, refused_configurations, refused_logs, refused_words,
-    reports_without_a_decision, sentences, summaries_of_trials,
+    bad_lines, feeds, good_logs, heads_of_reports, limits_of_logs, lines_of_texts,
+    lines_of_two_seconds, listed_minutes, minutes_of_reports, refused_certificates,
+    refused_configurations, refused_logs, refused_words, reports_without_a_decision, sentences,
+    slots_by_their_dut1, slots_by_their_sets, summaries_of_trials, sums_of_two_seconds,
+    text_of_silence,
 };
 pub use fault::LineFault;
+pub use heard::{ReceiverHeard, SlotHeard};
+pub use heard_law::{
+    no_symbol_is_better, receivers_share_a_slot, receivers_share_the_cost, slots_share_the_cost,
+    symbols_are_those_of_the_sequence,
+};
 pub use key::KeyName;
 pub use limits::{LOG_LIMIT, LONGEST_NAME, MOST_RECORDS, TIME_LIMIT};
 pub use log_law::log_has_one_outcome;
