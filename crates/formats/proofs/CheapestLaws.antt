@@ -57,15 +57,15 @@ some_cheapest cost (x ∷ xs) some e = absurd (let found = (cheapest_found cost 
 -- what is found in a filtered list passes the filter
 pub found_passes : {A : Type 0} (test keep : A → Bool) (xs : List A) (y : A) → find test (filter keep xs) ≡ Some y → keep y ≡ true
 found_passes test keep [] y e = absurd cc
-found_passes test keep (x ∷ xs) y e = by_kept (keep x) refl e
+found_passes test keep (x ∷ xs) y e = by_kept (keep x) refl (found_passes test keep xs y) e
   where
-    by_kept : (b : Bool) → keep x ≡ b → find test (if b then x ∷ filter keep xs else filter keep xs) ≡ Some y → keep y ≡ true
-    by_kept false out f = found_passes test keep xs y f
-    by_kept true in_it f = by_test (test x) f
-      where
-        by_test : (b : Bool) → (if b then Some x else find test (filter keep xs)) ≡ Some y → keep y ≡ true
-        by_test true g = let same : x ≡ y = cc in subst (λ z. keep z ≡ true) same in_it
-        by_test false g = found_passes test keep xs y g
+    by_test : (b : Bool) → keep x ≡ true → (find test (filter keep xs) ≡ Some y → keep y ≡ true) → (if b then Some x else find test (filter keep xs)) ≡ Some y → keep y ≡ true
+    by_test true kept behind g = let same : x ≡ y = cc in subst (λ z. keep z ≡ true) same kept
+    by_test false kept behind g = behind g
+
+    by_kept : (b : Bool) → keep x ≡ b → (find test (filter keep xs) ≡ Some y → keep y ≡ true) → find test (if b then x ∷ filter keep xs else filter keep xs) ≡ Some y → keep y ≡ true
+    by_kept false out behind f = behind f
+    by_kept true kept behind f = by_test (test x) kept behind f
 
 -- what is found among n numbers from a on is one of them, and none before it passes
 abbrev IsFirst : (ℕ → Bool) → ℕ → ℕ → ℕ → Type 0
@@ -73,21 +73,19 @@ IsFirst test a n y = (a ≤ y) × (y < a + n) × ((x : ℕ) → a ≤ x → x < 
 
 first_in_range : (test : ℕ → Bool) (a n y : ℕ) → find test (range_with_len a n) ≡ Some y → IsFirst test a n y
 first_in_range test a zero y e = absurd cc
-first_in_range test a (suc n) y e = by_test (test a) refl e
+first_in_range test a (suc n) y e = by_test (test a) refl (first_in_range test (a + 1) n y) e
   where
-    by_test : (b : Bool) → test a ≡ b → (if b then Some a else find test (range_with_len (a + 1) n)) ≡ Some y → IsFirst test a (suc n) y
-    by_test true passes f =
+    by_test : (b : Bool) → test a ≡ b → (find test (range_with_len (a + 1) n) ≡ Some y → IsFirst test (a + 1) n y)
+        → (if b then Some a else find test (range_with_len (a + 1) n)) ≡ Some y → IsFirst test a (suc n) y
+    by_test true passes behind f =
         let same : a ≡ y = cc in
         (omega (arith, same), omega (arith, same), λ x from below. absurd (omega (arith, same, from, below)))
-    by_test false fails f =
-        let rest = first_in_range test (a + 1) n y f in (
-          omega (arith, rest.0),
-          omega (arith, rest.1),
-          λ x from below. elim (cases_order x a) [
-            | inl same ↦ subst (λ z. test z ≡ false) (sym same) fails
-            | inr apart ↦ rest.2 x (elim apart [ inl less ↦ absurd (omega arith) | inr more ↦ omega arith ]) below
-          ],
-        )
+    by_test false fails behind f =
+        let rest = behind f in
+        (omega (arith, rest.0), omega (arith, rest.1), λ x from below. elim (cases_order x a) [
+          | inl same ↦ subst (λ z. test z ≡ false) (sym same) fails
+          | inr apart ↦ rest.2 x (elim apart [ inl less ↦ absurd (omega arith) | inr more ↦ omega arith ]) below
+        ])
 
 -- the least of a number and of what n numbers from a on cost is above none of these
 abbrev IsBelow : (ℕ → ℕ) → ℕ → ℕ → ℕ → ℕ → Type 0

@@ -1,5 +1,5 @@
 -- What words ask for is in its ranges.
-use Rattle.std.proofs.Common.{◌≡◌, ℕ, ◌<◌, ◌≤◌, Bool, true, false, ◌&&◌, nat_le, nat_lt, if◌then◌else◌, List, [], ◌∷◌, length, bytes_eq, Option, Some, None, option_map, unwrap_or, Ok, Err, ok_or, slice_index_or, IfSome, is_some, refl, ap, subst, ◌∙◌, inl, inr, arith, eqb-true, ltb-true}
+use Rattle.std.proofs.Common.{◌≡◌, ℕ, ◌-◌, ◌<◌, ◌≤◌, Bool, true, false, ◌&&◌, nat_le, nat_lt, if◌then◌else◌, List, [], ◌∷◌, length, bytes_eq, Option, Some, None, option_map, unwrap_or, Ok, Err, ok_or, slice_index_or, IfSome, is_some, refl, ap, subst, ◌∙◌, inl, inr, arith, eqb-true, ltb-true}
 use Rattle.std.specs.Option.{option_and_then}
 use Rattle.std.specs.List.{list_all}
 use Rattle.std.proofs.lemmas.List.Folds.{list_all_at}
@@ -31,9 +31,9 @@ IfSome-all : {A : Type 0} {P : A → Type 0} (o : Option A) → ((a : A) → P a
 IfSome-all None all = tt
 IfSome-all (Some a) all = all a
 
-IfSome-map : {A B : Type 0} {f : A → B} {P : B → Type 0} (o : Option A) → IfSome o (λ a. P (f a)) → IfSome (option_map f o) P
-IfSome-map None h = tt
-IfSome-map (Some a) h = h
+IfSome-map : {A B : Type 0} (f : A → B) (P : B → Type 0) (o : Option A) → IfSome o (λ a. P (f a)) → IfSome (option_map f o) P
+IfSome-map f P None h = tt
+IfSome-map f P (Some a) h = h
 
 -- a chain of checks that ends well, at its first check and behind it
 pub along : {A B P : Type 0} (check : Checked A) (next : A → Checked B) (b : B) → (check >>= next) ≡ Ok b → ((a : A) → check ≡ Ok a → next a ≡ Ok b → P) → P
@@ -174,8 +174,8 @@ module _ (line : Line) (v : Values) (good : is_line line ≡ true) (are : AreVal
       by_command command.Decode is n = (file_good 0 (omega arith), are.asked, are.workers, certificate_good)
       by_command command.Check is n = (file_good 0 (omega arith), file_good 1 (omega arith), are.asked)
       by_command command.Feed is n = (file_good 0 (omega arith), are.asked, are.workers)
-      by_command (command.Encode station) is n = IfSome-map v.minute (minute_good station is)
-      by_command command.Trial is n = IfSome-map v.number (IfSome_then v.number are.number (λ number h. (h, are.workers)))
+      by_command (command.Encode station) is n = IfSome-map _ _ v.minute (minute_good station is)
+      by_command command.Trial is n = IfSome-map _ _ v.number (IfSome_then v.number are.number (λ number h. (h, are.workers)))
       by_command command.Follow is n = (file_good 0 (omega arith), are.asked, are.workers, are.step, are.count)
       by_command command.Sweep is n = (file_good 0 (omega arith), are.asked, are.workers, certificate_good)
       by_command command.Judge is n = (file_good 0 (omega arith), file_good 1 (omega arith), are.asked)
@@ -204,8 +204,8 @@ order_runs : (c : Command) (line : Line) (v : Values) → IfSome (order_with c l
 order_runs command.Decode line v = refl
 order_runs command.Check line v = refl
 order_runs command.Feed line v = refl
-order_runs (command.Encode station) line v = IfSome-map v.minute (IfSome-all v.minute (λ minute. refl))
-order_runs command.Trial line v = IfSome-map v.number (IfSome-all v.number (λ number. refl))
+order_runs (command.Encode station) line v = IfSome-map _ _ v.minute (IfSome-all v.minute (λ minute. refl))
+order_runs command.Trial line v = IfSome-map _ _ v.number (IfSome-all v.number (λ number. refl))
 order_runs command.Follow line v = refl
 order_runs command.Sweep line v = refl
 order_runs command.Judge line v = refl

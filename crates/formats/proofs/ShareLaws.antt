@@ -67,15 +67,15 @@ module _ {A : Type 0} where
   -- a sum over those of a list that pass a test
   kept_by : (p : A → Bool) (f : A → ℕ) (xs : List A) → sum_by f (filter p xs) ≡ sum_by (λ x. if p x then f x else 0) xs
   kept_by p f [] = refl
-  kept_by p f (x ∷ xs) = by_test (p x) refl
+  kept_by p f (x ∷ xs) = by_test (p x) refl (kept_by p f xs)
     where
-      by_test : (b : Bool) → p x ≡ b → sum_by f (if b then x ∷ filter p xs else filter p xs) ≡ sum_by (λ y. if p y then f y else 0) (x ∷ xs)
-      by_test true e =
+      by_test : (b : Bool) → p x ≡ b → sum_by f (filter p xs) ≡ sum_by (λ y. if p y then f y else 0) xs → sum_by f (if b then x ∷ filter p xs else filter p xs) ≡ sum_by (λ y. if p y then f y else 0) (x ∷ xs)
+      by_test true e rest =
           let term : f x ≡ (if p x then f x else 0) = ap (λ b. if b then f x else 0) (sym e) in
-          omega (arith, term, sum_by-cons f x (filter p xs), kept_by p f xs, sum_by-cons (λ y. if p y then f y else 0) x xs)
-      by_test false e =
+          omega (arith, term, sum_by-cons f x (filter p xs), rest, sum_by-cons (λ y. if p y then f y else 0) x xs)
+      by_test false e rest =
           let term : 0 ≡ (if p x then f x else 0) = ap (λ b. if b then f x else 0) (sym e) in
-          omega (arith, term, kept_by p f xs, sum_by-cons (λ y. if p y then f y else 0) x xs)
+          omega (arith, term, rest, sum_by-cons (λ y. if p y then f y else 0) x xs)
 
 -- a set costs what its symbol does
 set_shares : (station : Station) (costs : ℕ → ℕ) (set : ℕ) → cost_of costs (symbol_of_set station costs set) ≡ set_cost station costs set
@@ -109,10 +109,10 @@ module _ (station : Station) (costs : ℕ → ℕ → ℕ) (n : ℕ) (q : Sequen
   parted : (k : ℕ) (o : Option ℤ) (b : Bool)
       → cost_of (costs k) (if b then option_map (λ d. dut1_symbol station d (second k)) o else symbol_of_set station (costs k) (set_at station q k))
       ≡ (if b then 0 else in_set k) + (if b then cost_of (costs k) (option_map (λ d. dut1_symbol station d (second k)) o) else 0)
-  parted k o true = refl
+  parted k o true = omega arith
   parted k o false = omega (arith, set_shares station (costs k) (set_at station q k))
 
-  no_value : (b : Bool) → (if b then 0 else 0) ≡ 0
+  no_value : (b : Bool) → ◌≡◌ {A = ℕ} (if b then 0 else 0) 0
   no_value true = refl
   no_value false = refl
 
@@ -195,7 +195,7 @@ module _ (h : Hearing) (k : ℕ) where
   receivers_are_heard : (station : Station) (m : ℕ) (rs : List Receiver)
       → together m rs station ≡ sum_by (λ r. cost_of (at station r) (sent_in h k station)) (heard_of station rs)
   receivers_are_heard station m [] = refl
-  receivers_are_heard station m (r ∷ rs) = by_test (number_of r.station == number_of station) refl
+  receivers_are_heard station m (r ∷ rs) = by_test (number_of r.station == number_of station) refl (receivers_are_heard station (m + 1) rs)
     where
       others : List Numbered
       others = filter (listens station) (numbered_from (m + 1) rs)
@@ -204,13 +204,14 @@ module _ (h : Hearing) (k : ℕ) where
       term s = cost_of (at station s) (sent_in h k station)
 
       by_test : (b : Bool) → (number_of r.station == number_of station) ≡ b
+          → together (m + 1) rs station ≡ sum_by term (heard_of station rs)
           → sum_by (λ s. s.cost) (map (receiver_heard h k) (if b then (m, r) ∷ others else others))
           ≡ sum_by term (map (λ s. s.heard) (if b then r ∷ filter (λ s. number_of s.station == number_of station) rs else filter (λ s. number_of s.station == number_of station) rs))
-      by_test true e =
+      by_test true e rest =
           let first : cost_in (m, r) ≡ term r.heard = ap (λ s. cost_of (at s r.heard) (sent_in h k s)) (same_station r.station station e) in
           sum_by-cons (λ s. s.cost) (receiver_heard h k (m, r)) (map (receiver_heard h k) others)
-          ∙ plus first (receivers_are_heard station (m + 1) rs) ∙ sym (sum_by-cons term r.heard (heard_of station rs))
-      by_test false e = receivers_are_heard station (m + 1) rs
+          ∙ plus first rest ∙ sym (sum_by-cons term r.heard (heard_of station rs))
+      by_test false e rest = rest
 
   pub slot_law : (station : Station) → sum_by (λ r. r.cost) (receivers_heard h k station) ≡ (slot_of h k station).cost
   slot_law station = receivers_are_heard station 1 h.receivers ∙ shared_by (at station) (sent_in h k station) (heard_of station h.receivers)

@@ -139,15 +139,15 @@ module _ (station : Station) (costs : ℕ → ℕ → ℕ) (n : ℕ) (q : Sequen
 -- the one value among those that cost least is the first of them
 only_value : (test : ℤ → Bool) (ds : List ℤ) (d : ℤ) → dut_among (filter test ds) ≡ Tenths d → find test ds ≡ Some d
 only_value test [] d e = absurd cc
-only_value test (c ∷ ds) d e = by_test (test c) e
+only_value test (c ∷ ds) d e = by_test (test c) (only_value test ds d) e
   where
     alone : (cs : List ℤ) → dut_among (c ∷ cs) ≡ Tenths d → Some c ≡ Some d
     alone [] f = let same : c ≡ d = cc in ap Some same
     alone (b ∷ cs) f = absurd cc
 
-    by_test : (b : Bool) → dut_among (if b then c ∷ filter test ds else filter test ds) ≡ Tenths d → (if b then Some c else find test ds) ≡ Some d
-    by_test true f = alone (filter test ds) f
-    by_test false f = only_value test ds d f
+    by_test : (b : Bool) → (dut_among (filter test ds) ≡ Tenths d → find test ds ≡ Some d) → dut_among (if b then c ∷ filter test ds else filter test ds) ≡ Tenths d → (if b then Some c else find test ds) ≡ Some d
+    by_test true behind f = alone (filter test ds) f
+    by_test false behind f = behind f
 
 pub dut1_law : (station : Station) (costs : ℕ → ℕ → ℕ) (n : ℕ) (q : Sequence) (d : ℤ) → dut_of station costs n q ≡ Tenths d → told_value station costs n q ≡ Some d
 dut1_law station costs n q d e = by_case (not (has_dut1 station)) (not (lies_in_one_day n q)) e
