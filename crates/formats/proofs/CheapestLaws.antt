@@ -1,5 +1,5 @@
 -- The cheapest of some things: one of them, which costs as little as the least of their costs, and before which none does.
-use Rattle.std.proofs.Common.{◌≡◌, ◌≢◌, ℕ, zero, suc, ◌+◌, ◌<◌, ◌≤◌, ◌⊎◌, inl, inr, Bool, true, false, ◌==◌, if◌then◌else◌, List, [], ◌∷◌, map, filter, fold, find, min, Option, Some, None, unwrap_or, refl, sym, ap, ◌∙◌, subst, arith, eqb-true, eq-eqb}
+use Rattle.std.proofs.Common.{◌≡◌, ◌≢◌, ℕ, zero, suc, ◌+◌, ◌<◌, ◌≤◌, ◌⊎◌, inl, inr, Bool, true, false, ◌==◌, if◌then◌else◌, List, [], ◌∷◌, map, filter, fold, find, min, Some, None, unwrap_or, refl, sym, ap, ◌∙◌, subst, arith, eqb-true, eq-eqb}
 use Rattle.std.specs.List.{range_with_len}
 use Rattle.std.proofs.lemmas.Bool.{cases_order, cases_lt, eqb-false}
 use Rattle.definitions.specs.heard.Costs.{least}
@@ -81,11 +81,14 @@ first_in_range test a (suc n) y e = by_test (test a) refl (first_in_range test (
         let same : a ≡ y = cc in
         (omega (arith, same), omega (arith, same), λ x from below. absurd (omega (arith, same, from, below)))
     by_test false fails behind f =
-        let rest = behind f in
-        (omega (arith, rest.0), omega (arith, rest.1), λ x from below. elim (cases_order x a) [
-          | inl same ↦ subst (λ z. test z ≡ false) (sym same) fails
-          | inr apart ↦ rest.2 x (elim apart [ inl less ↦ absurd (omega arith) | inr more ↦ omega arith ]) below
-        ])
+        let rest = behind f in (
+          omega (arith, rest.0),
+          omega (arith, rest.1),
+          λ x from below. elim (cases_order x a) [
+            | inl same ↦ subst (λ z. test z ≡ false) (sym same) fails
+            | inr apart ↦ rest.2 x (elim apart [ inl less ↦ absurd (omega arith) | inr more ↦ omega arith ]) below
+          ],
+        )
 
 -- the least of a number and of what n numbers from a on cost is above none of these
 abbrev IsBelow : (ℕ → ℕ) → ℕ → ℕ → ℕ → ℕ → Type 0

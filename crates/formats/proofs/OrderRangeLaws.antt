@@ -1,11 +1,10 @@
 -- What words ask for is in its ranges.
-use Rattle.std.proofs.Common.{◌≡◌, ℕ, ◌-◌, ◌<◌, ◌≤◌, Bool, true, false, ◌&&◌, nat_le, nat_lt, if◌then◌else◌, List, [], ◌∷◌, length, bytes_eq, Option, Some, None, option_map, unwrap_or, Ok, Err, ok_or, slice_index_or, IfSome, is_some, refl, ap, subst, ◌∙◌, inl, inr, arith, eqb-true, ltb-true}
+use Rattle.std.proofs.Common.{◌≡◌, ℕ, ◌-◌, ◌<◌, ◌≤◌, Bool, true, false, ◌&&◌, nat_le, nat_lt, if◌then◌else◌, List, [], ◌∷◌, length, bytes_eq, Option, Some, None, option_map, unwrap_or, Ok, Err, ok_or, slice_index_or, IfSome, refl, ap, subst, ◌∙◌, inl, inr, arith, eqb-true, ltb-true}
 use Rattle.std.specs.Option.{option_and_then}
 use Rattle.std.specs.List.{list_all}
 use Rattle.std.proofs.lemmas.List.Folds.{list_all_at}
 use Rattle.std.proofs.lemmas.Option.{IfSome_then}
 use Rattle.std.proofs.lemmas.Bool.{and_parts, cases_Bool, leb-true, ltb-false}
-use Rattle.signal_base.specs.declared.limits.TheConstants.{START_LIMIT}
 use Rattle.signal_base.specs.declared.station.Station.{Station}
 use Rattle.definitions.specs.time.Calendar.{century_minutes}
 use Rattle.definitions.specs.codes.Allowed.{encoded_year}

@@ -1,5 +1,5 @@
 -- Slots, stations and receivers share what a sequence costs.
-use Rattle.std.proofs.Common.{◌≡◌, ℕ, zero, suc, ◌+◌, ◌*◌, ◌<◌, Bool, true, false, ◌==◌, ◌&&◌, if◌then◌else◌, List, [], ◌∷◌, map, filter, sum_by, Option, Some, None, option_map, unwrap_or, ℤ, refl, sym, ap, ◌∙◌, arith}
+use Rattle.std.proofs.Common.{◌≡◌, ℕ, zero, suc, ◌+◌, ◌*◌, Bool, true, false, ◌==◌, ◌&&◌, if◌then◌else◌, List, [], ◌∷◌, map, filter, sum_by, Option, Some, None, option_map, unwrap_or, ℤ, refl, sym, ap, ◌∙◌, arith}
 use Rattle.std.specs.List.{list_all}
 use Rattle.std.proofs.lemmas.Bool.{and_parts}
 use Rattle.std.proofs.lemmas.List.Sums.{sum_by-cons}
@@ -17,9 +17,8 @@ use Rattle.definitions.specs.time.Places.{second_of}
 use Rattle.definitions.specs.sequences.Walks.{place_at, set_at}
 use Rattle.definitions.specs.heard.Dut1.{is_dut1_second, dut1_symbol, dut1_values}
 use Rattle.definitions.specs.heard.Receivers.{Reception, Receiver, heard_of}
-use Rattle.definitions.specs.heard.Costs.{Costs, bank_costs, cost_outside_dut1, dut1_cost, least, least_dut1_cost, second_cost, sequence_cost, set_cost, slot_cost, station_cost, sum_below, symbols_of}
-use Rattle.formats.specs.declared.heard.ReceiverHeard.{ReceiverHeard}
-use Rattle.formats.specs.Heard.{Hearing, Numbered, cheapest, cost_at, cost_of, costs_of, numbered_from, numbered, receiver_heard, receiver_sum, receiver_sums, receivers_heard, sent_in, slot_begin_at, slot_heard, slot_of, symbol_of_set, tells_one_value, told_value}
+use Rattle.definitions.specs.heard.Costs.{Costs, cost_outside_dut1, dut1_cost, least, least_dut1_cost, second_cost, sequence_cost, set_cost, station_cost, sum_below, symbols_of}
+use Rattle.formats.specs.Heard.{Hearing, Numbered, cheapest, cost_of, costs_of, numbered_from, numbered, receiver_heard, receiver_sum, receiver_sums, receivers_heard, sent_in, slot_heard, slot_of, symbol_of_set, tells_one_value, told_value}
 use Rattle.formats.proofs.CheapestLaws.{cheapest_costs}
 
 -- sums of nothing, of the same terms, of two sums

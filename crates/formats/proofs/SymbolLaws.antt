@@ -1,10 +1,9 @@
 -- Which symbol is sent: one that the second may carry, wherever it is scored; and the value of DUT1 that a report tells.
-use Rattle.std.proofs.Common.{◌≡◌, ◌≢◌, ℕ, ◌<◌, ◌⊎◌, inl, inr, Bool, true, false, not, ◌==◌, ◌&&◌, if◌then◌else◌, List, [], ◌∷◌, map, filter, find, Option, Some, None, option_map, ℤ, refl, sym, ap, ◌∙◌, subst, arith}
+use Rattle.std.proofs.Common.{◌≡◌, ◌≢◌, ℕ, ◌<◌, inl, inr, Bool, true, false, not, ◌==◌, ◌&&◌, if◌then◌else◌, List, [], ◌∷◌, filter, find, Option, Some, None, option_map, ℤ, refl, sym, ap, ◌∙◌, subst, arith}
 use Rattle.std.proofs.lemmas.Bool.{and_parts, ne_eqb}
 use Rattle.signal_base.specs.Mask.{has_bit}
 use Rattle.signal_base.specs.Waveform.{symbol_count}
-use Rattle.signal_base.specs.declared.dut.Dut.{Dut}
-use Rattle.signal_base.specs.declared.dut.Dut.TheVariants.{Absent, Free, Tied, Tenths}
+use Rattle.signal_base.specs.declared.dut.Dut.TheVariants.{Absent, Free, Tenths}
 use Rattle.signal_base.specs.declared.station.Station.{Station}
 use Rattle.signal_base.specs.declared.station.Station.TheVariants.{Dcf77, Msf, Wwvb, Jjy}
 use Rattle.definitions.specs.declared.sequence.Sequence.{Sequence}
