@@ -16,3 +16,6 @@ pub mod FrameReachLaws
 pub mod FrameOutcomeLaws
 pub mod FrameWalkLaws
 pub mod FrameExampleLaws
+pub mod CheapestLaws
+pub mod SymbolLaws
+pub mod ShareLaws

@@ -1,6 +1,7 @@
 //! Worked examples of texts, which the checker computes from the definitions alone.
 
 mod frames;
+mod heard;
 mod listings;
 mod logs;
 mod refusals;
@@ -8,6 +9,10 @@ mod reports;
 
 pub use frames::{
     bad_frames, element_tables, frame_lines, good_frames, limits_of_frames, refused_frames,
+};
+pub use heard::{
+    lines_of_two_seconds, slots_by_their_dut1, slots_by_their_sets, sums_of_two_seconds,
+    text_of_silence,
 };
 pub use listings::{feeds, listed_minutes, sentences};
 pub use logs::{bad_lines, good_logs, limits_of_logs, lines_of_texts};
