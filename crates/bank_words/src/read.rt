@@ -3,7 +3,7 @@
 ghost use Rattle.std.specs.Prelude.{◌≡◌, ◌<◌, IfOk, Some, false, length, option_map, true};
 ghost use Rattle.formats.specs.OrderRanges.{IsInRange};
 ghost use Rattle.formats.specs.Orders.{certificate_of, file_at, order_of, order_with};
-ghost use Rattle.formats.specs.Orders.Order as PlainOrder;
+ghost use Rattle.formats.specs.Orders.{Order as PlainOrder};
 ghost use Rattle.formats.specs.Words.{is_run, reach_commands, run_commands};
 ghost use Rattle.bank_words.specs.Gives.{Gives};
 ghost use Rattle.bank_words.specs.Seen.{order_seen, parts_seen, reach_seen, texts_of};
