@@ -11,8 +11,8 @@ pub use frames::{
     bad_frames, element_tables, frame_lines, good_frames, limits_of_frames, refused_frames,
 };
 pub use heard::{
-    lines_of_two_seconds, slots_by_their_dut1, slots_by_their_sets, sums_of_two_seconds,
-    text_of_silence,
+    slots_by_their_dut1, slots_by_their_sets, sums_of_two_seconds, text_of_silence,
+    text_of_two_seconds,
 };
 pub use listings::{feeds, listed_minutes, sentences};
 pub use logs::{bad_lines, good_logs, limits_of_logs, lines_of_texts};

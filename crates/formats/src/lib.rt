@@ -21,11 +21,10 @@ mod words;
 
 pub use examples::{
     bad_frames, bad_lines, element_tables, feeds, frame_lines, good_frames, good_logs,
-    heads_of_reports, limits_of_frames, limits_of_logs, lines_of_texts, lines_of_two_seconds,
-    listed_minutes, minutes_of_reports, refused_certificates, refused_configurations,
-    refused_frames, refused_logs, refused_words, reports_without_a_decision, sentences,
-    slots_by_their_dut1, slots_by_their_sets, summaries_of_trials, sums_of_two_seconds,
-    text_of_silence,
+    heads_of_reports, limits_of_frames, limits_of_logs, lines_of_texts, listed_minutes,
+    minutes_of_reports, refused_certificates, refused_configurations, refused_frames, refused_logs,
+    refused_words, reports_without_a_decision, sentences, slots_by_their_dut1, slots_by_their_sets,
+    summaries_of_trials, sums_of_two_seconds, text_of_silence, text_of_two_seconds,
 };
 pub use fault::LineFault;
 pub use frame::{
