@@ -5,14 +5,14 @@ use Rattle.field_tables.specs.Scored.{costs_of}
 use Rattle.race_words.specs.Views.{after_limit}
 use Rattle.workers.specs.Passing.{HasPassed}
 use Rattle.workers.proofs.Passing.{counts_as}
-use Rattle.workers.proofs.floored.Visitor.pass_over.Goals as goal
+use Rattle.workers.proofs.visitor.Visitor.pass_over.Goals as goal
 
 pub look-seen-requires-clause-often : goal.look-seen-requires-clause-often
 look-seen-requires-clause-often c =
     let s = c.args.self.now in
     let t = s.tables.now in
     counts_as (costs_of t) t.window s.ceiling (c.blocks_share_the_sequences.ensures (costs_of t) t.window s.ceiling s.window_is_in_range.century)
-    c.args.day.now c.floor.result c.requires.block c.floor.ensures.floor
+    c.args.day.now c.floor-floor.result c.requires.block c.floor-floor.ensures.floor
 
 pub returns-then-is_above-clause-passed : goal.returns-then-is_above-clause-passed
 returns-then-is_above-clause-passed c =

@@ -1,10 +1,10 @@
 -- Each return of a visit of days has walked them.
-use Rattle.std.proofs.Common.{refl, ◌∙◌, subst, rules}
+use Rattle.std.proofs.Common.{◌≡◌, refl, ◌∙◌, subst, rules}
 use Rattle.std.specs.List.{AllByRecursion}
 use Rattle.definitions.specs.declared.block.Block.{Block}
 use Rattle.definitions.specs.answers.Blocks.{children, shorter}
 use Rattle.workers.proofs.Walking.{ended, next_stopped, not_begun, one_more}
-use Rattle.workers.proofs.floored.Visitor.visit_days.Goals as goal
+use Rattle.workers.proofs.visitor.Visitor.visit_days.Goals as goal
 
 pub loop-day-init : goal.loop-day-init
 loop-day-init g c =

@@ -1,7 +1,7 @@
 -- A read that counts as several leads as far as they do.
 use Rattle.field_tables.specs.Scored.{costs_of}
 use Rattle.workers.proofs.Passing.{has_looked}
-use Rattle.workers.proofs.floored.Visitor.look.Goals as goal
+use Rattle.workers.proofs.visitor.Visitor.look.Goals as goal
 
 pub returns-clause-looked : goal.returns-clause-looked
 returns-clause-looked g c =

@@ -5,7 +5,7 @@ use Rattle.definitions.specs.declared.block.Span.TheVariants.{Day}
 use Rattle.definitions.specs.answers.Blocks.{children}
 use Rattle.field_tables.specs.Scored.{costs_of}
 use Rattle.workers.proofs.Walking.{IsWalking}
-use Rattle.workers.proofs.floored.Visitor.visit_days.Given as goal
+use Rattle.workers.proofs.visitor.Visitor.visit_days.Given as goal
 
 abbrev pub invariant-loop-day : goal.invariant-loop-day
 invariant-loop-day g l = record {

@@ -1,7 +1,7 @@
 -- How many looks the read counts as.
 use Rattle.field_tables.specs.Scored.{costs_of}
 use Rattle.workers.proofs.Passing.{more_looks}
-use Rattle.workers.proofs.floored.Visitor.pass_over.Given as goal
+use Rattle.workers.proofs.visitor.Visitor.pass_over.Given as goal
 
 abbrev pub ghosts-look : goal.ghosts-look
 ghosts-look a =
