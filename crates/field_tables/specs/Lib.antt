@@ -6,3 +6,4 @@ pub mod Blocks
 pub mod Hours
 pub mod Days
 pub mod Leaps
+pub mod Floors

@@ -4,6 +4,7 @@
 
 mod bound;
 mod day;
+mod floor;
 mod hour;
 mod hours;
 mod leaps;

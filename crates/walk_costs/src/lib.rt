@@ -8,6 +8,7 @@ mod crossing;
 mod date;
 mod dut;
 mod kept;
+mod least;
 mod marks;
 mod set_costs;
 mod shown;

@@ -7,7 +7,9 @@ ghost use Rattle.definitions.specs.sequences.Windows.{IsWindow};
 ghost use Rattle.definitions.specs.answers.Blocks.{IsBlock, IsBound, children};
 ghost use Rattle.field_tables.specs.Scored.{costs_of};
 ghost use Rattle.signal_base.specs.declared.limits.TheConstants.{GREATEST_COST};
+ghost use Rattle.race_words.specs.declared.view.View.{View};
 ghost use Rattle.race_words.specs.Keys.{no_key};
+ghost use Rattle.race_words.specs.Views.{after_limit};
 ghost use Rattle.workers.specs.Visits.{limit_at};
 ghost use Rattle.workers.specs.Steps.{HasOpened, HasStopped, HasWalked, HaveStopped, HaveWalked};
 
@@ -58,11 +60,11 @@ impl Visitor<'_> {
         let Some(_key) = opened else {
             return Ok(());
         };
-        self.visit_children(seat, item, recorder)
+        self.visit_opened(seat, item, recorder)
     }
 
     // Visits the children of a block that isn't a minute, one after the other. A child that is passed over costs no call.
-    fn visit_children<K: Recorder>(
+    pub(crate) fn visit_children<K: Recorder>(
         &self,
         seat: &mut Seat,
         block: &Block,
@@ -207,6 +209,29 @@ impl Visitor<'_> {
             OnErr result (HasStopped K.told K.fails (costs_of t) t.window self.now.ceiling found.now.block seat.old.view seat.new.view recorder.old recorder.new) }
     {
         let seen = self.race.limit(seat);
+        self.take_step(found, seen, recorder)
+    }
+
+    // The step of a block whose bound is known, and at which this was read, for any view that it was not above. The block's key,
+    // or None where the block is passed over.
+    #[inline(always)]
+    pub(crate) fn take_step<K: Recorder>(
+        &self,
+        found: &Bounded,
+        seen: u64,
+        recorder: &mut K,
+    ) -> Result<Option<u64>, K::Fault>
+        requires block { IsBlock self.now.tables.now.window found.now.block }
+        requires bound { let t = self.now.tables.now in IsBound (costs_of t) t.window found.now.block found.now.bound }
+        requires small { ForSome found.now.bound (λ n. n ≤ GREATEST_COST) }
+        ensures passed { let t = self.now.tables.now in (v : View) → seen ≤ v.floor → IfOk result (λ opened.
+            IfNone opened (HasWalked K.told (costs_of t) t.window self.now.ceiling found.now.block v (after_limit seen v) recorder.old recorder.new)) }
+        ensures opened { (v : View) → seen ≤ v.floor → IfOk result (λ opened.
+            IfSome opened (λ key. HasOpened K.told self.now.ceiling found.now.block found.now.bound key v (after_limit seen v) recorder.old recorder.new)) }
+        ensures key { IfOk result (λ opened. IfSome opened (λ key. key < no_key)) }
+        ensures stopped { let t = self.now.tables.now in (v : View) →
+            OnErr result (HasStopped K.told K.fails (costs_of t) t.window self.now.ceiling found.now.block v (after_limit seen v) recorder.old recorder.new) }
+    {
         recorder.record(&found.block, found.bound, seen)?;
         let Some(bound) = found.bound else {
             return Ok(None);
@@ -221,7 +246,7 @@ impl Visitor<'_> {
 }
 
 // The key above which a block is passed over.
-fn limit_at(ceiling: u32, seen: u64) -> u64
+pub(crate) fn limit_at(ceiling: u32, seen: u64) -> u64
     requires { ceiling ≤ GREATEST_COST }
     ensures { result ≡ limit_at ceiling seen }
 {
