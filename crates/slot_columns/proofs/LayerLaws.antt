@@ -1,5 +1,5 @@
 -- What a table of layers tells is what the pairs cost.
-use Rattle.std.proofs.Common.{◌≡◌, ℕ, ◌+◌, ◌*◌, ◌/◌, ◌%◌, ◌^◌, ◌<◌, ◌≤◌, bit_or, List, [], length, get_or, sym, ap, ◌∙◌, arith}
+use Rattle.std.proofs.Common.{◌≡◌, ℕ, ◌+◌, ◌*◌, ◌/◌, ◌%◌, ◌^◌, ◌<◌, ◌≤◌, bit_or, List, [], length, get_or, refl, sym, ap, ◌∙◌, arith}
 use Rattle.std.proofs.lemmas.List.{get_or_default}
 use Rattle.std.proofs.lemmas.List.FromFn.{get_or-map-range_with_len}
 use Rattle.std.proofs.lemmas.Nat.{mul-add-lt}
@@ -11,7 +11,7 @@ use Rattle.symbol_cost.specs.declared.limits.TheConstants.{RECEIVER_COST}
 use Rattle.slot_columns.specs.declared.terms.Layer.{Layer}
 use Rattle.slot_columns.specs.declared.terms.Layer.TheVariants.{First, Later, Both}
 use Rattle.slot_columns.specs.declared.terms.Term.{Term}
-use Rattle.slot_columns.specs.Layered.{AreLayerCosts, AreLayerSums, ArePlaces, AreTermRows, AreTermsOf, HaveCommon, HaveRoom, IsFree, LayerSums, column_of, cost_of_both, layer_cost, of_layer, part_at, place_by, places_of, places_together, second_cost, seconds_cost, term_at, term_cost, term_of_both, term_of_pair, term_place, terms_cost, together}
+use Rattle.slot_columns.specs.Layered.{AreLayerCosts, AreLayerSums, ArePlaces, AreTermRows, AreTermsOf, HaveCommon, HaveRoom, IsFree, LayerSums, column_of, cost_of_both, layer_cost, of_layer, part_at, place_by, places_of, places_together, second_cost, seconds_cost, term_at, term_cost, term_of_both, term_of_pair, term_place, together}
 use Rattle.slot_columns.specs.Parts.{entry, layered_cost, most_cost}
 use Rattle.slot_columns.specs.Rows.{index_of}
 use Rattle.slot_columns.specs.Tables.{AreColumns, AreTables, at_place, column_cost, columns_cost, in_first, in_later}
@@ -237,8 +237,9 @@ module _ (table : LayerSums) (i j p : ℕ) where
         omega (arith, is, more, here, sum_of_fewer (k + 1) width (term_of_both table i j p) (omega (arith, lt)), are.fits i j p pair other second),
       )
 
-  -- a place that was read is one of a row
-  pub place_read : AreLayerSums table → i < table.pairs → (k place : ℕ) → k < table.terms → place ≡ get_or table.places (i * table.terms + k) place → place < 32
-  place_read are pair k place lt is =
-      let there = is ∙ get_or_default table.places (i * table.terms + k) place 0 (omega (arith, mul-add-lt i table.terms k table.pairs pair lt, are.places)) in
-      omega (arith, there, are.sets i k pair lt)
+-- a place that was read is one of a row
+pub place_read : (table : LayerSums) (i : ℕ) → AreLayerSums table → i < table.pairs → (k place : ℕ) → k < table.terms
+    → place ≡ get_or table.places (i * table.terms + k) place → place < 32
+place_read table i are pair k place lt is =
+    let there = is ∙ get_or_default table.places (i * table.terms + k) place 0 (omega (arith, mul-add-lt i table.terms k table.pairs pair lt, are.places)) in
+    omega (arith, there, are.sets i k pair lt)

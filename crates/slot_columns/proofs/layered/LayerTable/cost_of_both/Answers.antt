@@ -17,3 +17,30 @@ seen own now i j p k cost same are pair other second lt is row place also both r
     (subst (λ (t : LayerSums). row ≡ get_or t.rows (p * t.terms + k) row) same row_is)
     (subst (λ (t : LayerSums). place ≡ get_or t.places (i * t.terms + k) place) same place_is)
     (subst (λ (t : LayerSums). also ≡ get_or t.places (j * t.terms + k) also) same also_is))
+
+pub loop-k-init : goal.loop-k-init
+loop-k-init c =
+    record { spent = ap (λ (t : LayerSums). get_or t.common c.args.p 0) c.self.view_is ∙ no_term_yet c.args.self.now c.args.i c.args.j c.args.p }
+
+place_is : (own now : LayerSums) (i k place : ℕ) → own ≡ now → AreLayerSums own → i < now.pairs → k < own.terms → place ≡ get_or own.places (i * own.terms + k) place → place < 32
+place_is own now i k place same are pair lt is = place_read own i are (subst (λ (t : LayerSums). i < t.pairs) (sym same) pair) k place lt is
+
+pub together-place-requires-clause-one : goal.together-place-requires-clause-one
+together-place-requires-clause-one c =
+    place_is _ c.args.self.now c.args.i c.loop-k.k c.index.result.now c.self.view_is c.self.invariant c.requires.pair c.loop-k-test.true c.index.ensures
+
+pub overflow_add-cost : goal.overflow_add-cost
+overflow_add-cost c =
+    omega (
+      arith,
+      (seen _ c.args.self.now c.args.i c.args.j c.args.p c.loop-k.k c.loop-k.cost c.self.view_is c.self.invariant c.requires.pair c.requires.other c.requires.second
+          c.loop-k-test.true c.loop-k.invariant.spent c.index-in-loop-k-2.result.now c.index.result.now c.index-in-loop-k.result.now c.together-place.result
+          c.index-in-loop-k-2.ensures c.index.ensures c.index-in-loop-k.ensures c.together-place.ensures.place).1,
+    )
+
+pub loop-k-preserved : goal.loop-k-preserved
+loop-k-preserved c = record {
+  spent = (seen _ c.args.self.now c.args.i c.args.j c.args.p c.loop-k.k c.loop-k.cost c.self.view_is c.self.invariant c.requires.pair c.requires.other c.requires.second
+      c.loop-k-test.true c.loop-k.invariant.spent c.index-in-loop-k-2.result.now c.index.result.now c.index-in-loop-k.result.now c.together-place.result
+      c.index-in-loop-k-2.ensures c.index.ensures c.index-in-loop-k.ensures c.together-place.ensures.place).0;
+}
