@@ -1,6 +1,6 @@
 -- What no walk from one run to the next costs less than: what the times of day cost at the least, and what both dates tell
 -- together.
-use Rattle.std.proofs.Common.{◌≡◌, ℕ, ◌+◌, ◌-◌, ◌*◌, ◌/◌, ◌%◌, ◌<◌, ◌≤◌, ◌⊎◌, inl, inr, Bool, true, false, ◌==◌, ◌&&◌, ◌||◌, nat_lt, bit_or, if◌then◌else◌, List, length, get_or, refl, sym, ap, ◌∙◌, subst, arith}
+use Rattle.std.proofs.Common.{◌≡◌, ℕ, ◌+◌, ◌*◌, ◌/◌, ◌%◌, ◌<◌, ◌≤◌, ◌⊎◌, inl, inr, Bool, true, false, ◌==◌, nat_lt, bit_or, if◌then◌else◌, List, length, get_or, refl, sym, ap, ◌∙◌, subst, arith}
 use Rattle.std.proofs.lemmas.Bool.{and_right, cases_Bool, or_from}
 use Rattle.std.proofs.lemmas.List.FromFn.{get_or-map-range_with_len}
 use Rattle.signal_base.specs.declared.station.Station.{Station}
@@ -23,7 +23,7 @@ use Rattle.slot_columns.specs.Parts.{minute_cost, most_cost, walk_cost, walk_set
 use Rattle.slot_columns.specs.Rows.{index_of}
 use Rattle.slot_columns.proofs.SetLaws.{index_at, index_bound, none_chosen, or_index}
 use Rattle.walk_costs.specs.Crossings.{IsAcross, run_across}
-use Rattle.walk_costs.specs.Dates.{IsAdded, given_up, given_up_set, kept, kept_set, minutes_to_call, part_cost}
+use Rattle.walk_costs.specs.Dates.{IsAdded, given_up, kept, kept_set, minutes_to_call, part_cost}
 use Rattle.walk_costs.specs.Walks.{AreDateCosts, ArePairsOf, ArePriced, PricedParts, cost_of, kept_of, last_minute, pair_of}
 use Rattle.walk_costs.proofs.CrossingLaws.{front, two_runs}
 use Rattle.walk_costs.proofs.ScoredLaws.{scored, small_set}
@@ -126,10 +126,10 @@ module _ (w : PricedParts) (costs : List (List ℕ)) (more : List ℕ) (priced :
         | inr keeps ↦ elim (cases_Bool (is_time_second st s)) [
           | inl timed ↦ omega (arith, time, free_at k (get_or both_dates s 0) (none_of_time s lt keeps timed))
           | inr untimed ↦ omega (
-              arith,
-              priced.small k (get_or both_dates s 0) within,
-              free_at k (walk_set w.parts.times u p k) (none_of_date v s day lt keeps untimed),
-            )
+            arith,
+            priced.small k (get_or both_dates s 0) within,
+            free_at k (walk_set w.parts.times u p k) (none_of_date v s day lt keeps untimed),
+          )
         ]
       ]
 

@@ -1,5 +1,5 @@
 -- Which sets the date tells: none of a second that isn't scored, outside the seconds that are given up for the call sign.
-use Rattle.std.proofs.Common.{◌≡◌, ℕ, zero, suc, ◌+◌, ◌-◌, ◌*◌, ◌^◌, ◌<◌, inl, inr, Bool, true, false, ◌==◌, ◌&&◌, ◌||◌, nat_lt, if◌then◌else◌, sym, subst, arith}
+use Rattle.std.proofs.Common.{◌≡◌, ℕ, zero, suc, ◌+◌, ◌-◌, ◌*◌, ◌^◌, ◌<◌, inl, inr, Bool, false, ◌==◌, ◌&&◌, ◌||◌, nat_lt, if◌then◌else◌, sym, subst, arith}
 use Rattle.std.proofs.Math.Nat.{pow-suc}
 use Rattle.std.proofs.lemmas.Bool.{and_right, or_parts}
 use Rattle.signal_base.specs.declared.station.Station.{Station}
@@ -54,7 +54,7 @@ scored Wwvb announced t s keeps =
     nothing
 scored Jjy announced t s keeps =
     let f = jjy_facts announced t in
-    let call : (jjy.is_call_minute f && is_within 40 48 s) ≡ false = and_right _ _ (or_parts _ _ keeps).0 in
+    let call : (jjy.is_call_minute f && is_within 40 48 s) ≡ false = and_right (jjy.is_call_minute f) (is_within 40 48 s) (or_parts (is_within 40 48 s) (is_within 50 55 s) keeps).0 in
     either IsScored (nat_lt s (if f.long then 61 else 60)) _ _
     (either IsScored (jjy.is_marked f s) _ _ (one_symbol jjy.marker)
     (subst
@@ -65,7 +65,7 @@ scored Jjy announced t s keeps =
 
 -- such a set stands at its own number in a row of costs
 pub small_set : (station : Station) (set : ℕ) → IsSetOf station set → IsScored set → set < 32
-small_set station set is some = elim (some_symbols station set is) [ | inl e ↦ absurd (some e) | inr sent ↦ below station sent.1 ]
+small_set station set is some = elim (some_symbols station set is) [ inl e ↦ absurd (some e) | inr sent ↦ below station sent.1 ]
   where
     below : (station : Station) → set < 2 ^ symbol_count station → set < 32
     below Dcf77 lt = omega (arith, lt)

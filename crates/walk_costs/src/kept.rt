@@ -29,13 +29,7 @@ impl StationWalks {
     }
 
     // The same where each second may be of the date of either run.
-    pub(crate) fn kept_cost_of_both(
-        &self,
-        announced: bool,
-        p: u8,
-        run: usize,
-        other: usize,
-    ) -> u32
+    pub(crate) fn kept_cost_of_both(&self, announced: bool, p: u8, run: usize, other: usize) -> u32
         requires second { p < SECONDS_PER_MINUTE }
         requires run { run < length self.now.parts.runs }
         requires other { other < length self.now.parts.runs }

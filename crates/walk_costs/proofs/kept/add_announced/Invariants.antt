@@ -1,4 +1,4 @@
-use Rattle.std.proofs.Common.{◌≡◌, ◌<◌, ℕ, [], false, length, true, vec_len}
+use Rattle.std.proofs.Common.{◌≡◌, [], false, length, true, vec_len}
 use Rattle.walk_costs.specs.Walks.{ArePairsOf}
 use Rattle.walk_costs.proofs.kept.add_announced.Given as goal
 

@@ -1,4 +1,4 @@
-use Rattle.std.proofs.Common.{◌≡◌, ◌+◌, ◌<◌, ◌≤◌, refl, sym, subst, arith}
+use Rattle.std.proofs.Common.{◌+◌, ◌≤◌, refl, subst, arith}
 use Rattle.slot_columns.specs.Parts.{most_cost}
 use Rattle.walk_costs.specs.Walks.{ArePriced, PricedParts}
 use Rattle.walk_costs.proofs.CrossingLaws.{next_begins}
