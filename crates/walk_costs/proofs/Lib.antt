@@ -13,3 +13,6 @@ pub mod AnnouncedLaws
 pub mod StretchLaws
 pub mod MarkLaws
 pub mod CrossingLaws
+pub mod PairLaws
+pub mod ScoredLaws
+pub mod NeighbourLaws
