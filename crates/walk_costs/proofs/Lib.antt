@@ -13,3 +13,4 @@ pub mod AnnouncedLaws
 pub mod StretchLaws
 pub mod MarkLaws
 pub mod CrossingLaws
+pub mod LeastLaws

@@ -18,6 +18,8 @@ use Rattle.walk_costs.specs.declared.date.DateCost.{DateCost}
 use Rattle.walk_costs.specs.declared.shown.Shown.{Shown}
 use Rattle.walk_costs.specs.declared.shown.Shown.TheVariants.{Never, Always, Sometimes}
 use Rattle.walk_costs.specs.Dates.{AreAdded, cost_at_call, date_cost, kept, part_cost}
+use Rattle.walk_costs.specs.declared.least_in.LeastWalks.{LeastWalks}
+use Rattle.walk_costs.specs.Leasts.{AreLeast, least_where}
 
 -- the parts of a station's telegrams, and what its symbols cost in the slots of a window
 pub record PricedParts : Type 0 where
@@ -64,9 +66,10 @@ pub record AreDateCosts (parts : PartTable) (grid : Grid) (dates : LayerSums) : 
       → layer_cost dates i p ≡ part_cost grid p (kept grid.station (run_at parts.runs i).unannounced)
 
 -- all that is kept of a station
-pub record AreKept (parts : PartTable) (grid : Grid) (costs : List (List ℕ)) (more : List ℕ) (by_date : LayerSums) : Type 0 where
+pub record AreKept (parts : PartTable) (grid : Grid) (costs : List (List ℕ)) (more : List ℕ) (by_date : LayerSums) (least : LeastWalks) : Type 0 where
   pub priced : ArePriced parts grid costs more
   pub dates : AreDateCosts parts grid by_date
+  pub least : (announced : Bool) → AreLeast parts grid announced (least_where announced least)
 
 -- in some slot the station may carry another set than without the announcement
 abbrev pub ShowsAnnouncement : PricedParts → Sequence → Type 0

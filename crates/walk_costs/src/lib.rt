@@ -9,6 +9,7 @@ mod date;
 mod dut;
 mod kept;
 mod least;
+mod least_in;
 mod marks;
 mod set_costs;
 mod shown;
