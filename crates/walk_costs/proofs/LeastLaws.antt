@@ -13,9 +13,9 @@ use Rattle.minute_parts.specs.Walks.{later_minutes}
 use Rattle.slot_columns.specs.Parts.{AreWalkCosts, entry, most_cost, walk_cost, walk_set}
 use Rattle.slot_columns.specs.Tables.{at_place}
 use Rattle.slot_columns.proofs.ColumnLaws.{by_columns}
-use Rattle.slot_columns.proofs.PlaceLaws.{after_walk, before_walk, in_walk}
+use Rattle.slot_columns.proofs.PlaceLaws.{after_walk, before_walk, in_walk, place_free}
 use Rattle.slot_columns.proofs.SetLaws.{none_chosen}
-use Rattle.slot_columns.proofs.SumLaws.{sum_of_fewer}
+use Rattle.slot_columns.proofs.SumLaws.{sum_of_fewer, sum_of_none}
 use Rattle.walk_costs.specs.declared.least_in.Choices.{Choices}
 use Rattle.walk_costs.specs.Dates.{IsAdded, date_cost, given_up, given_up_set, kept, minutes_to_call, part_cost}
 use Rattle.walk_costs.specs.Leasts.{AreChosen, IsChosen, IsLeast, cost_beside, given_beside}
@@ -107,6 +107,11 @@ module _ (grid : Grid) (p m : ℕ) (part : List ℕ) where
 abbrev pub IsBelow : Grid → ℕ → ℕ → List ℕ → ℕ → ℕ → Type 0
 IsBelow grid p m part s least = least ≤ sum_below s (λ x. cost_beside grid p m x (given_up_set grid.station part x))
 
+-- the set without symbols costs nothing
+free_beside : (grid : Grid) (p m s : ℕ) → cost_beside grid p m s 0 ≡ 0
+free_beside grid p m s =
+    sum_of_none 21 (λ j. if j == m then 0 else at_place grid p 0 (60 * j + s)) (λ j few. none_of (j == m) (at_place grid p 0 (60 * j + s)) (place_free grid p (60 * j + s)))
+
 -- with one second more, of which there are two sets
 pub one_more_second : (grid : Grid) (c : Choices) (p m s : ℕ) (part : List ℕ) (least one other next : ℕ) → IsChosen c s (given_up_set grid.station part s)
     → one ≡ cost_beside grid p m s (get_or c.one s 0) → other ≡ cost_beside grid p m s (get_or c.other s 0) → next ≡ least + min one other
@@ -116,7 +121,8 @@ one_more_second grid c p m s part least one other next chosen is_one is_other is
   where
     by_choice : IsChosen c s (given_up_set grid.station part s) → min one other ≤ cost_beside grid p m s (given_up_set grid.station part s)
     by_choice (inl e) = omega (arith, is_one, ap (cost_beside grid p m s) e)
-    by_choice (inr e) = omega (arith, is_other, ap (cost_beside grid p m s) e)
+    by_choice (inr (inl e)) = omega (arith, is_other, ap (cost_beside grid p m s) e)
+    by_choice (inr (inr e)) = omega (arith, is_one, ap (cost_beside grid p m s) e, free_beside grid p m s)
 
 -- and of all of the call sign
 pub all_seconds : (grid : Grid) (p m s : ℕ) (part : List ℕ) (least : ℕ) → s ≤ 60 → IsBelow grid p m part s least → least ≤ given_beside grid p m part

@@ -1,6 +1,6 @@
 -- What the walks cost at the least that lie in one run, at any time of day and whatever the date tells in the seconds that
 -- are given up for the call sign.
-use Rattle.std.specs.Prelude.{ℕ, ◌≡◌, ◌⊎◌, ◌+◌, ◌*◌, ◌<◌, ◌≤◌, ◌==◌, Bool, if◌then◌else◌, List, Option, Some, None, length, slice_index}
+use Rattle.std.specs.Prelude.{ℕ, ◌≡◌, ◌⊎◌, ◌+◌, ◌*◌, ◌<◌, ◌≤◌, ◌==◌, Bool, if◌then◌else◌, List, length, slice_index}
 use Rattle.signal_base.specs.declared.limits.TheConstants.{MOST_RECEIVERS}
 use Rattle.signal_base.specs.declared.station.Station.{Station}
 use Rattle.definitions.specs.time.Calendar.{minutes_per_day}
@@ -29,18 +29,13 @@ most_beside = WALK_MINUTES * (MOST_RECEIVERS * RECEIVER_COST)
 abbrev pub given_beside : Grid → ℕ → ℕ → List ℕ → ℕ
 given_beside grid p m part = sum_below SECONDS_PER_MINUTE (λ s. cost_beside grid p m s (given_up_set grid.station part s))
 
--- the set is one of the two of a second
+-- the set is one of the two of a second, or one of these costs nothing
 abbrev pub IsChosen : Choices → ℕ → ℕ → Type 0
-IsChosen c s set = (set ≡ slice_index c.one s) ⊎ (set ≡ slice_index c.other s)
+IsChosen c s set = (set ≡ slice_index c.one s) ⊎ ((set ≡ slice_index c.other s) ⊎ (slice_index c.one s ≡ 0))
 
 -- and so is what a part tells in each second that is given up
 abbrev pub AreChosen : Choices → Station → List ℕ → Type 0
 AreChosen c station part = (s : ℕ) → CALL_BEGIN ≤ s → s < CALL_END → IsChosen c s (given_up_set station part s)
-
--- where there are two
-abbrev pub AreChoices : Option Choices → Station → List ℕ → Type 0
-AreChoices None station part = Unit {0}
-AreChoices (Some c) station part = AreChosen c station part
 
 -- With what the date costs in the seconds that aren't given up, no walk from second p costs less that lies in one run, at
 -- any time of day.

@@ -13,7 +13,7 @@ ghost use Rattle.minute_parts.specs.Runs.{run_at};
 ghost use Rattle.slot_columns.specs.Parts.{AreWalkCosts, entry, most_cost};
 ghost use Rattle.slot_columns.specs.Tables.{at_place};
 ghost use Rattle.walk_costs.specs.Dates.{minutes_to_call};
-ghost use Rattle.walk_costs.specs.Leasts.{AreChoices, AreChosen, AreLeast, IsChosen, cost_beside, given_beside, least_where, most_beside};
+ghost use Rattle.walk_costs.specs.Leasts.{AreChosen, AreLeast, IsChosen, cost_beside, given_beside, least_where, most_beside};
 ghost use Rattle.walk_costs.specs.Walks.{IsRegularIn, cost_of};
 
 use crate::call::given_up_set;
@@ -113,7 +113,7 @@ fn least_walk(walks: &WalkTable, p: u8, given: &ByMinute) -> u32
     least
 }
 
-/// Two sets for each second of a minute.
+/// Two sets for each second of a minute. Where the first is 0, which costs nothing, they stand for any set.
 #[derive(Clone, Copy, Debug)]
 pub struct Choices {
     pub one: Part,
@@ -121,44 +121,40 @@ pub struct Choices {
 }
 
 impl Choices {
-    // Makes sure that what the part tells in each second that is given up is one of the two. False where it isn't.
-    fn admit(&mut self, station: Station, part: &Part) -> bool
+    // Makes what the part tells in each second that is given up one of the two.
+    fn admit(&mut self, station: Station, part: &Part)
         ensures kept { (s set : ℕ) → IsChosen self.old s set → IsChosen self.new s set }
-        ensures admitted { result ≡ true → AreChosen self.new station part.now }
+        ensures admitted { AreChosen self.new station part.now }
     {
         for s in CALL_BEGIN..CALL_END {
-            if !self.admit_set(s, given_up_set(station, part, s)) {
-                return false;
-            }
+            self.admit_set(s, given_up_set(station, part, s));
         }
-        true
     }
 
     // The same of one second. Its two sets are alike until a second one is told.
-    fn admit_set(&mut self, s: usize, set: u8) -> bool
+    fn admit_set(&mut self, s: usize, set: u8)
         requires { s < SECONDS_PER_MINUTE }
         ensures kept { (i x : ℕ) → IsChosen self.old i x → IsChosen self.new i x }
-        ensures admitted { result ≡ true → IsChosen self.new s set }
+        ensures admitted { IsChosen self.new s set }
     {
         if set == self.one[s] || set == self.other[s] {
-            return true;
+            return;
         }
-        if self.one[s] != self.other[s] {
-            return false;
+        if self.one[s] == self.other[s] {
+            self.other[s] = set;
+        } else {
+            self.one[s] = 0;
         }
-        self.other[s] = set;
-        true
     }
 }
 
-// The two sets of which any date tells one, in each second that is given up. None where dates tell more, or the station
-// gives up no seconds.
-fn choices_of(parts: &Parts, station: Station, announced: bool) -> Option<Choices>
+// The two sets of which any date tells one, in each second that is given up.
+fn choices_of(parts: &Parts, station: Station, announced: bool) -> Choices
     requires { IsPartTable parts.now }
-    ensures { (i : ℕ) → i < length parts.now.runs → AreChoices result station (part_where announced (run_at parts.now.runs i)) }
+    ensures { (i : ℕ) → i < length parts.now.runs → AreChosen result station (part_where announced (run_at parts.now.runs i)) }
 {
     if !gives_up(station) {
-        return None;
+        return no_choices();
     }
     let first = given_up(station, parts.run(0).date_part(announced));
     let mut choices = Choices {
@@ -166,11 +162,18 @@ fn choices_of(parts: &Parts, station: Station, announced: bool) -> Option<Choice
         other: first,
     };
     for i in 0..parts.runs() {
-        if !choices.admit(station, parts.run(i).date_part(announced)) {
-            return None;
-        }
+        choices.admit(station, parts.run(i).date_part(announced));
     }
-    Some(choices)
+    choices
+}
+
+fn no_choices() -> Choices
+    ensures { (s set : ℕ) → IsChosen result s set }
+{
+    Choices {
+        one: [0; SECONDS_PER_MINUTE],
+        other: [0; SECONDS_PER_MINUTE],
+    }
 }
 
 // What the date tells of the seconds that are given up.
@@ -180,18 +183,7 @@ fn given_up(station: Station, part: &Part) -> Part {
 
 // What dates tell in the seconds that are given up costs this at the least in a walk from second `p`, for each walk minute
 // that the call sign may take.
-fn least_given(columns: &SlotColumns, p: u8, choices: &Option<Choices>) -> ByMinute
-    requires { p < SECONDS_PER_MINUTE }
-    ensures floor { (part : List ℕ) (m : ℕ) → AreChoices choices.now columns.now.station part → m < CALL_MINUTES → slice_index result m ≤ given_beside columns.now p m part }
-    ensures bound { (m : ℕ) → m < CALL_MINUTES → slice_index result m ≤ (CALL_END - CALL_BEGIN) * most_beside }
-{
-    match choices {
-        Some(choices) => least_of_choices(columns, p, choices),
-        None => no_losses(),
-    }
-}
-
-fn least_of_choices(columns: &SlotColumns, p: u8, choices: &Choices) -> ByMinute
+fn least_given(columns: &SlotColumns, p: u8, choices: &Choices) -> ByMinute
     requires { p < SECONDS_PER_MINUTE }
     ensures floor { (part : List ℕ) (m : ℕ) → AreChosen choices.now columns.now.station part → m < CALL_MINUTES → slice_index result m ≤ given_beside columns.now p m part }
     ensures bound { (m : ℕ) → m < CALL_MINUTES → slice_index result m ≤ (CALL_END - CALL_BEGIN) * most_beside }

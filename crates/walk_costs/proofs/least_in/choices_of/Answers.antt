@@ -7,10 +7,7 @@ use Rattle.walk_costs.specs.Leasts.{AreChosen}
 use Rattle.walk_costs.proofs.least_in.choices_of.Goals as goal
 
 pub returns-then-not-gives_up : goal.returns-then-not-gives_up
-returns-then-not-gives_up c = λ i lt. tt
-
-pub returns-then-not-admit : goal.returns-then-not-admit
-returns-then-not-admit c = λ i lt. tt
+returns-then-not-gives_up c = λ i lt s ge before. c.no_choices.ensures s (given_up_set c.args.station (part_where c.args.announced (run_at c.args.parts.now.runs i)) s)
 
 pub loop-i-preserved : goal.loop-i-preserved
 loop-i-preserved c =
@@ -19,7 +16,7 @@ loop-i-preserved c =
     record {
       done = below_more (λ i. AreChosen c.admit.new.self c.args.station (part i)) c.loop-i.i
           (λ i lt s ge before. c.admit.ensures.kept s (given_up_set c.args.station (part i) s) (c.loop-i.invariant.done i lt s ge before))
-          (subst (AreChosen c.admit.new.self c.args.station) is (c.admit.ensures.admitted c.if-not-admit.false));
+          (subst (AreChosen c.admit.new.self c.args.station) is c.admit.ensures.admitted);
     }
 
 pub returns : goal.returns

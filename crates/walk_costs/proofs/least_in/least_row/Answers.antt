@@ -3,7 +3,7 @@ use Rattle.std.proofs.Math.ListN.{set}
 use Rattle.signal_base.specs.declared.station.Station.{Station}
 use Rattle.minute_parts.specs.Parts.{part_where}
 use Rattle.minute_parts.specs.Runs.{run_at}
-use Rattle.walk_costs.specs.Leasts.{AreChoices, IsLeast}
+use Rattle.walk_costs.specs.Leasts.{AreChosen, IsLeast}
 use Rattle.walk_costs.proofs.LeastLaws.{is_least}
 use Rattle.walk_costs.proofs.SumLaws.{most_of_few}
 use Rattle.walk_costs.proofs.least_in.least_row.Goals as goal
@@ -29,7 +29,7 @@ loop-p-preserved c =
     (omega (arith, c.seconds.ensures.count, c.seconds.ensures.bound)) c.requires.costs c.least_walk.ensures
     (λ i m is_run few.
     c.least_given-given.ensures.floor (part_where announced (run_at parts.runs i)) m
-    (subst (λ (t : Station). AreChoices c.choices_of-choices.result t (part_where announced (run_at parts.runs i))) c.station-choices.ensures (c.choices_of-choices.ensures i is_run))
+    (subst (λ (t : Station). AreChosen c.choices_of-choices.result t (part_where announced (run_at parts.runs i))) c.station-choices.ensures (c.choices_of-choices.ensures i is_run))
     few) in
     let within : p < length c.loop-p.least = omega (arith, c.loop-p.invariant.long) in
     record {

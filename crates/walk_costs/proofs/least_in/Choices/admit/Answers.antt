@@ -11,5 +11,5 @@ loop-s-preserved c =
       kept = λ s x e. c.admit_set.ensures.kept s x (c.loop-s.invariant.kept s x e);
       done = below_more (λ s. CALL_BEGIN ≤ s → IsChosen c.admit_set.new.self s (set s)) c.loop-s.s
           (λ s lt ge. c.admit_set.ensures.kept s (set s) (c.loop-s.invariant.done s lt ge))
-          (λ ge. subst (IsChosen c.admit_set.new.self c.loop-s.s) c.given_up_set.ensures (c.admit_set.ensures.admitted c.if-not-admit_set.false));
+          (λ ge. subst (IsChosen c.admit_set.new.self c.loop-s.s) c.given_up_set.ensures c.admit_set.ensures.admitted);
     }

@@ -2,7 +2,7 @@ use Rattle.std.proofs.Common.{◌-◌, ◌*◌, ◌<◌, ◌≤◌, ℕ, List, g
 use Rattle.minute_parts.specs.declared.call.TheConstants.{CALL_BEGIN}
 use Rattle.walk_costs.specs.Leasts.{AreChosen, most_beside}
 use Rattle.walk_costs.proofs.LeastLaws.{IsBelow}
-use Rattle.walk_costs.proofs.least_in.least_of_choices.Given as goal
+use Rattle.walk_costs.proofs.least_in.least_given.Given as goal
 
 abbrev pub invariant-loop-s : goal.invariant-loop-s
 invariant-loop-s l = record {
