@@ -1,5 +1,5 @@
 -- That no walk in a run costs less than its date and the least of all times of day.
-use Rattle.std.proofs.Common.{◌≡◌, ℕ, zero, suc, ◌+◌, ◌-◌, ◌*◌, ◌/◌, ◌%◌, ◌<◌, ◌≤◌, inl, inr, Bool, true, false, ◌==◌, ◌&&◌, ◌||◌, if◌then◌else◌, List, length, min, get_or, refl, sym, ap, ◌∙◌, arith}
+use Rattle.std.proofs.Common.{◌≡◌, ℕ, zero, suc, ◌+◌, ◌*◌, ◌/◌, ◌%◌, ◌<◌, ◌≤◌, inl, inr, Bool, true, false, ◌==◌, ◌&&◌, ◌||◌, if◌then◌else◌, List, length, min, get_or, refl, sym, ap, ◌∙◌, arith}
 use Rattle.std.proofs.lemmas.Bool.{cases_order, eq-eqb, ne_eqb}
 use Rattle.signal_base.specs.declared.station.Station.{Station}
 use Rattle.definitions.specs.heard.Costs.{sum_below}
@@ -9,7 +9,6 @@ use Rattle.symbol_cost.specs.declared.limits.TheConstants.{RECEIVER_COST}
 use Rattle.minute_parts.specs.Overlay.{is_given_up, is_time_second, overlay}
 use Rattle.minute_parts.specs.Parts.{PartTable, part_where, times_at}
 use Rattle.minute_parts.specs.Runs.{run_at}
-use Rattle.minute_parts.specs.Walks.{later_minutes}
 use Rattle.slot_columns.specs.Parts.{AreWalkCosts, entry, most_cost, walk_cost, walk_set}
 use Rattle.slot_columns.specs.Tables.{at_place}
 use Rattle.slot_columns.proofs.ColumnLaws.{by_columns}
@@ -18,13 +17,12 @@ use Rattle.slot_columns.proofs.SetLaws.{none_chosen}
 use Rattle.slot_columns.proofs.SumLaws.{sum_of_fewer, sum_of_none}
 use Rattle.walk_costs.specs.declared.least_in.Choices.{Choices}
 use Rattle.walk_costs.specs.Dates.{IsAdded, date_cost, given_up, given_up_set, kept, minutes_to_call, part_cost}
-use Rattle.walk_costs.specs.Leasts.{AreChosen, IsChosen, IsLeast, cost_beside, given_beside}
+use Rattle.walk_costs.specs.Leasts.{IsChosen, IsLeast, cost_beside, given_beside}
 use Rattle.walk_costs.specs.Walks.{ArePriced, IsRegularIn, PricedParts, cost_of, last_minute}
 use Rattle.walk_costs.proofs.DateLaws.{given, kept_and_given}
 use Rattle.walk_costs.proofs.SplitLaws.{call_minute, calls, parts_of_second, tells_by}
 use Rattle.walk_costs.proofs.SumLaws.{cost_in, made_part, part_by_second, sum_of_two, sums_of_two}
-use Rattle.walk_costs.proofs.TotalLaws.{IsTotal}
-use Rattle.walk_costs.proofs.WalkLaws.{lost, lost_sum, total_at}
+use Rattle.walk_costs.proofs.WalkLaws.{lost, lost_le, lost_sum, total_at}
 
 -- a sum is one of its terms, where there is such a term, and the sum of the others
 pub sum_beside : (n m one : ℕ) (f : ℕ → ℕ) → (m < n → one ≡ f m) → (n ≤ m → one ≡ 0)
@@ -194,7 +192,7 @@ module _ (w : PricedParts) (costs : List (List ℕ)) (more : List ℕ) (priced :
       let sums = sums_of_two slots told (lost w.grid p m part) (λ k. cost_in w.grid k (walk_set w.parts.times u p k)) (λ k. cost_in w.grid k (date_in k))
       (λ k within. in_slot u k day within) in
       let bound = sum_below_bound slots (w.grid.receivers * RECEIVER_COST) told (λ k within. priced.small k (overlay (time_in u k) (date_in k)) within) in
-      omega (arith, sums, bound, lost_sum w.grid p m part, part_by_second w.grid p part)
+      omega (arith, sums, bound, lost_sum w.grid p m part, lost_le w.grid p m part, part_by_second w.grid p part)
 
   -- and a sequence costs no less
   pub no_less : (t0 : ℕ) → IsRegularIn w announced p t0 i → with_date ((t0 + (run_at w.parts.runs i).shift) % 1440) ≤ cost_of w announced p t0

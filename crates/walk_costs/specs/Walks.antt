@@ -66,10 +66,10 @@ pub record AreDateCosts (parts : PartTable) (grid : Grid) (dates : LayerSums) : 
       → layer_cost dates i p ≡ part_cost grid p (kept grid.station (run_at parts.runs i).unannounced)
 
 -- all that is kept of a station
-pub record AreKept (parts : PartTable) (grid : Grid) (costs : List (List ℕ)) (more : List ℕ) (by_date : LayerSums) (least : LeastWalks) : Type 0 where
+pub record AreKept (parts : PartTable) (grid : Grid) (costs : List (List ℕ)) (more : List ℕ) (by_date : LayerSums) (floors : LeastWalks) : Type 0 where
   pub priced : ArePriced parts grid costs more
   pub dates : AreDateCosts parts grid by_date
-  pub least : (announced : Bool) → AreLeast parts grid announced (least_where announced least)
+  pub least : (announced : Bool) → AreLeast parts grid announced (least_where announced floors)
 
 -- in some slot the station may carry another set than without the announcement
 abbrev pub ShowsAnnouncement : PricedParts → Sequence → Type 0

@@ -4,7 +4,7 @@
 //! the date, and which minute of a walk that is depends on the time of day. So what dates tell in those seconds is counted
 //! with the time of day, at the least: second by second, whatever the others tell.
 
-ghost use Rattle.std.specs.Prelude.{◌≡◌, ◌+◌, ◌*◌, ◌^◌, ◌<◌, ◌≤◌, ℕ, Bool, List, length, min, slice_index, true};
+ghost use Rattle.std.specs.Prelude.{◌≡◌, ◌+◌, ◌-◌, ◌*◌, ◌^◌, ◌<◌, ◌≤◌, ℕ, Bool, List, length, min, slice_index, true};
 ghost use Rattle.signal_base.specs.declared.limits.TheConstants.{MOST_RECEIVERS};
 ghost use Rattle.definitions.specs.time.Calendar.{minutes_per_day};
 ghost use Rattle.symbol_cost.specs.declared.limits.TheConstants.{RECEIVER_COST};
@@ -140,11 +140,11 @@ impl Choices {
         if set == self.one[s] || set == self.other[s] {
             return;
         }
-        if self.one[s] == self.other[s] {
-            self.other[s] = set;
-        } else {
+        if self.one[s] != self.other[s] {
             self.one[s] = 0;
+            return;
         }
+        self.other[s] = set;
     }
 }
 

@@ -1,4 +1,4 @@
-use Rattle.std.proofs.Common.{◌<◌, ℕ, List, length, get_or, ap, sym, ◌∙◌, subst, arith, below_more}
+use Rattle.std.proofs.Common.{ℕ, ap, ◌∙◌, subst, arith, below_more}
 use Rattle.minute_parts.specs.declared.runs.Run.{Run}
 use Rattle.minute_parts.specs.Parts.{part_where}
 use Rattle.minute_parts.specs.Runs.{run_at}
@@ -12,7 +12,7 @@ returns-then-not-gives_up c = λ i lt s ge before. c.no_choices.ensures s (given
 pub loop-i-preserved : goal.loop-i-preserved
 loop-i-preserved c =
     let part = λ (i : ℕ). part_where c.args.announced (run_at c.args.parts.now.runs i) in
-    let is = c.date_part.ensures ∙ ap (λ (r : Run). part_where c.args.announced r) c.run.ensures in
+    let is = c.date_part-in-loop-i.ensures ∙ ap (λ (r : Run). part_where c.args.announced r) c.run-in-loop-i.ensures in
     record {
       done = below_more (λ i. AreChosen c.admit.new.self c.args.station (part i)) c.loop-i.i
           (λ i lt s ge before. c.admit.ensures.kept s (given_up_set c.args.station (part i) s) (c.loop-i.invariant.done i lt s ge before))

@@ -1,5 +1,6 @@
-use Rattle.std.proofs.Common.{◌≡◌, ◌≢◌, ◌+◌, ◌*◌, ◌<◌, ℕ, length, get_or, arith, below_more, get_or-set_other, get_or-set_same, length-set}
+use Rattle.std.proofs.Common.{◌≡◌, ◌≢◌, ◌+◌, ◌*◌, ◌<◌, ◌==◌, ℕ, if◌then◌else◌, length, get_or, ap, arith, below_more, get_or-set_other, get_or-set_same, length-set}
 use Rattle.std.proofs.Math.ListN.{set}
+use Rattle.definitions.specs.heard.Costs.{sum_below}
 use Rattle.definitions.proofs.CostLaws.{sum_below_more, sum_below_none}
 use Rattle.slot_columns.specs.Tables.{at_place}
 use Rattle.walk_costs.proofs.LeastLaws.{sum_beside}
@@ -38,18 +39,17 @@ all_but-requires c = λ m few.
       sum_beside c.loop-m.m m (get_or c.loop-m.lost m 0) cost (λ lt. c.loop-m.invariant.done m lt) (λ le. c.loop-m.invariant.none m le few),
     )
 
-pub returns : goal.returns
-returns c =
+pub returns-clause-costs : goal.returns-clause-costs
+returns-clause-costs c = λ m few.
     let cost = λ (j : ℕ). at_place c.args.columns.now c.args.p c.args.set (60 * j + c.args.s) in
     let all : c.loop-m.m ≡ 21 = omega arith in
-    record {
-      costs = λ m few.
-          omega (
-            arith,
-            c.all_but.ensures m few,
-            c.loop-m.invariant.sum,
-            sum_beside c.loop-m.m m (get_or c.loop-m.lost m 0) cost (λ lt. c.loop-m.invariant.done m lt) (λ le. c.loop-m.invariant.none m le few),
-            all,
-          );
-      bound = λ m few. omega (arith, c.all_but.ensures m few, c.loop-m.invariant.bound, all);
-    }
+    omega (
+      arith,
+      c.all_but.ensures m few,
+      c.loop-m.invariant.sum,
+      sum_beside c.loop-m.m m (get_or c.loop-m.lost m 0) cost (λ lt. c.loop-m.invariant.done m lt) (λ le. c.loop-m.invariant.none m le few),
+      ap (λ n. sum_below n (λ j. if j == m then 0 else cost j)) all,
+    )
+
+pub returns-clause-bound : goal.returns-clause-bound
+returns-clause-bound c = λ m few. omega (arith, c.all_but.ensures m few, c.loop-m.invariant.bound)

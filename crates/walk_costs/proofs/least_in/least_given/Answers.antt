@@ -1,4 +1,4 @@
-use Rattle.std.proofs.Common.{ℕ, get_or, arith}
+use Rattle.std.proofs.Common.{get_or, arith}
 use Rattle.walk_costs.proofs.LeastLaws.{all_seconds, one_more_second}
 use Rattle.walk_costs.proofs.least_in.least_given.Goals as goal
 
@@ -9,7 +9,7 @@ loop-s-init c = record {
 }
 
 pub add_lesser-requires : goal.add_lesser-requires
-add_lesser-requires c = λ m few. omega (arith, c.loop-s.invariant.bound m few, c.costs_beside-one.ensures.bound m few)
+add_lesser-requires c = record { room = λ m few. omega (arith, c.loop-s.invariant.bound m few, c.costs_beside-one.ensures.bound m few) }
 
 pub loop-s-preserved : goal.loop-s-preserved
 loop-s-preserved c = record {

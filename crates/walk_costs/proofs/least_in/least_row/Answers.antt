@@ -1,4 +1,4 @@
-use Rattle.std.proofs.Common.{◌≡◌, ◌≢◌, ℕ, ◌<◌, ◌≤◌, length, get_or, arith, subst, below_more, get_or-set_other, get_or-set_same, length-set}
+use Rattle.std.proofs.Common.{◌≢◌, ℕ, ◌<◌, length, get_or, arith, subst, below_more, get_or-set_other, get_or-set_same, length-set}
 use Rattle.std.proofs.Math.ListN.{set}
 use Rattle.signal_base.specs.declared.station.Station.{Station}
 use Rattle.minute_parts.specs.Parts.{part_where}
@@ -29,7 +29,7 @@ loop-p-preserved c =
     (omega (arith, c.seconds.ensures.count, c.seconds.ensures.bound)) c.requires.costs c.least_walk.ensures
     (λ i m is_run few.
     c.least_given-given.ensures.floor (part_where announced (run_at parts.runs i)) m
-    (subst (λ (t : Station). AreChosen c.choices_of-choices.result t (part_where announced (run_at parts.runs i))) c.station-choices.ensures (c.choices_of-choices.ensures i is_run))
+    (subst (λ (t : Station). AreChosen c.choices_of-choices.result t (part_where announced (run_at parts.runs i))) c.station.ensures (c.choices_of-choices.ensures i is_run))
     few) in
     let within : p < length c.loop-p.least = omega (arith, c.loop-p.invariant.long) in
     record {

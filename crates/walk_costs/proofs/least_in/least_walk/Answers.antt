@@ -9,5 +9,5 @@ loop-u-preserved c =
     record {
       each = below_more (λ u. c.min-least.result ≤ entry c.args.walks.now c.args.p u + by_call (minutes_to_call u)) c.loop-u.u
           (λ u lt. omega (arith, c.loop-u.invariant.each u lt, c.min-least.ensures))
-          (omega (arith, c.min-least.ensures, c.cost-cost.ensures, ap by_call c.minutes_to_call-cost.ensures.minutes));
+          (omega (arith, c.min-least.ensures, c.cost.ensures, ap by_call c.minutes_to_call.ensures.minutes));
     }

@@ -1,4 +1,4 @@
-use Rattle.std.proofs.Common.{inr, arith}
+use Rattle.std.proofs.Common.{inr}
 use Rattle.slot_columns.proofs.RowLaws.{none_costs}
 use Rattle.walk_costs.proofs.least_in.no_choices.Goals as goal
 

@@ -1,8 +1,6 @@
-use Rattle.std.proofs.Common.{◌≡◌, ℕ, ◌+◌, ◌%◌, ◌<◌, ◌≤◌, Bool, length, get_or, subst, arith}
+use Rattle.std.proofs.Common.{ℕ, ◌+◌, ◌%◌, ◌<◌, ◌≤◌, subst, arith}
 use Rattle.slot_columns.specs.Parts.{most_cost}
-use Rattle.minute_parts.specs.Parts.{part_where}
 use Rattle.minute_parts.specs.Runs.{run_at}
-use Rattle.walk_costs.specs.Dates.{kept, part_cost}
 use Rattle.walk_costs.specs.Leasts.{AreLeast, least_where}
 use Rattle.walk_costs.specs.Walks.{ArePriced, PricedParts}
 use Rattle.walk_costs.proofs.LeastLaws.{day_bound, no_less, with_date}
