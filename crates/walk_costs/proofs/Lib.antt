@@ -16,3 +16,4 @@ pub mod CrossingLaws
 pub mod PairLaws
 pub mod ScoredLaws
 pub mod NeighbourLaws
+pub mod LeastLaws

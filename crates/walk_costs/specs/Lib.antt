@@ -3,3 +3,4 @@ pub mod Shown
 pub mod Walks
 pub mod Stretches
 pub mod Crossings
+pub mod Leasts

@@ -19,6 +19,8 @@ use Rattle.walk_costs.specs.declared.date.DateCost.{DateCost}
 use Rattle.walk_costs.specs.declared.shown.Shown.{Shown}
 use Rattle.walk_costs.specs.declared.shown.Shown.TheVariants.{Never, Always, Sometimes}
 use Rattle.walk_costs.specs.Dates.{AreAdded, cost_at_call, date_cost, kept, part_cost}
+use Rattle.walk_costs.specs.declared.least_in.LeastWalks.{LeastWalks}
+use Rattle.walk_costs.specs.Leasts.{AreLeast, least_where}
 
 -- the parts of a station's telegrams, and what its symbols cost in the slots of a window
 pub record PricedParts : Type 0 where
@@ -82,9 +84,10 @@ pub record AreDateCosts (parts : PartTable) (grid : Grid) (dates : LayerSums) (p
       ≡ part_cost grid p (together (kept_of parts grid.station announced i) (kept_of parts grid.station announced j))
 
 -- all that is kept of a station
-pub record AreKept (parts : PartTable) (grid : Grid) (costs : List (List ℕ)) (more : List ℕ) (by_date : LayerSums) (places : List ℕ) : Type 0 where
+pub record AreKept (parts : PartTable) (grid : Grid) (costs : List (List ℕ)) (more : List ℕ) (by_date : LayerSums) (places : List ℕ) (floors : LeastWalks) : Type 0 where
   pub priced : ArePriced parts grid costs more
   pub dates : AreDateCosts parts grid by_date places
+  pub least : (announced : Bool) → AreLeast parts grid announced (least_where announced floors)
 
 -- in some slot the station may carry another set than without the announcement
 abbrev pub ShowsAnnouncement : PricedParts → Sequence → Type 0

@@ -14,6 +14,7 @@ ghost use Rattle.walk_costs.specs.Walks.{AreSmall, IsDateCost, IsRegularIn, IsSh
 use crate::date::DateCost;
 use crate::dut::added;
 use crate::kept::{DateTable, dates_of};
+use crate::least_in::LeastWalks;
 use crate::set_costs::look_at_all;
 use crate::shown::{Shown, TWO_MINUTES, differs_elsewhere, is_told_alike, some_slot_shows};
 use civil::Civil;
@@ -34,6 +35,7 @@ pub struct StationWalks {
     pub(crate) added: [u32; SECONDS_PER_MINUTE],
     pub(crate) dates: LayerTable,
     pub(crate) announced_dates: Vec<usize>,
+    pub(crate) least: LeastWalks,
 }
 
 impl Model for StationWalks {
@@ -43,7 +45,7 @@ impl Model for StationWalks {
 
     ghost view = { λ w. record { parts = w.unions; grid = w.columns } };
 
-    ghost invariant = { λ w. AreKept w.unions w.columns w.walks w.added w.dates w.announced_dates.items };
+    ghost invariant = { λ w. AreKept w.unions w.columns w.walks w.added w.dates w.announced_dates.items w.least };
 }
 
 impl StationWalks {
@@ -61,6 +63,7 @@ impl StationWalks {
         let walks = walks_of(alloc, parts, &columns)?;
         let added = all_added(&columns);
         let DateTable { costs, announced } = dates_of(alloc, parts, &columns)?;
+        let least = LeastWalks::make(parts, &columns, &walks);
         look_at_all(&columns);
         Ok(StationWalks {
             unions,
@@ -69,6 +72,7 @@ impl StationWalks {
             added,
             dates: costs,
             announced_dates: announced,
+            least,
         })
     }
 
