@@ -7,3 +7,4 @@ pub mod MinuteLaws
 pub mod DayLaws
 pub mod RowLaws
 pub mod LeapLaws
+pub mod FloorLaws

@@ -11,6 +11,7 @@ mod leaps;
 mod minutes;
 mod shown;
 mod station;
+mod station_floor;
 mod stations;
 mod sums;
 mod tables;

@@ -112,17 +112,29 @@ impl StationSums {
         ensures { (i : ℕ) → block.now.lo + i < block.now.hi
             → slice_index_or shown.new i false ≡ true ↔ (slice_index_or shown.old i false ≡ true ⊎ ShowsAnnouncement self.now (sequence_at block.now (block.now.lo + i))) }
     {
-        let walks = self.walks();
-        // What ends before the parts' end fits.
-        walks.parts().end();
-        let last = block.hi - 1 + walks.later_minutes(block.second);
-        if walks.never_shows(block.lo, last) {
+        if self.never_shows(block) {
             return;
         }
+        let walks = self.walks();
         let mut t = block.lo;
         while t < block.hi {
             t = mark_stretch(shown, walks, block.second, block.lo, t, block.hi);
         }
+    }
+
+    /// Whether it is known of an announced block that none of its sequences shows the announcement at the station.
+    pub fn never_shows(&self, block: &Block) -> bool
+        requires announced { block.now.announced ≡ true }
+        requires second { block.now.second < SECONDS_PER_MINUTE }
+        requires order { block.now.lo < block.now.hi }
+        requires regular { AreRegular true block.now.lo (block.now.hi + later_minutes (length self.now.grid.rows) block.now.second) self.now.parts.end }
+        ensures { result ≡ true → (t0 : ℕ) → block.now.lo ≤ t0 → t0 < block.now.hi → ¬ (ShowsAnnouncement self.now (sequence_at block.now t0)) }
+    {
+        let walks = self.walks();
+        // What ends before the parts' end fits.
+        walks.parts().end();
+        let last = block.hi - 1 + walks.later_minutes(block.second);
+        walks.never_shows(block.lo, last)
     }
 
     /// What an announced sequence costs the station that begins shortly before a leap second may be inserted. None of other

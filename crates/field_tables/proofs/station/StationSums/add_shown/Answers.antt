@@ -8,21 +8,13 @@ use Rattle.field_tables.proofs.MinuteLaws.{one_regular}
 use Rattle.field_tables.proofs.station.StationSums.add_shown.Goals as goal
 
 pub returns-then-never_shows : goal.returns-then-never_shows
-returns-then-never_shows c = λ j within.
-    let w = c.args.self.now in
-    let b = c.args.block.now in
-    let later = later_minutes (length w.grid.rows) b.second in
-    let long = ap (λ (v : PricedParts). length v.grid.rows) c.walks-walks.ensures in
-    let hidden = subst (λ (v : PricedParts). (p t0 : ℕ) → p < 60 → b.lo ≤ t0 → t0 + later_minutes (length v.grid.rows) p ≤ b.hi - 1 + c.later_minutes.result
-    → AreRegular true t0 (t0 + 1 + later_minutes (length v.grid.rows) p) v.parts.end → ¬ (ShowsAnnouncement v (record { first = t0; second = p; announced = true })))
-    c.walks-walks.ensures (c.never_shows.ensures.never c.if-never_shows.true) in (
-      λ told. inl told,
-      λ either. elim either [
-        | inl told ↦ told
-        | inr shows ↦ absurd (hidden b.second (b.lo + j) c.requires.second (omega arith) (omega (arith, within, c.later_minutes.ensures.count, long)) (one_regular true b.lo b.hi later w.parts.end j c.requires.regular within)
-            (subst (λ a. ShowsAnnouncement w (record { first = b.lo + j; second = b.second; announced = a })) c.requires.announced shows))
-      ],
-    )
+returns-then-never_shows c = λ j within. (
+  λ told. inl told,
+  λ either. elim either [
+    | inl told ↦ told
+    | inr shows ↦ absurd (c.never_shows.ensures c.if-never_shows.true (c.args.block.now.lo + j) (omega arith) within shows)
+  ],
+)
 
 pub loop-t-init : goal.loop-t-init
 loop-t-init c = record {
