@@ -1,10 +1,7 @@
-use Rattle.std.proofs.Common.{◌≡◌, ℕ, ◌+◌, ◌-◌, ◌⊎◌, ◌<◌, ◌≤◌, ◌↔◌, inl, inr, false, true, get_or, length, sym, ap, subst, arith}
-use Rattle.minute_parts.specs.Unions.{AreRegular}
+use Rattle.std.proofs.Common.{◌≡◌, ◌+◌, ◌⊎◌, ◌↔◌, inl, inr, false, true, get_or, sym, subst, arith}
 use Rattle.walk_costs.specs.Stretches.{AreMarked}
-use Rattle.minute_parts.specs.Walks.{later_minutes}
 use Rattle.walk_costs.specs.Walks.{PricedParts, ShowsAnnouncement}
 use Rattle.walk_costs.proofs.MarkLaws.{chained, none_marked}
-use Rattle.field_tables.proofs.MinuteLaws.{one_regular}
 use Rattle.field_tables.proofs.station.StationSums.add_shown.Goals as goal
 
 pub returns-then-never_shows : goal.returns-then-never_shows
