@@ -1,11 +1,11 @@
 -- What elements tell is the second whose elements they are, if they are those of one.
-use Rattle.std.proofs.Common.{◌≡◌, ℕ, ◌≤◌, Bool, true, false, not, List, refl, sym, ap, ◌∙◌, arith}
+use Rattle.std.proofs.Common.{◌≡◌, ◌<◌, ℕ, ◌≤◌, Bool, true, false, not, ◌&&◌, if◌then◌else◌, List, refl, sym, ap, ◌∙◌, arith}
 use Rattle.std.specs.Str.{bytes_eq}
 use Rattle.std.proofs.lemmas.Bool.{false≢true}
 use Rattle.std.proofs.lemmas.Slice.Eq.{bytes_eq-Decides}
-use Rattle.definitions.specs.time.Calendar.{century_minutes, minute_length}
+use Rattle.definitions.specs.time.Calendar.{century_minutes, is_leap_end, minute_length}
 use Rattle.formats.specs.Frames.{elements, told_minute, told_second}
-use Rattle.formats.specs.FrameTexts.{TellASecond}
+use Rattle.formats.specs.FrameTexts.{IsSecond, TellASecond}
 use Rattle.formats.proofs.FrameTellLaws.{minute_is_told, second_is_told}
 
 pub this_minute : (told : List ℕ) (h : TellASecond told) → told_minute told ≡ h.0
@@ -37,3 +37,11 @@ are_same xs ys e = go (bytes_eq xs ys) refl e
 
 pub are_others : (xs ys : List ℕ) → true ≡ not (bytes_eq xs ys) → xs ≡ ys → ⊥
 are_others xs ys e same = false≢true (sym (e ∙ ap not ((bytes_eq-Decides xs ys).1 same)))
+
+-- the seconds below 60 are seconds of each minute
+pub first_sixty : (t s : ℕ) → t < century_minutes → s < 60 → IsSecond t s
+first_sixty t s early lt = (early, go (is_leap_end t))
+  where
+    go : (b : Bool) → s < (if true && b then 61 else 60)
+    go true = omega (arith, lt)
+    go false = lt
