@@ -22,10 +22,10 @@ use walk_costs::StationWalks;
 /// the walks.
 #[derive(Drop)]
 pub struct StationBlocks {
-    pub(crate) walks: StationWalks,
+    walks: StationWalks,
     days: Kept,
     years: Kept,
-    pub(crate) hours: Hours,
+    hours: Hours,
 }
 
 impl Model for StationBlocks {
@@ -111,26 +111,15 @@ impl StationBlocks {
         cost_as_asked(&self.walks, false, p, lo, hi)
     }
 
-    // The same of the hour that begins in the minute `lo`.
+    // The same of the hour that begins in the minute `lo`: by what is kept, or else by unions that are made for it.
     fn hour_cost(&self, announced: bool, p: u8, lo: u32) -> u32
         requires second { p < SECONDS_PER_MINUTE }
         requires regular { AreRegular announced lo (lo + HOUR_MINUTES + later_minutes (length self.now.grid.rows) p) self.now.parts.end }
         ensures { IsHourCost self.now announced p lo result }
     {
-        // What so few slots and receivers cost fits.
-        self.walks.columns();
-        match self.hours.in_run(&self.walks, announced, p, lo, 1) {
-            Some(kept) => self.hours.costs[kept.begin] + kept.date,
-            None => self.hour_alone(announced, p, lo),
+        if let Some(cost) = self.hours.in_run(&self.walks, announced, p, lo) {
+            return cost;
         }
-    }
-
-    // The same of an hour that isn't kept, or whose walks don't lie in one run: by unions that are made for it, if need be.
-    pub(crate) fn hour_alone(&self, announced: bool, p: u8, lo: u32) -> u32
-        requires second { p < SECONDS_PER_MINUTE }
-        requires regular { AreRegular announced lo (lo + HOUR_MINUTES + later_minutes (length self.now.grid.rows) p) self.now.parts.end }
-        ensures { IsHourCost self.now announced p lo result }
-    {
         if let Some(cost) = self.hours.across(&self.walks, announced, p, lo) {
             return cost;
         }

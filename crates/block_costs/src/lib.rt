@@ -4,17 +4,11 @@
 
 mod across;
 mod blocks;
-#[cfg(test)]
-mod crossing_tests;
-mod day;
 mod kept;
 mod local_hours;
-mod minutes;
+mod sequences;
 #[cfg(test)]
 mod tests;
 mod unkept;
 
 pub use blocks::StationBlocks;
-pub use day::HoursOfDay;
-pub use local_hours::DAY_HOURS;
-pub use minutes::MinuteCosts;

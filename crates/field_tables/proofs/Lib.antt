@@ -4,6 +4,5 @@ pub mod SumLaws
 pub mod BlockLaws
 pub mod UnionBoundLaws
 pub mod MinuteLaws
-pub mod DayLaws
-pub mod RowLaws
+pub mod LegalLaws
 pub mod LeapLaws

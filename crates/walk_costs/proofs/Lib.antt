@@ -10,6 +10,4 @@ pub mod WalkLaws
 pub mod DateLaws
 pub mod ShownLaws
 pub mod AnnouncedLaws
-pub mod StretchLaws
-pub mod MarkLaws
 pub mod CrossingLaws

@@ -1,5 +1,4 @@
 pub mod Dates
 pub mod Shown
 pub mod Walks
-pub mod Stretches
 pub mod Crossings

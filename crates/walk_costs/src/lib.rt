@@ -9,17 +9,13 @@ mod date;
 mod dut;
 mod kept;
 mod least;
-mod marks;
 mod set_costs;
 mod shown;
-mod stretch;
 #[cfg(test)]
 mod tests;
 mod walks;
 
 pub use crossing::Crossing;
 pub use date::{ByCall, ByMinute, DateCost};
-pub use marks::Flags;
 pub use shown::Shown;
-pub use stretch::{MinuteCosts, STRETCH};
 pub use walks::StationWalks;
