@@ -4,7 +4,7 @@ ghost use Rattle.std.specs.Prelude.{◌≡◌, IfOk, length};
 ghost use Rattle.signal_base.specs.Limits.{IsPriced};
 ghost use Rattle.signal_base.specs.declared.station.Station.TheVariants.{Dcf77};
 
-use crate::{Block, BoundedChildren, announced_last, bounded_children, items, ranked};
+use crate::{Block, BoundedChildren, Span, announced_last, bounded_children, items, ranked};
 use civil::Civil;
 use field_tables::Tables;
 use pulse_log::read_log;
