@@ -10,5 +10,7 @@ mod sequences;
 #[cfg(test)]
 mod tests;
 mod unkept;
+mod walks;
 
 pub use blocks::StationBlocks;
+pub use walks::Walks;

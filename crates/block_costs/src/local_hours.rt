@@ -4,12 +4,11 @@
 ghost use Rattle.std.specs.Prelude.{ℕ, ◌≡◌, ◌+◌, ◌<◌, ◌≤◌, ◌^◌, IfOk, IfSome, OnOk, bit_or, false, length, slice_index, true};
 ghost use Rattle.minute_parts.specs.declared.hour_layers.TheConstants.{HOUR_MINUTES};
 ghost use Rattle.slot_columns.specs.declared.limits.TheConstants.{SECONDS_PER_MINUTE};
-ghost use Rattle.minute_parts.specs.Unions.{AreRegular};
 ghost use Rattle.minute_parts.specs.Overlay.{is_given_up};
-ghost use Rattle.minute_parts.specs.Walks.{later_minutes};
 ghost use Rattle.block_costs.specs.Hours.{AreHourCosts, AreHourLayers, AreHours, IsHourCost, hour_at};
 
 use crate::kept::LAST_SECOND;
+use crate::walks::Walks;
 use definitions::{MINUTES_PER_DAY, MINUTES_PER_HOUR};
 use minute_parts::{CALL_BEGIN, CALL_END, CALL_MARKER, CALL_MINUTE, hours_tell_time_and_date};
 use signal_base::Station;
@@ -129,26 +128,25 @@ fn add_hour(
 }
 
 impl Hours {
-    /// What the unions cost over the walks from second `p` of the hour that begins in the minute `lo`, where it is kept and its
-    /// walks lie in one run. None of other hours.
-    pub fn in_run(&self, walks: &StationWalks, announced: bool, p: u8, lo: u32) -> Option<u32>
-        requires hours { AreHours walks.now self.now.begin self.now.call self.now.firsts.items self.now.rests.items self.now.costs.items }
-        requires second { p < SECONDS_PER_MINUTE }
-        requires regular { AreRegular announced lo (lo + HOUR_MINUTES + later_minutes (length walks.now.grid.rows) p) walks.now.parts.end }
-        ensures { IfSome result (IsHourCost walks.now announced p lo) }
+    /// What the unions cost over the walks of an hour, where it is kept and they lie in one run. None of other hours.
+    pub fn in_run(&self, walks: &Walks<'_>) -> Option<u32>
+        requires hours { AreHours walks.now.station.now self.now.begin self.now.call self.now.firsts.items self.now.rests.items self.now.costs.items }
+        requires hour { walks.now.hi ≡ walks.now.lo + HOUR_MINUTES }
+        ensures { IfSome result (IsHourCost walks.now.station.now walks.now.announced walks.now.second walks.now.lo) }
     {
         hours_tell_time_and_date();
-        let unions = walks.unions();
+        let station = walks.station;
+        let p = walks.second;
+        let unions = station.unions();
         let parts = unions.parts();
         // They are a table, as their end is one.
         parts.end();
-        let run = parts.run_of(lo);
+        let run = parts.run_of(walks.lo);
         let at = parts.run(run);
-        let hour_end = lo + MINUTES_PER_HOUR;
-        if hour_end + walks.later_minutes(p) > parts.run_end(run) {
+        if walks.hi + station.later_minutes(p) > parts.run_end(run) {
             return None;
         }
-        let u = lo % MINUTES_PER_DAY + at.shift as u32;
+        let u = walks.lo % MINUTES_PER_DAY + at.shift as u32;
         if u % MINUTES_PER_HOUR != self.begin as u32 {
             return None;
         }
@@ -156,13 +154,13 @@ impl Hours {
         if hour >= self.firsts.len() {
             return None;
         }
-        let columns = walks.columns();
-        let told = at.date_part(announced);
+        let columns = station.columns();
+        let told = at.date_part(walks.announced);
         if !leaves_nothing(columns.station(), &self.call, told) {
             return None;
         }
         bytes_of(told);
-        let date = walks.kept_date_cost(announced, p, run);
+        let date = station.kept_date_cost(walks.announced, p, run);
         Some(self.costs[p as usize * DAY_HOURS + hour] + date)
     }
 }

@@ -4,7 +4,7 @@ ghost use Rattle.std.specs.Prelude.{◌≡◌, ◌<◌, ◌≤◌, IfOk};
 ghost use Rattle.signal_base.specs.Limits.{IsPriced};
 ghost use Rattle.signal_base.specs.declared.limits.TheConstants.{MOST_COST};
 
-use crate::StationBlocks;
+use crate::{StationBlocks, Walks};
 use civil::Civil;
 use minute_parts::{Parts, Unions};
 use pulse_log::read_log;
@@ -72,7 +72,14 @@ fn cost(blocks: &StationBlocks, p: u8, lo: u32, hi: u32) -> Option<u32> {
     if hi > end || end - hi < reach {
         return None;
     }
-    Some(blocks.union_cost(false, p, lo, hi))
+    let walks = Walks {
+        station: blocks.walks(),
+        announced: false,
+        second: p,
+        lo,
+        hi,
+    };
+    Some(blocks.union_cost(&walks))
 }
 
 // The cost of the sequence that begins in the minute `t0`, and none where it reaches past the last minute that is encoded.
@@ -84,7 +91,14 @@ fn minute_cost(blocks: &StationBlocks, p: u8, t0: u32) -> Option<u32>
     if t0 >= end || end - t0 - 1 < reach {
         return None;
     }
-    Some(blocks.sequence_cost(false, p, t0))
+    let walks = Walks {
+        station: blocks.walks(),
+        announced: false,
+        second: p,
+        lo: t0,
+        hi: t0 + 1,
+    };
+    Some(walks.first_cost())
 }
 
 // 2024-06-10T06:46Z, a minute after JJY's call sign; the minutes 46 to 55 of the hour come then. That day, and that year.

@@ -10,6 +10,7 @@ ghost use Rattle.field_tables.specs.Blocks.{AreMinutesOf, HasShortWalks};
 ghost use Rattle.field_tables.specs.Sums.{costs_by};
 
 use crate::sums::WindowSums;
+use block_costs::Walks;
 use civil::Civil;
 use definitions::Block;
 
@@ -69,8 +70,14 @@ impl WindowSums {
     {
         let mut total = 0;
         for station in &self.stations {
-            let blocks = station.blocks();
-            total += blocks.sequence_cost(minute.announced, minute.second, minute.lo);
+            let walks = Walks {
+                station: station.walks(),
+                announced: minute.announced,
+                second: minute.second,
+                lo: minute.lo,
+                hi: minute.lo + 1,
+            };
+            total += walks.first_cost();
         }
         total
     }

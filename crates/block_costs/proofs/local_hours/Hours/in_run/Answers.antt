@@ -13,11 +13,12 @@ use Rattle.block_costs.proofs.local_hours.Hours.in_run.Goals as goal
 
 pub returns : goal.returns
 returns c =
-    let w = c.args.walks.now in
+    let walks = c.args.walks.now in
+    let w = walks.station.now in
     let h = c.args.self.now in
-    let a = c.args.announced in
-    let p = c.args.p in
-    let lo = c.args.lo in
+    let a = walks.announced in
+    let p = walks.second in
+    let lo = walks.lo in
     let i = c.run_of-run.result in
     let run = run_at w.parts.runs i in
     let parts_is = c.parts-parts.ensures ∙ c.unions-unions.ensures.unions in
@@ -39,11 +40,11 @@ returns c =
     (c.leaves_nothing.ensures c.if-not-leaves_nothing.false s (ap (λ (st : Station). is_given_up st s) station ∙ given)) in
     let within : hour < length h.firsts.items = omega (arith, c.if-hour-len.false, c.len.ensures) in
     let in_day : hour < 24 = omega (arith, minute) in
-    let place : p * 24 + hour < length h.costs.items = omega (arith, in_day, c.requires.second, c.requires.hours.priced.count) in
+    let place : p * 24 + hour < length h.costs.items = omega (arith, in_day, walks.in_a_minute, c.requires.hours.priced.count) in
     let priced = c.index.ensures ∙ get_or_default h.costs.items (p * 24 + hour) c.index.result.now 0 place in
     kept_hour w h.begin h.call h.firsts.items h.rests.items h.costs.items c.requires.hours table c.unions-unions.ensures.station a i p lo hour
-    (c.index.result.now + c.kept_date_cost-date.result) is c.requires.second within minute begun (omega (arith, end, later, c.if-hour_end-run_end.false))
-    c.requires.regular.short bytes covered c.hours_tell_time_and_date.ensures c.columns-columns.ensures.small
+    (c.index.result.now + c.kept_date_cost-date.result) is walks.in_a_minute within minute begun (omega (arith, end, later, c.requires.hour, c.if-walks-run_end.false))
+    (λ t from to. walks.regular.short t from (omega (arith, to, c.requires.hour))) bytes covered c.hours_tell_time_and_date.ensures c.columns-columns.ensures.small
     (omega (arith, priced, c.kept_date_cost-date.ensures))
 
 pub overflow_add-result : goal.overflow_add-result

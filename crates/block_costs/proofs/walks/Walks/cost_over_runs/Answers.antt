@@ -1,6 +1,6 @@
 use Rattle.std.proofs.Common.{length, ap, ◌∙◌, arith}
 use Rattle.minute_parts.specs.Parts.{PartTable}
-use Rattle.block_costs.proofs.sequences.cost_over_runs.Goals as goal
+use Rattle.block_costs.proofs.walks.Walks.cost_over_runs.Goals as goal
 
 pub overflow_add-following : goal.overflow_add-following
 overflow_add-following c =
