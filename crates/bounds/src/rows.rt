@@ -55,6 +55,22 @@ pub fn bounded_children<'a>(tables: &'a Tables<'a>, block: &Block) -> BoundedChi
 }
 
 impl<'a> BoundedChildren<'a> {
+    /// The next child alone, whose bound isn't asked for, or None where no child is left.
+    pub fn next_block(&mut self) -> Option<Block>
+        ensures end { IfNone result ((self.old.left ≡ []) × (self.new.left ≡ [])) }
+        ensures child { IfSome result (λ child. self.old.left ≡ child ∷ self.new.left) }
+
+        // It is a block of the window.
+        ensures block { IfSome result (λ child. IsBlock self.old.tables.window child) }
+        ensures first { IfSome result (λ child. IsSequence (first_of child)) }
+
+        ensures tables { self.new.tables ≡ self.old.tables }
+    {
+        know_the_window(self.tables);
+        let block = self.children.next()?;
+        Some(block)
+    }
+
     /// The next child and its bound, or None where no child is left.
     pub fn next(&mut self) -> Option<Bounded>
         ensures end { IfNone result ((self.old.left ≡ []) × (self.new.left ≡ [])) }
@@ -68,8 +84,7 @@ impl<'a> BoundedChildren<'a> {
 
         ensures tables { self.new.tables ≡ self.old.tables }
     {
-        know_the_window(self.tables);
-        let block = self.children.next()?;
+        let block = self.next_block()?;
         let bound = bound(self.tables, &block);
         Some(Bounded { block, bound })
     }

@@ -52,7 +52,7 @@ module _ (s : Words) (three : length s.words ≡ 3) (n : ℕ) (vs : List View) w
     views = vs;
   }
 
-  third_changed : race_of record { words = set s.words 2 n; homes = s.homes; views = vs } ≡ record (race_of s) { second = n; views = vs }
+  pub third_changed : race_of record { words = set s.words 2 n; homes = s.homes; views = vs } ≡ record (race_of s) { second = n; views = vs }
   third_changed = λ i. record {
     drawn = get_or-set_other s.words 2 0 n 0 (λ e. omega arith) i;
     least = get_or-set_other s.words 2 1 n 0 (λ e. omega arith) i;

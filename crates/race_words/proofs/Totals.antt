@@ -32,6 +32,11 @@ module _ {X : Type 0} where
   map_unchanged f (x ∷ xs) zero v w e same = ap (λ y. y ∷ map f xs) (same ∙ sym (ap f (some-injective x v e)))
   map_unchanged f (x ∷ xs) (suc i) v w e same = ap (λ ys. f x ∷ ys) (map_unchanged f xs i v w e same)
 
+  pub set_at : (xs : List X) (i : ℕ) (v w : X) → get_elem? xs i ≡ some v → get_elem? (set xs i w) i ≡ some w
+  set_at [] i v w e = absurd (some-ne-none v (sym e))
+  set_at (x ∷ xs) zero v w e = refl
+  set_at (x ∷ xs) (suc i) v w e = set_at xs i v w e
+
   pub set_twice : (xs : List X) (i : ℕ) (v w : X) → set (set xs i v) i w ≡ set xs i w
   set_twice [] i v w = refl
   set_twice (x ∷ xs) zero v w = refl

@@ -2,7 +2,7 @@
 use Rattle.std.specs.Prelude.{◌≡◌, ℕ, ◌<◌, ◌≤◌, List, length, slice_index, All}
 use Rattle.atomic_table.specs.Table.{State, Me, Step}
 use Rattle.race_words.specs.declared.view.View.{View}
-use Rattle.race_words.specs.Views.{after_draw, after_first_part, after_second_part, after_limit}
+use Rattle.race_words.specs.Views.{after_draw, after_first_part, after_second_part, after_limit, after_limits}
 use Rattle.race_words.specs.Events.{RaceState, Event, Leads}
 
 abbrev pub Words : Type 0
@@ -34,3 +34,7 @@ Settles st m found m' = (m'.0 ≡ after_second_part m.0) × (m'.1 ≡ m.1)
 -- the second word was read, and it is not above `floor`
 abbrev pub Looks : Step (Unit {0}) → Mine → ℕ → Mine → Type 0
 Looks st m found m' = (m'.0 ≡ after_limit found m.0) × (m'.1 ≡ m.1) × (found ≤ m.0.floor)
+
+-- the same by one read that counts as more than one look: as many more as this tells of what is found
+abbrev pub LooksOften : (ℕ → ℕ) → Step (Unit {0}) → Mine → ℕ → Mine → Type 0
+LooksOften often st m found m' = (m'.0 ≡ after_limits (often found) found m.0) × (m'.1 ≡ m.1) × (found ≤ m.0.floor)

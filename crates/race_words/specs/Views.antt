@@ -1,5 +1,5 @@
 -- What a view is after each event that its seat takes.
-use Rattle.std.specs.Prelude.{ℕ, ◌+◌, ◌-◌, min, max, [], ◌∷◌, ◌++◌}
+use Rattle.std.specs.Prelude.{ℕ, zero, suc, ◌+◌, ◌-◌, min, max, [], ◌∷◌, ◌++◌}
 use Rattle.race_words.specs.declared.view.View.{View}
 use Rattle.race_words.specs.Keys.{no_key}
 
@@ -31,6 +31,11 @@ after_offer key old v = after_second_part (after_first_part key old v)
 -- it read this key from the second word
 abbrev pub after_limit : ℕ → View → View
 after_limit key v = record v { reads = v.reads ++ key ∷ []; floor = min v.floor key }
+
+-- it read this key once, and then so many times more
+abbrev pub after_limits : ℕ → ℕ → View → View
+after_limits zero key v = after_limit key v
+after_limits (suc n) key v = after_limit key (after_limits n key v)
 
 -- it gave this share away
 abbrev pub after_split : ℕ → View → View

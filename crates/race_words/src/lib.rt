@@ -17,5 +17,6 @@ mod view;
 pub use ends::Ends;
 pub use laws::{races_stay_sound, two_least_are_told_by_counts};
 pub use race::{Race, RaceFault};
+pub use rule::Often;
 pub use seat::Seat;
 pub use view::View;

@@ -1,12 +1,14 @@
 //! The race, and the calls with which seats take part in it. None but `make` takes memory, and none waits or refuses.
 ghost use Rattle.std.specs.Prelude.{◌≡◌, ℕ, ◌-◌, ◌<◌, ◌≤◌, max, length, All, IfOk};
 ghost use Rattle.race_words.specs.Keys.{no_key, two_least};
-ghost use Rattle.race_words.specs.Views.{fresh_view, after_draw, after_offer, after_limit, after_split, new_view, after_join};
+ghost use Rattle.race_words.specs.Views.{fresh_view, after_draw, after_offer, after_limit, after_limits, after_split, new_view, after_join};
 ghost use Rattle.race_words.specs.Events.{most_drawn};
 ghost use Rattle.race_words.specs.Sound.{HasEachOnce};
 
 use crate::ends::Ends;
-use crate::rule::{Cut, Draw, FirstPart, Look, Merge, Portion, Running, SecondPart};
+use crate::rule::{
+    Cut, Draw, FirstPart, Look, LookOften, Merge, Often, Portion, Running, SecondPart,
+};
 use crate::seat::Seat;
 use crate::view::View;
 use atomic_table::Table;
@@ -118,6 +120,18 @@ impl Race {
     {
         let words = &self.table.shared;
         words.load::<Look>(&mut seat.place, SECOND)
+    }
+
+    /// Reads the second word as `limit` does. The one load counts as one look, and as so many more as `O` tells of what it finds,
+    /// all of which found the same. The caller picks `O`, by `Brand`.
+    pub fn limit_often<O: Often>(&self, seat: &mut Seat) -> u64
+        requires race { seat.old.race ≡ self.now.id }
+        ensures race { seat.new.race ≡ seat.old.race }
+        ensures view { seat.new.view ≡ after_limits (O.often result) result seat.old.view }
+        ensures below { result ≤ seat.old.view.floor }
+    {
+        let words = &self.table.shared;
+        words.load::<LookOften<O>>(&mut seat.place, SECOND)
     }
 
     /// Offers a key below the greatest `u64`. It lowers the least word to the key, and then the second word to the greater of

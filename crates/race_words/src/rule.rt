@@ -1,7 +1,7 @@
 //! The rule that the running words are under, and what each step tells its seat.
 ghost use Rattle.std.specs.Prelude.{ℕ};
 ghost use Rattle.race_words.specs.Views.{fresh_view, blank_view, after_split, new_view, after_join};
-ghost use Rattle.race_words.specs.Shared.{IsRunning, Draws, Offers, Settles, Looks};
+ghost use Rattle.race_words.specs.Shared.{IsRunning, Draws, Offers, Settles, Looks, LooksOften};
 
 use crate::view::View;
 use atomic_table::{Join, Play, Split, TableRule};
@@ -38,6 +38,23 @@ pub(crate) struct Look;
 
 impl Play<(), View> for Look {
     ghost then = { Looks };
+}
+
+/// How many looks more than one a read counts as, by what it finds. Each call picks it.
+pub trait Often {
+    ghost often: { ℕ → ℕ };
+}
+
+impl Often for Brand {
+    ghost often = { λ found. 0 };
+}
+
+pub(crate) struct LookOften<O: Often> {
+    often: PhantomData<O>,
+}
+
+impl<O: Often> Play<(), View> for LookOften<O> {
+    ghost then = { LooksOften O.often };
 }
 
 /// The share that a split gives away. Each call of a split picks it.

@@ -86,6 +86,10 @@ impl Recorder for Counts {
 
     ghost joins = { λ before part after. after ≡ both before part };
 
+    fn needs_steps(&self) -> bool {
+        true
+    }
+
     fn record(&mut self, block: &Block, _bound: Option<u32>, _seen: u64) -> Result<(), Infallible> {
         *self = self.with(block.span);
         Ok(())

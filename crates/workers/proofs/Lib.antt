@@ -4,6 +4,7 @@ pub mod Drawing
 pub mod TwoLeast
 pub mod Closing
 pub mod Walking
+pub mod Passing
 pub mod Taking
 pub mod Working
 pub mod Joining

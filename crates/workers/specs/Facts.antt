@@ -9,7 +9,7 @@ use Rattle.definitions.specs.time.Calendar.{century_minutes}
 use Rattle.definitions.specs.sequences.Keys.{ceiling_key, key_of, sequence_of}
 use Rattle.definitions.specs.sequences.Walks.{IsLegal, IsSequence}
 use Rattle.definitions.specs.heard.Costs.{Costs, sequence_cost}
-use Rattle.definitions.specs.answers.Blocks.{block_key, children, items, IsBlock, IsBound, IsIn, IsInOne}
+use Rattle.definitions.specs.answers.Blocks.{block_key, children, items, shorter, IsBlock, IsBound, IsIn, IsInOne}
 
 pub record Facts (costs : Costs) (window : Window) (ceiling : ℕ) : Type 0 where
   pub century : window.to ≤ century_minutes
@@ -19,6 +19,7 @@ pub record Facts (costs : Costs) (window : Window) (ceiling : ℕ) : Type 0 wher
   pub none : (b : Block) (q : Sequence) → IsBlock window b → IsBound costs window b None → IsIn b q → ¬ (IsLegal window q)
   -- children share the sequences of their block
   pub blocks : (b : Block) → IsBlock window b → AllByRecursion (IsBlock window) (children b)
+  pub spans : (b : Block) → IsBlock window b → AllByRecursion (λ c. c.span ≡ shorter b.span) (children b)
   pub within : (b : Block) → IsBlock window b → AllByRecursion (λ c. (q : Sequence) → IsIn c q → IsIn b q) (children b)
   pub one : (b : Block) (q : Sequence) → IsBlock window b → b.span ≢ Minute → IsIn b q → IsInOne (children b) q
   -- items share those of their window

@@ -92,6 +92,10 @@ pub record HasOpened {P : Type 0} (told : P → Step → P → Type 0) (ceiling 
   pub view : w ≡ after_limit seen v
   pub kept : told p (record { block = b; bound = bound; seen = seen }) q
 
+-- what keeps steps needn't be told of any, since each leaves it as it is
+abbrev pub NeedsNone : {P : Type 0} → (P → Step → P → Type 0) → Type 0
+NeedsNone {P} told = (p : P) (s : Step) → told p s p
+
 -- how many spans are shorter
 abbrev pub depth : Span → ℕ
 depth Year = 3

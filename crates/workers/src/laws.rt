@@ -1,6 +1,6 @@
 //! The laws on visits and searches, as plain data.
 
-ghost use Rattle.std.specs.Prelude.{ℕ, ◌≡◌, ◌<◌, ◌≤◌, List, length, All, IsPermutation};
+ghost use Rattle.std.specs.Prelude.{ℕ, ◌≡◌, ◌<◌, ◌≤◌, IsTrue, List, Option, length, All, IsPermutation};
 ghost use Rattle.signal_base.specs.declared.window.Window.{Window};
 ghost use Rattle.signal_base.specs.declared.limits.TheConstants.{GREATEST_COST};
 ghost use Rattle.definitions.specs.declared.block.Block.{Block};
@@ -8,11 +8,14 @@ ghost use Rattle.definitions.specs.time.Calendar.{century_minutes};
 ghost use Rattle.definitions.specs.heard.Costs.{Costs};
 ghost use Rattle.definitions.specs.answers.Blocks.{items, IsBlock};
 ghost use Rattle.definitions.specs.answers.FirstTwo.{AreLeastTwo, IsWindowKey};
+ghost use Rattle.field_tables.specs.Floors.{IsFloor};
 ghost use Rattle.race_words.specs.declared.view.View.{View};
 ghost use Rattle.race_words.specs.Keys.{two_least};
 ghost use Rattle.race_words.specs.Sound.{times, HasEachOnce};
 ghost use Rattle.workers.specs.Facts.{Facts};
-ghost use Rattle.workers.specs.Visits.{AreVisits, IsBlockKey, IsCovered, IsVisit};
+ghost use Rattle.workers.specs.Visits.{AreVisits, IsBlockKey, IsCovered, IsVisit, limit_at};
+ghost use Rattle.workers.specs.Steps.{Step};
+ghost use Rattle.workers.specs.Passing.{ArePassing, is_above};
 ghost use Rattle.workers.specs.Searches.{AreApart, HasSearched, key_if_any};
 
 use definitions::{
@@ -49,6 +52,15 @@ pub fn visits_cover_their_blocks()
         → All (IsBlockKey costs window ceiling b) keys }
     ensures once { (costs : Costs) (window : Window) (ceiling : ℕ) (b : Block) (reads keys : List ℕ)
         → window.to ≤ century_minutes → IsBlock window b → IsVisit costs window ceiling b reads keys → AreApart keys }
+{
+    blocks_share_the_sequences();
+}
+
+/// Where a block's floor is above what is read, a visit of the block by reads that are all the same offers nothing.
+pub fn floors_pass_over()
+    ensures { (costs : Costs) (window : Window) (ceiling : ℕ) (b : Block) (floor : Option ℕ) (seen : ℕ)
+        → window.to ≤ century_minutes → IsBlock window b → IsFloor costs window b floor → IsTrue (is_above (limit_at ceiling seen) b floor)
+        → (steps : List Step) × ArePassing costs window ceiling b seen steps }
 {
     blocks_share_the_sequences();
 }

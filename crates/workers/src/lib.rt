@@ -3,6 +3,9 @@
 
 mod crew;
 mod ending;
+#[cfg(test)]
+mod floor_tests;
+mod floored;
 mod gate;
 mod laws;
 mod recorder;
@@ -15,7 +18,7 @@ mod visits;
 
 pub use ending::{Found, finish};
 pub use gate::{Gate, NoGate};
-pub use laws::{first_two_are_found, visit_is_one, visits_cover_their_blocks};
+pub use laws::{first_two_are_found, floors_pass_over, visit_is_one, visits_cover_their_blocks};
 pub use recorder::{NoRecord, Recorder};
 pub use searches::{search, search_with};
 pub use visits::visit;

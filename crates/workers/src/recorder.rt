@@ -1,7 +1,7 @@
 //! What keeps the steps of visits, or doesn't.
 
-ghost use Rattle.std.specs.Prelude.{IfOk, OnOk, OnErr};
-ghost use Rattle.workers.specs.Steps.{Step};
+ghost use Rattle.std.specs.Prelude.{IfOk, IsFalse, OnOk, OnErr};
+ghost use Rattle.workers.specs.Steps.{NeedsNone, Step};
 
 use definitions::Block;
 use std::convert::Infallible;
@@ -22,6 +22,10 @@ pub trait Recorder {
 
     // what it is before it takes a part in, the part, and what it is after
     ghost joins: { Self → Self → Self → Type 0 };
+
+    /// Whether it is to be told of every step. Where it needn't be, a day may be passed over of which it is told nothing.
+    fn needs_steps(&self) -> bool
+        ensures { IsFalse result → NeedsNone told };
 
     /// Keeps a step: the block, its bound, and what was read there.
     fn record(&mut self, block: &Block, bound: Option<u32>, seen: u64) -> Result<(), Self::Fault>
@@ -51,6 +55,10 @@ impl Recorder for NoRecord {
     ghost parts = { λ before after part. Unit {0} };
 
     ghost joins = { λ before part after. Unit {0} };
+
+    fn needs_steps(&self) -> bool {
+        false
+    }
 
     fn record(
         &mut self,

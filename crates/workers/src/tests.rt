@@ -2,7 +2,6 @@
 //! searches from end to end.
 
 ghost use Rattle.std.specs.Prelude.{◌≡◌, ◌≤◌, IfOk, length};
-ghost use Rattle.signal_base.specs.Limits.{IsPriced};
 ghost use Rattle.workers.specs.Searches.{AreItemsOf};
 ghost use Rattle.definitions.specs.answers.Blocks.{items};
 
@@ -28,7 +27,7 @@ use symbol_cost::CostGrid;
 // The end of the century, and the first minute of 2001.
 const CENTURY: u32 = 52_596_000;
 
-const YEAR_2001: u32 = 527_040;
+pub(crate) const YEAR_2001: u32 = 527_040;
 
 // How often a worker who is held looks for the other.
 const TURNS: u32 = 10_000_000;
@@ -46,7 +45,7 @@ fn dcf77(from: u32, to: u32) -> Window
     }
 }
 
-fn jjy(from: u32, to: u32) -> Window
+pub(crate) fn jjy(from: u32, to: u32) -> Window
     ensures { result ≡ record { stations = record { mask = 8 }; start = 0; phase = 0; seconds = 60; from = from; to = to } }
 {
     Window {
@@ -59,14 +58,21 @@ fn jjy(from: u32, to: u32) -> Window
     }
 }
 
-fn table() -> CostTable
-    ensures { IsPriced result }
+// What a receiver of a station hears by this log. Each millisecond that differs from a symbol costs 1.
+pub(crate) fn grid_of(alloc: Global, station: Station, text: &[u8]) -> Result<CostGrid, Fail>
+    requires { length text.now ≤ 1000 }
+    ensures station { IfOk result (λ grid. grid.station ≡ station) }
+    ensures slots { IfOk result (λ grid. length grid.rows ≡ 60) }
+    ensures receivers { IfOk result (λ grid. grid.receivers ≡ 1) }
 {
-    let costs = [100; 101];
-    CostTable {
-        low: costs,
-        high: costs,
-    }
+    let log = read_log(alloc, text)?;
+    let tuning = Tuning {
+        delay: 0,
+        weight: 1,
+    };
+    let table = CostTable::default();
+    let grid = CostGrid::make(alloc, station, &[tuning], &table, &[log], 0, 0, 60)?;
+    Ok(grid)
 }
 
 // A log without records, of which nothing is known, so that every sequence costs nothing.
@@ -75,13 +81,7 @@ fn silent_grid(alloc: Global, station: Station) -> Result<CostGrid, Fail>
     ensures slots { IfOk result (λ grid. length grid.rows ≡ 60) }
     ensures receivers { IfOk result (λ grid. grid.receivers ≡ 1) }
 {
-    let log = read_log(alloc, b"")?;
-    let tuning = Tuning {
-        delay: 0,
-        weight: 1,
-    };
-    let grid = CostGrid::make(alloc, station, &[tuning], &table(), &[log], 0, 0, 60)?;
-    Ok(grid)
+    grid_of(alloc, station, b"")
 }
 
 fn found<R: Threads + Sync>(
@@ -208,10 +208,11 @@ fn two_workers_meet_at_the_gate(rt: HostRuntime) -> Result<(), Fail> {
     Ok(())
 }
 
-// Counts the blocks that visits come to.
+// Counts the blocks of which it is told: of all that visits come to, or of those that aren't passed over by a floor.
 #[derive(Drop)]
-struct Counter {
-    blocks: u32,
+pub(crate) struct Counter {
+    pub needs_all: bool,
+    pub blocks: u32,
 }
 
 impl Recorder for Counter {
@@ -225,6 +226,10 @@ impl Recorder for Counter {
 
     ghost joins = { λ before part after. Unit {0} };
 
+    fn needs_steps(&self) -> bool {
+        self.needs_all
+    }
+
     fn record(
         &mut self,
         _block: &Block,
@@ -236,7 +241,10 @@ impl Recorder for Counter {
     }
 
     fn split(&mut self) -> Result<Counter, Infallible> {
-        Ok(Counter { blocks: 0 })
+        Ok(Counter {
+            needs_all: self.needs_all,
+            blocks: 0,
+        })
     }
 
     fn join(&mut self, part: Counter) -> Result<(), Infallible> {
@@ -245,21 +253,31 @@ impl Recorder for Counter {
     }
 }
 
-// How many blocks the visit of the year 2001 comes to, in a window of its first two minutes and the two before.
-fn blocks_of_2001(race: &Race, seat: &mut Seat, tables: &Tables, list: &[Block]) -> Option<u32>
+// Of how many blocks the visit of an item tells, where all are to be told or those that no floor passes over.
+fn blocks_of(
+    race: &Race,
+    seat: &mut Seat,
+    tables: &Tables,
+    list: &[Block],
+    number: usize,
+    needs_all: bool,
+) -> Option<u32>
     requires race { seat.old.race ≡ race.now.id }
     requires items { list.now ≡ items tables.now.window }
     ensures { seat.new.race ≡ seat.old.race }
 {
     items_share_the_sequences();
     let _window = tables.window();
-    let item = list.get(1)?;
+    let item = list.get(number)?;
     let visitor = Visitor {
         race,
         tables,
         ceiling: GREATEST_COST,
     };
-    let mut counter = Counter { blocks: 0 };
+    let mut counter = Counter {
+        needs_all,
+        blocks: 0,
+    };
     match visitor.visit_item(seat, item, &mut counter) {
         Ok(()) => Some(counter.blocks),
     }
@@ -279,14 +297,62 @@ fn a_visit_goes_by_what_another_seat_offered(rt: HostRuntime) -> Result<(), Fail
 
     // A seat that has seen nothing comes to the year, its day, its hour and two minutes.
     let (race, mut seat) = Race::make(rt.alloc(), 1)?;
-    assert_eq!(rt; blocks_of_2001(&race, &mut seat, &tables, &list), Some(5));
+    let told = blocks_of(&race, &mut seat, &tables, &list, 1, true);
+    assert_eq!(rt; told, Some(5));
 
     // Once another seat has offered two lesser keys, it comes to the year alone.
     let (race, mut first) = Race::make(rt.alloc(), 2)?;
     let mut other = race.split(&mut first, 1);
     race.offer(&mut first, 0);
     race.offer(&mut first, 1);
-    assert_eq!(rt; blocks_of_2001(&race, &mut other, &tables, &list), Some(1));
+    let told = blocks_of(&race, &mut other, &tables, &list, 1, true);
+    assert_eq!(rt; told, Some(1));
+    Ok(())
+}
+
+// Of how many blocks the visit of the first item tells, once another seat has offered these keys.
+fn blocks_after(
+    alloc: Global,
+    tables: &Tables,
+    list: &[Block],
+    one: u32,
+    two: u32,
+    needs_all: bool,
+) -> Result<Option<u32>, Fail>
+    requires items { list.now ≡ items tables.now.window }
+{
+    let (race, mut first) = Race::make(alloc, 2)?;
+    let mut other = race.split(&mut first, 1);
+    race.offer(&mut first, one as u64);
+    race.offer(&mut first, two as u64);
+    Ok(blocks_of(&race, &mut other, tables, list, 0, needs_all))
+}
+
+#[test]
+fn a_day_is_passed_over_by_what_another_seat_offered(rt: HostRuntime) -> Result<(), Fail> {
+    // The last minute of a day, and the first of the next. What is told of all blocks is told of their own steps.
+    let last = YEAR_2001 + 1439;
+    let civil = Civil::make(rt.alloc())?;
+    let window = jjy(last, last + 2);
+    let grids = [silent_grid(rt.alloc(), Station::Jjy)?];
+    let tables = Tables::make(rt.alloc(), &grids, &civil, &window)?;
+    let list = items(rt.alloc(), &civil, &window)?;
+
+    // After greater keys the visit comes to the year, two days, two hours and two minutes.
+    let all = blocks_after(rt.alloc(), &tables, &list, last + 2, last + 3, true)?;
+    let some = blocks_after(rt.alloc(), &tables, &list, last + 2, last + 3, false)?;
+    assert_eq!(rt; (all, some), (Some(7), Some(7)));
+
+    // After two keys below the second day's that day is passed over: by its own step, or by its floor, and then nothing is
+    // told of it.
+    let all = blocks_after(rt.alloc(), &tables, &list, 0, last, true)?;
+    let some = blocks_after(rt.alloc(), &tables, &list, 0, last, false)?;
+    assert_eq!(rt; (all, some), (Some(5), Some(4)));
+
+    // After the very key of the second day, which is the second-least once the first day's minute is offered, it is not.
+    let all = blocks_after(rt.alloc(), &tables, &list, last + 1, last + 3, true)?;
+    let some = blocks_after(rt.alloc(), &tables, &list, last + 1, last + 3, false)?;
+    assert_eq!(rt; (all, some), (Some(7), Some(7)));
     Ok(())
 }
 
@@ -302,7 +368,10 @@ fn blocks_of_all<R: Threads + Sync>(
     requires items { AreItemsOf tables.now.window list.now }
 {
     let (race, mut seat) = Race::make(alloc, workers)?;
-    let mut counter = Counter { blocks: 0 };
+    let mut counter = Counter {
+        needs_all: true,
+        blocks: 0,
+    };
     match search_with(
         rt,
         &race,

@@ -1,23 +1,22 @@
 //! Visits of blocks, down to the minutes.
 
 ghost use Rattle.std.specs.Prelude.{◌≡◌, ◌≢◌, ◌<◌, ◌≤◌, IfNone, IfOk, IfSome, OnOk, OnErr};
-ghost use Rattle.definitions.specs.declared.block.Span.TheVariants.{Day, Hour, Minute};
+ghost use Rattle.definitions.specs.declared.block.Span.TheVariants.{Hour, Minute};
 ghost use Rattle.std.specs.Option.{ForSome};
 ghost use Rattle.definitions.specs.sequences.Windows.{IsWindow};
 ghost use Rattle.definitions.specs.answers.Blocks.{IsBlock, IsBound, children};
 ghost use Rattle.field_tables.specs.Scored.{costs_of};
 ghost use Rattle.signal_base.specs.declared.limits.TheConstants.{GREATEST_COST};
+ghost use Rattle.race_words.specs.declared.view.View.{View};
 ghost use Rattle.race_words.specs.Keys.{no_key};
+ghost use Rattle.race_words.specs.Views.{after_limit};
 ghost use Rattle.workers.specs.Visits.{limit_at};
 ghost use Rattle.workers.specs.Steps.{HasOpened, HasStopped, HasWalked, HaveStopped, HaveWalked};
 
 use crate::recorder::Recorder;
-use bounds::{
-    Bounded, block_key, bound, bounded_children, bounded_hours, bounded_minutes, day_costs,
-    hour_costs,
-};
+use bounds::{Bounded, block_key, bound, bounded_children};
 use definitions::{Block, Span, children_share_the_sequences};
-use field_tables::{DayCosts, Tables};
+use field_tables::Tables;
 use race_words::{Race, Seat};
 use sequence::ceiling_key;
 
@@ -58,11 +57,11 @@ impl Visitor<'_> {
         let Some(_key) = opened else {
             return Ok(());
         };
-        self.visit_children(seat, item, recorder)
+        self.visit_opened(seat, item, recorder)
     }
 
     // Visits the children of a block that isn't a minute, one after the other. A child that is passed over costs no call.
-    fn visit_children<K: Recorder>(
+    pub(crate) fn visit_children<K: Recorder>(
         &self,
         seat: &mut Seat,
         block: &Block,
@@ -80,9 +79,6 @@ impl Visitor<'_> {
         if block.span == Span::Hour {
             return self.visit_minutes(seat, block, recorder);
         }
-        if let Some(costs) = day_costs(self.tables, block) {
-            return self.visit_hours(seat, block, &costs, recorder);
-        }
         children_share_the_sequences();
         let mut children = bounded_children(self.tables, block);
         // What doesn't change is the loop's own, so that it may stay in registers: after each read of the race's limit
@@ -99,39 +95,7 @@ impl Visitor<'_> {
         Ok(())
     }
 
-    // Visits the hours of a day, one after the other, whose costs are known.
-    fn visit_hours<K: Recorder>(
-        &self,
-        seat: &mut Seat,
-        day: &Block,
-        costs: &DayCosts<'_>,
-        recorder: &mut K,
-    ) -> Result<(), K::Fault>
-        requires race { seat.old.race ≡ self.now.race.now.id }
-        requires day { day.now.span ≡ Day }
-        requires costs { costs.now.block ≡ day.now }
-        requires tables { costs.now.tables ≡ self.now.tables.now }
-        ensures race { seat.new.race ≡ seat.old.race }
-        ensures walked { let t = self.now.tables.now in
-            OnOk result (HaveWalked K.told (costs_of t) t.window self.now.ceiling (children day.now) seat.old.view seat.new.view recorder.old recorder.new) }
-        ensures stopped { let t = self.now.tables.now in
-            OnErr result (HaveStopped K.told K.fails (costs_of t) t.window self.now.ceiling (children day.now) seat.old.view seat.new.view recorder.old recorder.new) }
-    {
-        let mut hours = bounded_hours(costs);
-        // As in `visit_children`.
-        let visitor = *self;
-        while let Some(hour) = hours.next() {
-            let opened = visitor.come_to(seat, &hour, recorder)?;
-            let Some(_key) = opened else {
-                continue;
-            };
-            let copy = hour.block;
-            self.visit_minutes(seat, &copy, recorder)?;
-        }
-        Ok(())
-    }
-
-    // Visits the minutes of an hour, one after the other. Over noise these are nearly all visits of a search.
+    // Visits the minutes of an hour, one after the other.
     fn visit_minutes<K: Recorder>(
         &self,
         seat: &mut Seat,
@@ -147,8 +111,8 @@ impl Visitor<'_> {
         ensures stopped { let t = self.now.tables.now in
             OnErr result (HaveStopped K.told K.fails (costs_of t) t.window self.now.ceiling (children hour.now) seat.old.view seat.new.view recorder.old recorder.new) }
     {
-        let costs = hour_costs(self.tables, hour);
-        let mut minutes = bounded_minutes(&costs);
+        children_share_the_sequences();
+        let mut minutes = bounded_children(self.tables, hour);
         // As in `visit_children`.
         let visitor = *self;
         while let Some(minute) = minutes.next() {
@@ -207,6 +171,29 @@ impl Visitor<'_> {
             OnErr result (HasStopped K.told K.fails (costs_of t) t.window self.now.ceiling found.now.block seat.old.view seat.new.view recorder.old recorder.new) }
     {
         let seen = self.race.limit(seat);
+        self.take_step(found, seen, recorder)
+    }
+
+    // The step of a block whose bound is known, and at which this was read, for any view that it was not above. The block's key,
+    // or None where the block is passed over.
+    #[inline(always)]
+    pub(crate) fn take_step<K: Recorder>(
+        &self,
+        found: &Bounded,
+        seen: u64,
+        recorder: &mut K,
+    ) -> Result<Option<u64>, K::Fault>
+        requires block { IsBlock self.now.tables.now.window found.now.block }
+        requires bound { let t = self.now.tables.now in IsBound (costs_of t) t.window found.now.block found.now.bound }
+        requires small { ForSome found.now.bound (λ n. n ≤ GREATEST_COST) }
+        ensures passed { let t = self.now.tables.now in (v : View) → seen ≤ v.floor → IfOk result (λ opened.
+            IfNone opened (HasWalked K.told (costs_of t) t.window self.now.ceiling found.now.block v (after_limit seen v) recorder.old recorder.new)) }
+        ensures opened { (v : View) → seen ≤ v.floor → IfOk result (λ opened.
+            IfSome opened (λ key. HasOpened K.told self.now.ceiling found.now.block found.now.bound key v (after_limit seen v) recorder.old recorder.new)) }
+        ensures key { IfOk result (λ opened. IfSome opened (λ key. key < no_key)) }
+        ensures stopped { let t = self.now.tables.now in (v : View) →
+            OnErr result (HasStopped K.told K.fails (costs_of t) t.window self.now.ceiling found.now.block v (after_limit seen v) recorder.old recorder.new) }
+    {
         recorder.record(&found.block, found.bound, seen)?;
         let Some(bound) = found.bound else {
             return Ok(None);
@@ -221,7 +208,7 @@ impl Visitor<'_> {
 }
 
 // The key above which a block is passed over.
-fn limit_at(ceiling: u32, seen: u64) -> u64
+pub(crate) fn limit_at(ceiling: u32, seen: u64) -> u64
     requires { ceiling ≤ GREATEST_COST }
     ensures { result ≡ limit_at ceiling seen }
 {

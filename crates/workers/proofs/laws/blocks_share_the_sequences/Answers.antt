@@ -9,6 +9,7 @@ returns c costs window ceiling century =
       key = λ b n q. c.bound_is_not_above.ensures.key costs window b n q;
       none = λ b q. c.bound_is_not_above.ensures.none costs window b q;
       blocks = λ b. blocks.blocks window b century;
+      spans = λ b. blocks.spans window b century;
       within = λ b. blocks.within window b century;
       one = λ b q. blocks.one window b q century;
       items_are = list.blocks window century;

@@ -6,8 +6,8 @@ use Rattle.workers.proofs.visitor.Visitor.visit_item.Goals as goal
 
 pub returns-clause-walked : goal.returns-clause-walked
 returns-clause-walked g c =
-    on_ok_weaker _ (with_children c.bound.ensures.bound (rw c.in-Some.is at c.in_ok-opened.ensures.opened) (search rules)) c.visit_children.ensures.walked
+    on_ok_weaker _ (with_children c.bound.ensures.bound (rw c.in-Some.is at c.in_ok-opened.ensures.opened) (search rules)) c.visit_opened.ensures.walked
 
 pub returns-clause-stopped : goal.returns-clause-stopped
 returns-clause-stopped g c =
-    on_err_weaker _ (with_children_stopped c.bound.ensures.bound (rw c.in-Some.is at c.in_ok-opened.ensures.opened) (search rules)) c.visit_children.ensures.stopped
+    on_err_weaker _ (with_children_stopped c.bound.ensures.bound (rw c.in-Some.is at c.in_ok-opened.ensures.opened) (search rules)) c.visit_opened.ensures.stopped

@@ -5,7 +5,7 @@ use Rattle.std.proofs.lemmas.List.Elements.{All-from_recursion}
 use Rattle.signal_base.specs.declared.window.Window.{Window}
 use Rattle.definitions.specs.time.Calendar.{century_minutes}
 use Rattle.definitions.specs.answers.Blocks.{items, IsBlock}
-use Rattle.workers.proofs.tests.blocks_of_2001.Goals as goal
+use Rattle.workers.proofs.tests.blocks_of.Goals as goal
 
 pub visit_item-requires-clause-block : goal.visit_item-requires-clause-block
 visit_item-requires-clause-block c =
@@ -13,4 +13,4 @@ visit_item-requires-clause-block c =
     let century : w.to ≤ century_minutes = omega (arith, c.window-window.ensures.ranges.century, ap (λ (w : Window). w.to) c.window-window.ensures.value) in
     let all = All-from_recursion (IsBlock w) (items w) (c.items_share_the_sequences.ensures.blocks w century) in
     let found = c.in_ok-item.ensures.lookup.3 in
-    λ _. subst (IsBlock w) (sym (found.1 c.in_ok-item.item.now)) (subst (All (IsBlock w)) (sym c.requires.items) all 1 c.in_ok-item.item.now found.0)
+    λ _. subst (IsBlock w) (sym (found.1 c.in_ok-item.item.now)) (subst (All (IsBlock w)) (sym c.requires.items) all c.args.number c.in_ok-item.item.now found.0)

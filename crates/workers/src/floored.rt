@@ -1,0 +1,155 @@
+//! Visits of a year's days where no steps are kept: a day is passed over by its floor, with one read.
+
+ghost use Rattle.std.specs.Prelude.{ℕ, ◌≡◌, ◌≢◌, ◌≤◌, IfNone, IfSome, OnOk, OnErr};
+ghost use Rattle.std.specs.Option.{ForSome};
+ghost use Rattle.signal_base.specs.declared.limits.TheConstants.{GREATEST_COST};
+ghost use Rattle.definitions.specs.declared.block.Span.TheVariants.{Year, Day, Minute};
+ghost use Rattle.definitions.specs.answers.Blocks.{IsBlock, children};
+ghost use Rattle.field_tables.specs.Scored.{costs_of};
+ghost use Rattle.race_words.specs.Views.{after_limit};
+ghost use Rattle.workers.specs.Visits.{limit_at};
+ghost use Rattle.workers.specs.Steps.{HasStopped, HasWalked, HaveStopped, HaveWalked, NeedsNone};
+ghost use Rattle.workers.specs.Passing.{CountsAs, HasLooked, HasPassed, is_above};
+
+use crate::laws::blocks_share_the_sequences;
+use crate::recorder::Recorder;
+use crate::visitor::{Visitor, limit_at};
+use bounds::{Bounded, block_key, bound, bounded_children};
+use definitions::{Block, Span, children_share_the_sequences};
+use race_words::{Often, Seat};
+use std::marker::Brand;
+
+impl Visitor<'_> {
+    /// Visits the children of a block that isn't a minute: the days of a year by their floors, where no step is to be kept.
+    pub(crate) fn visit_opened<K: Recorder>(
+        &self,
+        seat: &mut Seat,
+        block: &Block,
+        recorder: &mut K,
+    ) -> Result<(), K::Fault>
+        requires race { seat.old.race ≡ self.now.race.now.id }
+        requires block { IsBlock self.now.tables.now.window block.now }
+        requires longer { block.now.span ≢ Minute }
+        ensures race { seat.new.race ≡ seat.old.race }
+        ensures walked { let t = self.now.tables.now in
+            OnOk result (HaveWalked K.told (costs_of t) t.window self.now.ceiling (children block.now) seat.old.view seat.new.view recorder.old recorder.new) }
+        ensures stopped { let t = self.now.tables.now in
+            OnErr result (HaveStopped K.told K.fails (costs_of t) t.window self.now.ceiling (children block.now) seat.old.view seat.new.view recorder.old recorder.new) }
+    {
+        if recorder.needs_steps() {
+            return self.visit_children(seat, block, recorder);
+        }
+        if block.span == Span::Year {
+            return self.visit_days(seat, block, recorder);
+        }
+        self.visit_children(seat, block, recorder)
+    }
+
+    // Visits the days of a year, one after the other.
+    fn visit_days<K: Recorder>(
+        &self,
+        seat: &mut Seat,
+        year: &Block,
+        recorder: &mut K,
+    ) -> Result<(), K::Fault>
+        requires race { seat.old.race ≡ self.now.race.now.id }
+        requires block { IsBlock self.now.tables.now.window year.now }
+        requires year { year.now.span ≡ Year }
+        requires needless { NeedsNone K.told }
+        ensures race { seat.new.race ≡ seat.old.race }
+        ensures walked { let t = self.now.tables.now in
+            OnOk result (HaveWalked K.told (costs_of t) t.window self.now.ceiling (children year.now) seat.old.view seat.new.view recorder.old recorder.new) }
+        ensures stopped { let t = self.now.tables.now in
+            OnErr result (HaveStopped K.told K.fails (costs_of t) t.window self.now.ceiling (children year.now) seat.old.view seat.new.view recorder.old recorder.new) }
+    {
+        children_share_the_sequences();
+        let mut days = bounded_children(self.tables, year);
+        while let Some(day) = days.next_block() {
+            self.visit_day(seat, &day, recorder)?;
+        }
+        Ok(())
+    }
+
+    // Visits a day, which is passed over by its floor where that can be.
+    #[inline(always)]
+    fn visit_day<K: Recorder>(
+        &self,
+        seat: &mut Seat,
+        day: &Block,
+        recorder: &mut K,
+    ) -> Result<(), K::Fault>
+        requires race { seat.old.race ≡ self.now.race.now.id }
+        requires block { IsBlock self.now.tables.now.window day.now }
+        requires day { day.now.span ≡ Day }
+        requires needless { NeedsNone K.told }
+        ensures race { seat.new.race ≡ seat.old.race }
+        ensures walked { let t = self.now.tables.now in
+            OnOk result (HasWalked K.told (costs_of t) t.window self.now.ceiling day.now seat.old.view seat.new.view recorder.old recorder.new) }
+        ensures stopped { let t = self.now.tables.now in
+            OnErr result (HasStopped K.told K.fails (costs_of t) t.window self.now.ceiling day.now seat.old.view seat.new.view recorder.old recorder.new) }
+    {
+        let Some(seen) = self.pass_over(seat, day) else {
+            return Ok(());
+        };
+        let found = Bounded {
+            block: *day,
+            bound: bound(self.tables, day),
+        };
+        let opened = self.take_step(&found, seen, recorder)?;
+        let Some(_key) = opened else {
+            return Ok(());
+        };
+        self.visit_children(seat, day, recorder)
+    }
+
+    // Reads the race's limit once. None where the day's floor passes it over, and else what was read, by which the day's own
+    // step is to be taken.
+    #[inline(always)]
+    fn pass_over(&self, seat: &mut Seat, day: &Block) -> Option<u64>
+        requires race { seat.old.race ≡ self.now.race.now.id }
+        requires block { IsBlock self.now.tables.now.window day.now }
+        requires day { day.now.span ≡ Day }
+        ensures race { seat.new.race ≡ seat.old.race }
+        ensures passed { let t = self.now.tables.now in
+            IfNone result (HasPassed (costs_of t) t.window self.now.ceiling day.now seat.old.view seat.new.view) }
+        ensures low { IfSome result (λ seen. seen ≤ seat.old.view.floor) }
+        ensures read { IfSome result (λ seen. seat.new.view ≡ after_limit seen seat.old.view) }
+    {
+        blocks_share_the_sequences();
+        let floor = self.tables.floor(day);
+        let seen = self.look::<Brand>(seat, day, floor);
+        if self.is_above(day, floor, seen) {
+            return None;
+        }
+        Some(seen)
+    }
+
+    // Reads the race's limit. Where the day's floor passes it over, the one load counts as all reads of a visit of the day, and
+    // else as one.
+    #[inline(always)]
+    fn look<O: Often>(&self, seat: &mut Seat, day: &Block, floor: Option<u32>) -> u64
+        requires race { seat.old.race ≡ self.now.race.now.id }
+        requires often { let t = self.now.tables.now in
+            (seen : ℕ) → CountsAs (costs_of t) t.window self.now.ceiling day.now floor seen (O.often seen) }
+        ensures race { seat.new.race ≡ seat.old.race }
+        ensures low { result ≤ seat.old.view.floor }
+        ensures looked { let t = self.now.tables.now in
+            HasLooked (costs_of t) t.window self.now.ceiling day.now floor result seat.old.view seat.new.view }
+    {
+        let _named = (day, floor);
+        self.race.limit_often::<O>(seat)
+    }
+
+    // Whether the key of the day's floor is above the limit.
+    #[inline(always)]
+    fn is_above(&self, day: &Block, floor: Option<u32>, seen: u64) -> bool
+        requires block { IsBlock self.now.tables.now.window day.now }
+        requires small { ForSome floor (λ n. n ≤ GREATEST_COST) }
+        ensures { result ≡ is_above (limit_at self.now.ceiling seen) day.now floor }
+    {
+        match floor {
+            None => true,
+            Some(floor) => block_key(floor, day) > limit_at(self.ceiling, seen),
+        }
+    }
+}
