@@ -1,8 +1,9 @@
 //! Reading words.
 
-ghost use Rattle.std.specs.Prelude.{◌≡◌, ◌<◌, IfOk, false, length, option_map, true};
+ghost use Rattle.std.specs.Prelude.{◌≡◌, ◌<◌, IfOk, Some, false, length, option_map, true};
 ghost use Rattle.formats.specs.OrderRanges.{IsInRange};
 ghost use Rattle.formats.specs.Orders.{certificate_of, file_at, order_of, order_with};
+ghost use Rattle.formats.specs.Orders.{Order as PlainOrder};
 ghost use Rattle.formats.specs.Words.{is_run, reach_commands, run_commands};
 ghost use Rattle.bank_words.specs.Gives.{Gives};
 ghost use Rattle.bank_words.specs.Seen.{order_seen, parts_seen, reach_seen, texts_of};
@@ -13,6 +14,7 @@ use crate::table::{CERTIFICATE, REACH_COMMANDS, RUN_COMMANDS};
 use crate::values::values_of;
 use crate::{Order, Reach};
 use formats::{Command, Values, WordFault, orders_are_in_range, words_keep_to_their_commands};
+use signal_base::Station;
 
 // The name of a file at a place.
 fn file_at<'a>(line: &Line<'a>, place: usize) -> &'a str
@@ -29,14 +31,14 @@ fn certificate_of<'a>(line: &Line<'a>) -> Option<&'a str>
     value_behind(CERTIFICATE, line.pairs)
 }
 
-// The order of a line of a run with these values.
-fn run_order<'a>(line: &Line<'a>, values: &Values) -> Order<'a>
+// The order of a line of a run with these values, if those are given that its command can't do without.
+fn run_order<'a>(line: &Line<'a>, values: &Values) -> Option<Order<'a>>
     requires { is_run line.now.command ≡ true }
-    ensures { order_seen result ≡ order_with line.now.command (parts_seen line.now) values.now }
+    ensures { option_map order_seen result ≡ order_with line.now.command (parts_seen line.now) values.now }
 {
     let asked = values.asked;
     let workers = values.workers;
-    match line.command {
+    let order = match line.command {
         Command::Decode => Order::Decode {
             config: file_at(line, 0),
             asked,
@@ -53,23 +55,40 @@ fn run_order<'a>(line: &Line<'a>, values: &Values) -> Order<'a>
             asked,
             workers,
         },
-        Command::Encode { station } => Order::Encode {
-            station,
-            minute: values.minute,
-            leap: values.leap,
-        },
-        Command::Trial => Order::Trial {
-            number: values.number,
-            workers,
-        },
+        Command::Encode { station } => return encode_order(station, values),
+        Command::Trial => return trial_order(values),
         _ => unreachable!(),
-    }
+    };
+    Some(order)
+}
+
+// The order of an encode, if a minute is given.
+fn encode_order<'a>(station: Station, values: &Values) -> Option<Order<'a>>
+    ensures { option_map order_seen result ≡ option_map (λ minute. PlainOrder.Encode station minute values.now.leap) values.now.minute }
+{
+    let minute = values.minute?;
+    Some(Order::Encode {
+        station,
+        minute,
+        leap: values.leap,
+    })
+}
+
+// The order of a trial, if a number is given.
+fn trial_order<'a>(values: &Values) -> Option<Order<'a>>
+    ensures { option_map order_seen result ≡ option_map (λ number. PlainOrder.Trial number values.now.workers) values.now.number }
+{
+    let number = values.number?;
+    Some(Order::Trial {
+        number,
+        workers: values.workers,
+    })
 }
 
 // The order of a board with these values.
 fn board_order<'a>(line: &Line<'a>, values: &Values) -> Reach<'a>
     requires { 1 < length line.now.places.now }
-    ensures { reach_seen result ≡ order_with Command.Board (parts_seen line.now) values.now }
+    ensures { order_with Command.Board (parts_seen line.now) values.now ≡ Some (reach_seen result) }
 {
     Reach::Board {
         config: file_at(line, 0),
@@ -85,7 +104,7 @@ fn board_order<'a>(line: &Line<'a>, values: &Values) -> Reach<'a>
 // The order of a line beyond a run with these values.
 fn reach_order<'a>(line: &Line<'a>, values: &Values) -> Reach<'a>
     requires { is_run line.now.command ≡ false }
-    ensures { reach_seen result ≡ order_with line.now.command (parts_seen line.now) values.now }
+    ensures { order_with line.now.command (parts_seen line.now) values.now ≡ Some (reach_seen result) }
 {
     let asked = values.asked;
     let workers = values.workers;
@@ -136,7 +155,10 @@ pub fn read_words(words: &[String]) -> Result<Order<'_>, WordFault>
         return Err(WordFault::Usage);
     };
     let values = values_of(&line)?;
-    Ok(run_order(&line, &values))
+    match run_order(&line, &values) {
+        Some(order) => Ok(order),
+        None => Err(WordFault::Usage),
+    }
 }
 
 /// Reads words beyond a run: `follow`, `sweep`, `judge`, `board`, `irig` or `irig-read`. The faults come as those of

@@ -1,21 +1,19 @@
-//! What each command takes, what each value may be, and the defaults.
+//! What each command takes, and what each value may be.
 
 ghost use Rattle.std.specs.Prelude.{◌≡◌, ◌<◌, ℕ, bytes_eq, nat_le, option_map};
 ghost use Rattle.std.specs.List.{list_any};
 ghost use Rattle.definitions.specs.time.Calendar.{century_minutes};
 ghost use Rattle.formats.specs.Bytes.{station_name};
-ghost use Rattle.formats.specs.OrderRanges.{IsIn};
 ghost use Rattle.formats.specs.Words.{form_of, search_options, window_options};
-ghost use Rattle.formats.specs.WordValues.{default_of, kind_of, suits};
+ghost use Rattle.formats.specs.WordValues.{kind_of, suits};
 ghost use Rattle.formats.specs.declared.option.OptionName.TheVariants.{Minute};
 ghost use Rattle.formats.specs.declared.words.Command.TheVariants.{Encode};
 ghost use Rattle.bank_words.specs.Own.{own_words};
 
 use definitions::CENTURY_MINUTES;
 use formats::{
-    Command, DEFAULT_COUNT, DEFAULT_READERS, DEFAULT_SECONDS, DEFAULT_STEP, DEFAULT_WORKERS,
-    LEAST_COUNT, LEAST_READERS, LEAST_STEP, LEAST_WORKERS, MOST_COUNT, MOST_NUMBER, MOST_READERS,
-    MOST_STEP, MOST_WORKERS, OptionName, ValueKind, last_minutes_suit,
+    Command, LEAST_COUNT, LEAST_READERS, LEAST_STEP, LEAST_WORKERS, MOST_COUNT, MOST_NUMBER,
+    MOST_READERS, MOST_STEP, MOST_WORKERS, OptionName, ValueKind, last_minutes_suit,
 };
 use signal_base::{LEAST_SECONDS, MOST_SECONDS, START_LIMIT, Station};
 
@@ -160,23 +158,6 @@ pub fn kind_of(name: OptionName) -> ValueKind
             least: LEAST_READERS as u64,
             most: MOST_READERS as u64,
         },
-    }
-}
-
-/// The value that stands where none is given. NUMBER and MINUTE are given wherever they are used, and `--start` has no
-/// default.
-pub fn default_of(name: OptionName) -> u64
-    ensures value { result ≡ default_of name }
-    ensures range { IsIn name result }
-{
-    match name {
-        OptionName::Seconds => DEFAULT_SECONDS as u64,
-        OptionName::To => CENTURY_MINUTES as u64 - 1,
-        OptionName::Workers => DEFAULT_WORKERS as u64,
-        OptionName::Step => DEFAULT_STEP as u64,
-        OptionName::Count => DEFAULT_COUNT as u64,
-        OptionName::Readers => DEFAULT_READERS as u64,
-        _ => 0,
     }
 }
 

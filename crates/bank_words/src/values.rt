@@ -1,6 +1,6 @@
 //! The values that words give, checked in their order.
 
-ghost use Rattle.std.specs.Prelude.{◌≡◌, IfOk, IfSome, option_map, slice_get};
+ghost use Rattle.std.specs.Prelude.{◌≡◌, ◌<◌, ◌^◌, IfOk, IfSome, option_map, slice_get};
 ghost use Rattle.formats.specs.OrderRanges.{IsIn, IsOfKind};
 ghost use Rattle.formats.specs.Orders.{bad, given, is_placed, said_by, text_in, valued, values_of};
 ghost use Rattle.formats.specs.WordValues.{kind_of, read_as, suits};
@@ -10,8 +10,12 @@ ghost use Rattle.bank_words.specs.Seen.{parts_seen, texts_of};
 use crate::grammar::value_behind;
 use crate::line::Line;
 use crate::numbers::{minute_in, number_in};
-use crate::table::{default_of, kind_of, last_minute};
-use formats::{Asked, Command, OptionName, ValueKind, Values, WordFault};
+use crate::table::{kind_of, last_minute};
+use definitions::CENTURY_MINUTES;
+use formats::{
+    Asked, Command, DEFAULT_COUNT, DEFAULT_READERS, DEFAULT_SECONDS, DEFAULT_STEP, DEFAULT_WORKERS,
+    OptionName, ValueKind, Values, WordFault,
+};
 
 // The first of some words.
 fn first_of<'a>(words: &'a [String]) -> Option<&'a str>
@@ -113,14 +117,26 @@ fn given(line: &Line, name: OptionName) -> Result<Option<u64>, WordFault>
     }
 }
 
-// The value or its default.
-fn valued(line: &Line, name: OptionName) -> Result<u64, WordFault>
-    ensures value { Gives (λ n. n) result (valued name (parts_seen line.now)) }
+// The value, or this one where none is given.
+fn valued(line: &Line, name: OptionName, default: u64) -> Result<u64, WordFault>
+    requires { IsIn name default }
+    ensures value { Gives (λ n. n) result (valued name default (parts_seen line.now)) }
     ensures range { IfOk result (IsIn name) }
 {
     match given(line, name)? {
         Some(value) => Ok(value),
-        None => Ok(default_of(name)),
+        None => Ok(default),
+    }
+}
+
+// A value below 2^32 that may be given, as a number of 32 bits.
+fn narrow(value: Option<u64>) -> Option<u32>
+    requires { IfSome value (λ n. n < 2 ^ 32) }
+    ensures { result ≡ value }
+{
+    match value {
+        Some(value) => Some(value as u32),
+        None => None,
     }
 }
 
@@ -128,23 +144,23 @@ fn valued(line: &Line, name: OptionName) -> Result<u64, WordFault>
 pub fn values_of(line: &Line) -> Result<Values, WordFault>
     ensures { Gives (λ v. v) result (values_of (parts_seen line.now)) }
 {
-    let number = valued(line, OptionName::Number)?;
-    let minute = valued(line, OptionName::Minute)?;
+    let number = given(line, OptionName::Number)?;
+    let minute = given(line, OptionName::Minute)?;
     let start = given(line, OptionName::Start)?;
-    let seconds = valued(line, OptionName::Seconds)?;
-    let from = valued(line, OptionName::From)?;
-    let to = valued(line, OptionName::To)?;
-    let workers = valued(line, OptionName::Workers)?;
-    let leap = valued(line, OptionName::Leap)?;
-    let step = valued(line, OptionName::Step)?;
-    let count = valued(line, OptionName::Count)?;
-    let readers = valued(line, OptionName::Readers)?;
+    let seconds = valued(line, OptionName::Seconds, DEFAULT_SECONDS as u64)?;
+    let from = valued(line, OptionName::From, 0)?;
+    let to = valued(line, OptionName::To, CENTURY_MINUTES as u64 - 1)?;
+    let workers = valued(line, OptionName::Workers, DEFAULT_WORKERS as u64)?;
+    let leap = valued(line, OptionName::Leap, 0)?;
+    let step = valued(line, OptionName::Step, DEFAULT_STEP as u64)?;
+    let count = valued(line, OptionName::Count, DEFAULT_COUNT as u64)?;
+    let readers = valued(line, OptionName::Readers, DEFAULT_READERS as u64)?;
     if to < from {
         return Err(WordFault::EmptyRange);
     }
     Ok(Values {
-        number: number as u32,
-        minute: minute as u32,
+        number: narrow(number),
+        minute: narrow(minute),
         asked: Asked {
             start,
             seconds: seconds as u16,

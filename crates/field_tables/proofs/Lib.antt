@@ -6,3 +6,4 @@ pub mod UnionBoundLaws
 pub mod MinuteLaws
 pub mod LegalLaws
 pub mod LeapLaws
+pub mod FloorLaws

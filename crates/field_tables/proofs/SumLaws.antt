@@ -1,5 +1,5 @@
 -- Sums over the stations of a window.
-use Rattle.std.proofs.Common.{◌≡◌, ℕ, ◌+◌, ◌*◌, ◌<◌, ◌≤◌, Bool, List, slice_index, true, length, sum_by, take, get_or, sym, ap, ◌∙◌, subst, arith}
+use Rattle.std.proofs.Common.{◌≡◌, ℕ, ◌+◌, ◌*◌, ◌<◌, ◌≤◌, Bool, List, slice_index, true, length, sum_by, take, get_or, refl, sym, ap, ◌∙◌, subst, arith}
 use Rattle.std.proofs.Math.ListN.{get_or-map}
 use Rattle.std.proofs.lemmas.List.{length-map, take_all}
 use Rattle.std.proofs.lemmas.List.Sums.{sum_by-take-le, sum_by_more}
@@ -74,6 +74,13 @@ module _ (sums : Sums) (are : AreSums sums) where
         let more = sum_by_more F (grids_of sums.stations) i w.grid within_grids in
         let price : F w.grid ≡ F (get_or (grids_of sums.stations) i w.grid) = ap F its_grid in
         omega (arith, more, price, before, here)
+
+    -- what isn't above a sum goes on not to be above it
+    pub next_less : (F : Grid → ℕ) (total cost : ℕ) → total ≤ sum_by F (take i (grids_of sums.stations)) → cost ≤ F w.grid
+        → total + cost ≤ sum_by F (take (i + 1) (grids_of sums.stations))
+    next_less F total cost before here =
+        let more = next F (sum_by F (take i (grids_of sums.stations))) (F w.grid) refl refl in
+        omega (arith, more, before, here)
 
     pub next_within : (total cost : ℕ) → IsWithin sums i total → cost ≤ most_cost w.grid → IsWithin sums (i + 1) (total + cost)
     next_within total cost before here =

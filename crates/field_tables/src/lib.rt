@@ -7,6 +7,7 @@ mod floor;
 mod leaps;
 mod minute;
 mod station;
+mod station_floor;
 mod stations;
 mod sums;
 mod tables;

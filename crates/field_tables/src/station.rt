@@ -7,7 +7,10 @@ ghost use Rattle.definitions.specs.answers.Blocks.{HasWalk, IsBlock, IsUnion};
 ghost use Rattle.definitions.specs.heard.Dut1.{has_dut1};
 ghost use Rattle.definitions.specs.sequences.Windows.{IsWindow};
 ghost use Rattle.slot_columns.specs.declared.limits.TheConstants.{SECONDS_PER_MINUTE};
+ghost use Rattle.minute_parts.specs.Unions.{AreRegular};
 ghost use Rattle.minute_parts.specs.Walks.{later_minutes};
+ghost use Rattle.walk_costs.specs.Walks.{ShowsAnnouncement};
+ghost use Rattle.field_tables.specs.Minutes.{sequence_at};
 ghost use Rattle.field_tables.specs.Leaps.{IsLeapCost};
 ghost use Rattle.field_tables.specs.Sums.{IsOf};
 
@@ -78,6 +81,21 @@ impl StationSums {
         ensures { result.now ≡ self.now }
     {
         &self.blocks
+    }
+
+    /// Whether it is known of an announced block that none of its sequences shows the announcement at the station.
+    pub fn never_shows(&self, block: &Block) -> bool
+        requires announced { block.now.announced ≡ true }
+        requires second { block.now.second < SECONDS_PER_MINUTE }
+        requires order { block.now.lo < block.now.hi }
+        requires regular { AreRegular true block.now.lo (block.now.hi + later_minutes (length self.now.grid.rows) block.now.second) self.now.parts.end }
+        ensures { result ≡ true → (t0 : ℕ) → block.now.lo ≤ t0 → t0 < block.now.hi → ¬ (ShowsAnnouncement self.now (sequence_at block.now t0)) }
+    {
+        let walks = self.walks();
+        // What ends before the parts' end fits.
+        walks.parts().end();
+        let last = block.hi - 1 + walks.later_minutes(block.second);
+        walks.never_shows(block.lo, last)
     }
 
     /// What an announced sequence costs the station that begins shortly before a leap second may be inserted. None of other

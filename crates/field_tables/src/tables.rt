@@ -37,9 +37,9 @@ impl From<AllocError> for TablesFault {
 #[derive(Drop)]
 pub struct Tables<'a> {
     grids: &'a [CostGrid],
-    civil: &'a Civil,
+    pub(crate) civil: &'a Civil,
     window: Window,
-    sums: WindowSums,
+    pub(crate) sums: WindowSums,
 }
 
 impl<'a> Model for Tables<'a> {

@@ -7,3 +7,15 @@ pub mod WordLimitLaws
 pub mod OrderRangeLaws
 pub mod WordExampleLaws
 pub mod LineOfLaws
+pub mod FrameEdgeLaws
+pub mod FrameTellLaws
+pub mod FrameStepLaws
+pub mod FrameRunLaws
+pub mod FrameStuckLaws
+pub mod FrameReachLaws
+pub mod FrameOutcomeLaws
+pub mod FrameWalkLaws
+pub mod FrameExampleLaws
+pub mod CheapestLaws
+pub mod SymbolLaws
+pub mod ShareLaws

@@ -94,7 +94,7 @@ decide_time digits = go (cases_lt value TIME_LIMIT) (decide_bytes digits (decima
     go (inr h) s = inr (λ t. omega (arith, h, t.1, is_value t.0 t.1 t.2))
 
 -- no bytes, or a last byte with the bytes before it
-by_end : (bs : List ℕ) → (bs ≡ []) ⊎ ((front : List ℕ) × (last : ℕ) × (bs ≡ front ++ last ∷ []))
+pub by_end : (bs : List ℕ) → (bs ≡ []) ⊎ ((front : List ℕ) × (last : ℕ) × (bs ≡ front ++ last ∷ []))
 by_end [] = inl refl
 by_end (b ∷ bs) = inr (go (by_end bs))
   where

@@ -5,6 +5,7 @@ pub mod Reports
 pub mod Listing
 pub mod Feed
 pub mod Trials
+pub mod Heard
 pub mod Options
 pub mod Keys
 pub mod Words
@@ -12,5 +13,9 @@ pub mod WordValues
 pub mod Orders
 pub mod OrderRanges
 pub mod WordExamples
+pub mod Frames
+pub mod FrameTexts
+pub mod FrameWalks
+pub mod HeardExamples
 pub mod Refusals
 pub mod Examples

@@ -1,12 +1,14 @@
 -- What words ask for: the values, in the order in which they are checked, and the order that they make.
-use Rattle.std.specs.Prelude.{ℕ, ◌+◌, ◌==◌, Bool, false, true, nat_lt, if◌then◌else◌, List, [], Option, Some, None, option_map, unwrap_or, Result, Ok, Err, slice_get, slice_index_or, ok_or}
+use Rattle.std.specs.Prelude.{ℕ, ◌+◌, ◌-◌, ◌==◌, Bool, false, true, nat_lt, if◌then◌else◌, List, [], Option, Some, None, option_map, unwrap_or, Result, Ok, Err, slice_get, slice_index_or, ok_or}
 use Rattle.std.specs.Option.{option_and_then}
 use Rattle.signal_base.specs.declared.station.Station.{Station}
+use Rattle.definitions.specs.time.Calendar.{century_minutes}
 use Rattle.formats.specs.declared.option.OptionName.{OptionName}
 use Rattle.formats.specs.declared.option.OptionName.TheVariants as value
 use Rattle.formats.specs.declared.words.Asked.{Asked}
 use Rattle.formats.specs.declared.words.Command.{Command}
 use Rattle.formats.specs.declared.words.Command.TheVariants as command
+use Rattle.formats.specs.declared.words.TheConstants.{DEFAULT_COUNT, DEFAULT_READERS, DEFAULT_SECONDS, DEFAULT_STEP, DEFAULT_WORKERS}
 use Rattle.formats.specs.declared.words.ValueKind.{ValueKind}
 use Rattle.formats.specs.declared.words.ValueKind.TheVariants.{Number, Minute}
 use Rattle.formats.specs.declared.words.Values.{Values}
@@ -14,7 +16,7 @@ use Rattle.formats.specs.declared.words.WordFault.{WordFault}
 use Rattle.formats.specs.declared.words.WordFault.TheVariants.{Usage, BadNumber, BadMinute, EmptyRange}
 use Rattle.formats.specs.Options.{option_text}
 use Rattle.formats.specs.Words.{Line, certificate_option, line_of, value_behind}
-use Rattle.formats.specs.WordValues.{default_of, kind_of, passing, read_as, suits}
+use Rattle.formats.specs.WordValues.{kind_of, passing, read_as, suits}
 
 -- what a check comes to: a value, or the first fault
 abbrev pub Checked : Type 0 → Type 0
@@ -58,24 +60,25 @@ judged name (Some (Some n)) = Ok (Some n)
 abbrev pub given : OptionName → Line → Checked (Option ℕ)
 given name line = judged name (option_map (said_by line.command name) (text_in name line))
 
--- the value or its default
-abbrev pub valued : OptionName → Line → Checked ℕ
-valued name line = given name line >>= (λ n. Ok (unwrap_or n (default_of name)))
+-- the value, or this one where none is given
+abbrev pub valued : OptionName → ℕ → Line → Checked ℕ
+valued name default line = given name line >>= (λ n. Ok (unwrap_or n default))
 
--- All values, checked in this order. The range goes to the end of the minute `--to`, and comes last.
+-- All values, checked in this order. NUMBER, MINUTE and `--start` have no default. The range goes to the end of the minute
+-- `--to`, and comes last.
 abbrev pub values_of : Line → Checked Values
 values_of line =
-    valued value.Number line >>= (λ number.
-    valued value.Minute line >>= (λ minute.
+    given value.Number line >>= (λ number.
+    given value.Minute line >>= (λ minute.
     given value.Start line >>= (λ start.
-    valued value.Seconds line >>= (λ seconds.
-    valued value.From line >>= (λ from.
-    valued value.To line >>= (λ to.
-    valued value.Workers line >>= (λ workers.
-    valued value.Leap line >>= (λ leap.
-    valued value.Step line >>= (λ step.
-    valued value.Count line >>= (λ count.
-    valued value.Readers line >>= (λ readers.
+    valued value.Seconds DEFAULT_SECONDS line >>= (λ seconds.
+    valued value.From 0 line >>= (λ from.
+    valued value.To (century_minutes - 1) line >>= (λ to.
+    valued value.Workers DEFAULT_WORKERS line >>= (λ workers.
+    valued value.Leap 0 line >>= (λ leap.
+    valued value.Step DEFAULT_STEP line >>= (λ step.
+    valued value.Count DEFAULT_COUNT line >>= (λ count.
+    valued value.Readers DEFAULT_READERS line >>= (λ readers.
     if nat_lt to from then Err EmptyRange
     else Ok (record {
       number = number;
@@ -110,23 +113,23 @@ file_at place line = slice_index_or line.places place []
 abbrev pub certificate_of : Line → Option (List ℕ)
 certificate_of line = value_behind certificate_option line.pairs
 
--- the order of a command with these values
-abbrev pub order_with : Command → Line → Values → Order
-order_with command.Decode line v = Decode (file_at 0 line) v.asked v.workers (certificate_of line)
-order_with command.Check line v = Check (file_at 0 line) (file_at 1 line) v.asked
-order_with command.Feed line v = Feed (file_at 0 line) v.asked v.workers
-order_with (command.Encode station) line v = Encode station v.minute v.leap
-order_with command.Trial line v = Trial v.number v.workers
-order_with command.Follow line v = Follow (file_at 0 line) v.asked v.workers v.step v.count
-order_with command.Sweep line v = Sweep (file_at 0 line) v.asked v.workers (certificate_of line)
-order_with command.Judge line v = Judge (file_at 0 line) (file_at 1 line) v.asked
-order_with command.Board line v = Board (file_at 0 line) (file_at 1 line) v.asked v.workers v.step v.count v.readers
-order_with command.Irig line v = Irig (file_at 0 line) v.asked v.workers
-order_with command.IrigRead line v = IrigRead (file_at 0 line)
+-- the order of a command with these values, if those are given that it can't do without
+abbrev pub order_with : Command → Line → Values → Option Order
+order_with command.Decode line v = Some (Decode (file_at 0 line) v.asked v.workers (certificate_of line))
+order_with command.Check line v = Some (Check (file_at 0 line) (file_at 1 line) v.asked)
+order_with command.Feed line v = Some (Feed (file_at 0 line) v.asked v.workers)
+order_with (command.Encode station) line v = option_map (λ minute. Encode station minute v.leap) v.minute
+order_with command.Trial line v = option_map (λ number. Trial number v.workers) v.number
+order_with command.Follow line v = Some (Follow (file_at 0 line) v.asked v.workers v.step v.count)
+order_with command.Sweep line v = Some (Sweep (file_at 0 line) v.asked v.workers (certificate_of line))
+order_with command.Judge line v = Some (Judge (file_at 0 line) (file_at 1 line) v.asked)
+order_with command.Board line v = Some (Board (file_at 0 line) (file_at 1 line) v.asked v.workers v.step v.count v.readers)
+order_with command.Irig line v = Some (Irig (file_at 0 line) v.asked v.workers)
+order_with command.IrigRead line v = Some (IrigRead (file_at 0 line))
 
--- the order of a line
+-- The order of a line. A line has all the places of its command, so what can't be done without is given.
 abbrev pub order_on : Line → Checked Order
-order_on line = values_of line >>= (λ values. Ok (order_with line.command line values))
+order_on line = values_of line >>= (λ values. ok_or (order_with line.command line values) Usage)
 
 -- the order that words with one of these commands give, or why they are refused
 abbrev pub order_of : List Command → List (List ℕ) → Checked Order

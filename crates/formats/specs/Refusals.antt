@@ -3,6 +3,8 @@ use Rattle.std.specs.Prelude.{ℕ, List, [], ◌∷◌, ◌++◌, Option, Some, 
 use Rattle.std.specs.Fmt.{decimal}
 use Rattle.formats.specs.declared.fault.LineFault.{LineFault}
 use Rattle.formats.specs.declared.fault.LineFault.TheVariants.{Shape, NotRising, TooManyRecords}
+use Rattle.formats.specs.declared.frame.FrameLineFault.{FrameLineFault}
+use Rattle.formats.specs.declared.frame.FrameLineFault.TheVariants as frame_line
 use Rattle.formats.specs.declared.refusal.Refusal.{Refusal}
 use Rattle.formats.specs.declared.refusal.Refusal.TheVariants.{WordsUsage, WordsBad, WordsEmptyRange, ConfigTooLarge, ConfigNotToml, ConfigMissing, ConfigWrongKind, ConfigOutOfRange, ConfigUnknownKey, LogTooLarge, LogLine}
 use Rattle.definitions.specs.time.Spelling.{dash}
@@ -66,6 +68,23 @@ log_text number name = codes "log " ++ decimal number ++ space ∷ name ++ codes
 -- what is said of the log
 abbrev pub log_line : ℕ → List ℕ → List ℕ → List ℕ
 log_line number name what = line (log_text number name ++ what)
+
+-- the words for a bad line of frames
+abbrev pub frame_fault_text : FrameLineFault → List ℕ
+frame_fault_text frame_line.Shape = codes "shape"
+frame_fault_text frame_line.TooManyFrames = codes "too many frames"
+frame_fault_text frame_line.Timing = codes "timing"
+frame_fault_text frame_line.Meaning = codes "meaning"
+
+-- what is said of a text of frames: that it is too large, or how a line of it is bad
+abbrev pub frames_line : List ℕ → List ℕ
+frames_line what = line (codes "frames: " ++ what)
+
+abbrev pub frames_too_large : List ℕ
+frames_too_large = frames_line too_large
+
+abbrev pub frame_fault_line : ℕ → FrameLineFault → List ℕ
+frame_fault_line at fault = frames_line (at_line at (frame_fault_text fault))
 
 -- the refusals of a certificate: its text, by size or line, or what it says, by step or named keys
 pub data CertificateFault : Type 0 where

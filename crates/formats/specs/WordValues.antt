@@ -1,4 +1,4 @@
--- The values of the command line: what their texts may be, their defaults, and which value a text says.
+-- The values of the command line: what their texts may be, and which value a text says.
 use Rattle.std.specs.Prelude.{ℕ, zero, suc, ◌+◌, ◌-◌, Bool, true, ◌&&◌, nat_le, nat_lt, if◌then◌else◌, List, Option, Some, None, bytes_eq}
 use Rattle.std.specs.Option.{option_and_then}
 use Rattle.std.specs.Fmt.{decimal}
@@ -13,7 +13,7 @@ use Rattle.formats.specs.declared.words.Command.{Command}
 use Rattle.formats.specs.declared.words.Command.TheVariants.{Encode}
 use Rattle.formats.specs.declared.words.ValueKind.{ValueKind}
 use Rattle.formats.specs.declared.words.ValueKind.TheVariants.{Number, Minute}
-use Rattle.formats.specs.declared.words.TheConstants.{DEFAULT_COUNT, DEFAULT_READERS, DEFAULT_SECONDS, DEFAULT_STEP, DEFAULT_WORKERS, LEAST_COUNT, LEAST_READERS, LEAST_STEP, LEAST_WORKERS, MOST_COUNT, MOST_NUMBER, MOST_READERS, MOST_STEP, MOST_WORKERS}
+use Rattle.formats.specs.declared.words.TheConstants.{LEAST_COUNT, LEAST_READERS, LEAST_STEP, LEAST_WORKERS, MOST_COUNT, MOST_NUMBER, MOST_READERS, MOST_STEP, MOST_WORKERS}
 
 -- what the text of each value may be
 abbrev pub kind_of : OptionName → ValueKind
@@ -28,21 +28,6 @@ kind_of value.Leap = Number 0 1
 kind_of value.Step = Number LEAST_STEP MOST_STEP
 kind_of value.Count = Number LEAST_COUNT MOST_COUNT
 kind_of value.Readers = Number LEAST_READERS MOST_READERS
-
--- The values that stand where none is given. NUMBER and MINUTE are given wherever they are used, and `--start` has no
--- default.
-abbrev pub default_of : OptionName → ℕ
-default_of value.Number = 0
-default_of value.Minute = 0
-default_of value.Start = 0
-default_of value.Seconds = DEFAULT_SECONDS
-default_of value.From = 0
-default_of value.To = century_minutes - 1
-default_of value.Workers = DEFAULT_WORKERS
-default_of value.Leap = 0
-default_of value.Step = DEFAULT_STEP
-default_of value.Count = DEFAULT_COUNT
-default_of value.Readers = DEFAULT_READERS
 
 -- the number, if it passes a test
 abbrev pub passing : (ℕ → Bool) → ℕ → Option ℕ

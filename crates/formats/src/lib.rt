@@ -1,10 +1,14 @@
-//! The bytes of every text that the program reads or writes: log lines, reports, listings, the feed, trials and refusals.
-//! The definitions stand in `specs/`; here are the plain types that they speak of, a law of the grammar, and worked
+//! The bytes of every text that the program reads or writes: log lines, reports, listings, the feed, trials, frames, what was
+//! heard and refusals. The definitions stand in `specs/`; here are the plain types that they speak of, laws of them, and worked
 //! examples.
 #![tactic(auto)]
 
 mod examples;
 mod fault;
+mod frame;
+mod frame_law;
+mod heard;
+mod heard_law;
 mod key;
 mod limits;
 mod log_law;
@@ -16,11 +20,25 @@ mod word_law;
 mod words;
 
 pub use examples::{
-    bad_lines, feeds, good_logs, heads_of_reports, limits_of_logs, lines_of_texts, listed_minutes,
-    minutes_of_reports, refused_certificates, refused_configurations, refused_logs, refused_words,
-    reports_without_a_decision, sentences, summaries_of_trials,
+    bad_frames, bad_lines, element_tables, feeds, frame_lines, good_frames, good_logs,
+    heads_of_reports, limits_of_frames, limits_of_logs, lines_of_texts, listed_minutes,
+    minutes_of_reports, refused_certificates, refused_configurations, refused_frames, refused_logs,
+    refused_words, reports_without_a_decision, sentences, slots_by_their_dut1, slots_by_their_sets,
+    summaries_of_trials, sums_of_two_seconds, text_of_silence, text_of_two_seconds,
 };
 pub use fault::LineFault;
+pub use frame::{
+    EDGE_LIMIT, ELEMENT_TIME, ELEMENTS, FRAME_LIMIT, FRAME_TIME, FRAMES_LIMIT, Frame,
+    FrameLineFault, MOST_FRAMES,
+};
+pub use frame_law::{
+    elements_tell_their_second, frames_have_one_outcome, walks_are_told_by_frames,
+};
+pub use heard::{ReceiverHeard, SlotHeard};
+pub use heard_law::{
+    no_symbol_is_better, receivers_share_a_slot, receivers_share_the_cost, slots_share_the_cost,
+    symbols_are_those_of_the_sequence,
+};
 pub use key::KeyName;
 pub use limits::{LOG_LIMIT, LONGEST_NAME, MOST_RECORDS, TIME_LIMIT};
 pub use log_law::log_has_one_outcome;

@@ -61,13 +61,13 @@ pub struct Asked {
     pub to: u32,
 }
 
-/// All values that words can give, each of them the given one or its default.
+/// All values that words can give: each of them the given one or its default.
 #[derive(Clone, Copy, Debug, PartialEq, Eq)]
 pub struct Values {
-    /// NUMBER.
-    pub number: u32,
-    /// MINUTE, counted from 2000-01-01T00:00Z.
-    pub minute: u32,
+    /// NUMBER, which has no default.
+    pub number: Option<u32>,
+    /// MINUTE, counted from 2000-01-01T00:00Z, which has no default.
+    pub minute: Option<u32>,
     /// `--start`, `--seconds`, `--from` and `--to`.
     pub asked: Asked,
     /// `--workers`.

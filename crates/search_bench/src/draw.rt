@@ -40,6 +40,21 @@ pub fn draw_item(tables: &Tables, items: &[Block], chance: &mut Chance) -> Optio
     Some(descendant(tables, item, 0, chance))
 }
 
+/// A day of one of the items by chance.
+pub fn draw_day(tables: &Tables, items: &[Block], chance: &mut Chance) -> Option<Block>
+    requires { AllByRecursion (IsBlock tables.now.window) items.now }
+    ensures block { IfSome result (λ day. IsBlock tables.now.window day) }
+    ensures day { IfSome result (λ day. day.span ≡ Day) }
+{
+    let item = &items[draw_number(items, chance)?];
+    let day = draw_child(tables, item, chance)?.block;
+    if day.span == Span::Day {
+        Some(day)
+    } else {
+        None
+    }
+}
+
 // The number of one of the blocks, if there are some.
 fn draw_number(blocks: &[Block], chance: &mut Chance) -> Option<usize>
     ensures { IfSome result (λ i. i < length blocks.now) }

@@ -1,7 +1,7 @@
 -- What a set costs is what stands in a row at its index.
-use Rattle.std.proofs.Common.{◌≡◌, ℕ, zero, suc, ◌*◌, ◌/◌, ◌%◌, ◌^◌, ◌<◌, ◌≤◌, Bool, true, false, ◌==◌, if◌then◌else◌, List, [], length, map, filter, get_or, unwrap_or, refl, sym, ap, ◌∙◌, arith}
+use Rattle.std.proofs.Common.{◌≡◌, ℕ, zero, suc, ◌*◌, ◌/◌, ◌%◌, ◌^◌, ◌<◌, ◌≤◌, Bool, true, false, ◌==◌, bit_or, if◌then◌else◌, List, [], length, map, filter, get_or, unwrap_or, refl, sym, ap, ◌∙◌, arith}
 use Rattle.std.proofs.lemmas.Bool.{ne_eqb}
-use Rattle.std.proofs.lemmas.Nat.{pow_below}
+use Rattle.std.proofs.lemmas.Nat.{or_lt, pow_below}
 use Rattle.std.proofs.lemmas.List.{get_or-map, length-map}
 use Rattle.signal_base.specs.declared.station.Station.{Station}
 use Rattle.signal_base.specs.declared.station.Station.TheVariants.{Dcf77, Msf, Wwvb, Jjy}
@@ -61,6 +61,16 @@ index_bound set = by_test (set == unscored)
     by_test : (t : Bool) → (if t then 0 else set % 32) < 32
     by_test true = omega arith
     by_test false = omega arith
+
+-- an index is its own
+pub index_at : (n : ℕ) → n < 32 → index_of n ≡ n
+index_at n small =
+    let scored : (n == 255) ≡ false = ne_eqb n 255 (λ e. omega (arith, e, small)) in
+    ap (λ (t : Bool). if t then 0 else n % 32) scored ∙ omega (arith, small)
+
+-- and two of them together are one
+pub or_index : (a b : ℕ) → a < 32 → b < 32 → bit_or a b < 32
+or_index a b one other = or_lt 5 a b one other
 
 -- a set of one symbol costs what the symbol costs
 pub only_costs : (station : Station) (costs : ℕ → ℕ) (x : ℕ) → x < symbol_count station → set_cost station costs (2 ^ x) ≡ costs x

@@ -1,8 +1,8 @@
 //! What many pairs of parts cost, each by a few look-ups.
 
-ghost use Rattle.std.specs.Prelude.{◌≡◌, ◌<◌, ◌^◌, ℕ, [], IfOk, OnOk, length, slice_index};
+ghost use Rattle.std.specs.Prelude.{◌≡◌, ◌<◌, ◌^◌, ℕ, [], IfOk, OnOk, bit_or, length, slice_index};
 ghost use Rattle.slot_columns.specs.declared.limits.TheConstants.{COLUMNS, SETS};
-ghost use Rattle.slot_columns.specs.Layered.{AreAdded, AreLayerCosts, ArePlaces, AreSeconds, AreTermRows, HaveRoom, IsPlace, IsTermRow, column_of, layer_cost, term_cost, term_place};
+ghost use Rattle.slot_columns.specs.Layered.{AreAdded, AreLayerCosts, ArePlaces, AreSeconds, AreTermRows, HaveRoom, IsPlace, IsTermRow, column_of, cost_of_both, layer_cost, term_cost, term_place};
 ghost use Rattle.slot_columns.specs.Tables.{columns_cost};
 
 use crate::columns::SlotColumns;
@@ -69,14 +69,37 @@ impl LayerTable {
         requires second { p < SECONDS_PER_MINUTE }
         ensures { result ≡ layer_cost self.now i p }
     {
-        let places = i * self.terms;
+        self.cost_of_both(i, i, p)
+    }
+
+    /// What a pair costs that carries in each second what the pairs `i` and `j` carry, their sets together. A second that is
+    /// not scored in one of them costs what it costs in the other.
+    pub fn cost_of_both(&self, i: usize, j: usize, p: u8) -> u32
+        requires pair { i < self.now.pairs }
+        requires other { j < self.now.pairs }
+        requires second { p < SECONDS_PER_MINUTE }
+        ensures { result ≡ cost_of_both self.now i j p }
+    {
+        let one = i * self.terms;
+        let other = j * self.terms;
         let rows = p as usize * self.terms;
         let mut cost = self.common[p as usize];
-        for j in 0..self.terms {
-            cost += self.rows[rows + j][self.places[places + j] as usize];
+        for k in 0..self.terms {
+            let place = together(self.places[one + k], self.places[other + k]);
+            cost += self.rows[rows + k][place];
         }
         cost
     }
+}
+
+// Where the sets at two places stand together.
+fn together(a: u8, b: u8) -> usize
+    requires one { a < SETS }
+    requires other { b < SETS }
+    ensures place { result ≡ bit_or a b }
+    ensures bound { result < SETS }
+{
+    (a | b) as usize
 }
 
 // What two parts cost, for each second in which a walk may begin.

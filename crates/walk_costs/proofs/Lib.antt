@@ -11,3 +11,7 @@ pub mod DateLaws
 pub mod ShownLaws
 pub mod AnnouncedLaws
 pub mod CrossingLaws
+pub mod PairLaws
+pub mod ScoredLaws
+pub mod NeighbourLaws
+pub mod LeastLaws

@@ -99,7 +99,7 @@ module _ (w : PricedParts) (costs : List (List ℕ)) (more : List ℕ) (priced :
       ∙ ap (λ x. overlay (get_or (times_at w.parts ((t0 + m + x) % 1440)) ((p + k) % 60) 0) (get_or (part_by m) ((p + k) % 60) 0)) (are.shifts m few)
 
   -- the date of the minute that the call sign takes is that of each slot which it takes
-  lost_here : (m k : ℕ) → lost w.grid p m (part_by m) k ≡ lost w.grid p m (part_by ((p + k) / 60)) k
+  pub lost_here : (m k : ℕ) → lost w.grid p m (part_by m) k ≡ lost w.grid p m (part_by ((p + k) / 60)) k
   lost_here m k = elim (cases_eq ((p + k) / 60) m) [
     | inl here ↦ ap (λ x. lost w.grid p m (part_by x) k) (sym here)
     | inr other ↦ nothing (part_by m) other ∙ sym (nothing (part_by ((p + k) / 60)) other)

@@ -2,3 +2,4 @@ pub mod Dates
 pub mod Shown
 pub mod Walks
 pub mod Crossings
+pub mod Leasts

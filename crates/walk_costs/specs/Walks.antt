@@ -1,6 +1,7 @@
 -- Walks with 60 seconds in each minute that lie in one run of a station's minutes, and what they cost.
-use Rattle.std.specs.Prelude.{ℕ, ◌≡◌, ◌≢◌, ◌+◌, ◌*◌, ◌<◌, ◌≤◌, Bool, true, List, length}
+use Rattle.std.specs.Prelude.{ℕ, ◌≡◌, ◌≢◌, ◌+◌, ◌*◌, ◌<◌, ◌≤◌, Bool, true, if◌then◌else◌, List, length, slice_index}
 use Rattle.signal_base.specs.declared.limits.TheConstants.{MOST_RECEIVERS, MOST_SECONDS}
+use Rattle.signal_base.specs.declared.station.Station.{Station}
 use Rattle.definitions.specs.declared.sequence.Sequence.{Sequence}
 use Rattle.definitions.specs.time.Calendar.{minute_length}
 use Rattle.definitions.specs.sequences.Walks.{set_at, unannounced}
@@ -11,13 +12,15 @@ use Rattle.minute_parts.specs.Parts.{IsInRun, IsPartTable, PartTable, part_where
 use Rattle.minute_parts.specs.Runs.{end_of_run, run_at}
 use Rattle.minute_parts.specs.Unions.{AreRegular}
 use Rattle.minute_parts.specs.Walks.{later_minutes}
-use Rattle.slot_columns.specs.Layered.{LayerSums, layer_cost}
+use Rattle.slot_columns.specs.Layered.{LayerSums, cost_of_both, layer_cost, part_at, together}
 use Rattle.slot_columns.specs.Parts.{AreWalkCosts}
 use Rattle.slot_columns.specs.declared.limits.TheConstants.{SECONDS_PER_MINUTE}
 use Rattle.walk_costs.specs.declared.date.DateCost.{DateCost}
 use Rattle.walk_costs.specs.declared.shown.Shown.{Shown}
 use Rattle.walk_costs.specs.declared.shown.Shown.TheVariants.{Never, Always, Sometimes}
 use Rattle.walk_costs.specs.Dates.{AreAdded, cost_at_call, date_cost, kept, part_cost}
+use Rattle.walk_costs.specs.declared.least_in.LeastWalks.{LeastWalks}
+use Rattle.walk_costs.specs.Leasts.{AreLeast, least_where}
 
 -- the parts of a station's telegrams, and what its symbols cost in the slots of a window
 pub record PricedParts : Type 0 where
@@ -57,16 +60,34 @@ pub record ArePriced (parts : PartTable) (grid : Grid) (costs : List (List ℕ))
   pub walks : AreWalkCosts costs grid parts.times
   pub added : AreAdded grid more
 
--- what the dates of all runs cost that announce no leap second, without the seconds that are given up for the call sign
-pub record AreDateCosts (parts : PartTable) (grid : Grid) (dates : LayerSums) : Type 0 where
-  pub count : dates.pairs ≡ length parts.runs
-  pub each : (i p : ℕ) → i < length parts.runs → p < SECONDS_PER_MINUTE
-      → layer_cost dates i p ≡ part_cost grid p (kept grid.station (run_at parts.runs i).unannounced)
+-- what the date of a run tells of the seconds that aren't given up for the call sign
+abbrev pub kept_of : PartTable → Station → Bool → ℕ → List ℕ
+kept_of parts station announced i = kept station (part_where announced (run_at parts.runs i))
+
+-- where this stands among some parts: at the run's number, or, if a leap second is announced, at the place that is noted
+abbrev pub pair_of : List ℕ → Bool → ℕ → ℕ
+pair_of places announced i = if announced then slice_index places i else i
+
+-- so it is for each of the first n runs
+pub record ArePairsOf (parts : PartTable) (station : Station) (announced : Bool) (all : List (List ℕ)) (places : List ℕ) (n : ℕ) : Type 0 where
+  pub within : (i : ℕ) → i < n → pair_of places announced i < length all
+  pub each : (i : ℕ) → i < n → part_at all (pair_of places announced i) ≡ kept_of parts station announced i
+
+-- what the dates of all runs cost without these seconds, each of them and two together
+pub record AreDateCosts (parts : PartTable) (grid : Grid) (dates : LayerSums) (places : List ℕ) : Type 0 where
+  pub count : length places ≡ length parts.runs
+  pub within : (announced : Bool) (i : ℕ) → i < length parts.runs → pair_of places announced i < dates.pairs
+  pub each : (announced : Bool) (i p : ℕ) → i < length parts.runs → p < SECONDS_PER_MINUTE
+      → layer_cost dates (pair_of places announced i) p ≡ part_cost grid p (kept_of parts grid.station announced i)
+  pub both : (announced : Bool) (i j p : ℕ) → i < length parts.runs → j < length parts.runs → p < SECONDS_PER_MINUTE
+      → cost_of_both dates (pair_of places announced i) (pair_of places announced j) p
+      ≡ part_cost grid p (together (kept_of parts grid.station announced i) (kept_of parts grid.station announced j))
 
 -- all that is kept of a station
-pub record AreKept (parts : PartTable) (grid : Grid) (costs : List (List ℕ)) (more : List ℕ) (by_date : LayerSums) : Type 0 where
+pub record AreKept (parts : PartTable) (grid : Grid) (costs : List (List ℕ)) (more : List ℕ) (by_date : LayerSums) (places : List ℕ) (floors : LeastWalks) : Type 0 where
   pub priced : ArePriced parts grid costs more
-  pub dates : AreDateCosts parts grid by_date
+  pub dates : AreDateCosts parts grid by_date places
+  pub least : (announced : Bool) → AreLeast parts grid announced (least_where announced floors)
 
 -- in some slot the station may carry another set than without the announcement
 abbrev pub ShowsAnnouncement : PricedParts → Sequence → Type 0

@@ -33,8 +33,8 @@ pub fn call_cost(columns: &SlotColumns, p: u8, m: u8, part: &Part) -> u32
     cost
 }
 
-// What the date tells of a second that the call sign takes.
-fn given_up_set(station: Station, part: &Part, second: usize) -> u8
+/// What the date tells of a second that the call sign takes.
+pub fn given_up_set(station: Station, part: &Part, second: usize) -> u8
     requires { second < SECONDS_PER_MINUTE }
     ensures { result ≡ given_up_set station part.now second }
 {

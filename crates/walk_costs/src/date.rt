@@ -81,8 +81,8 @@ fn walk_minutes(columns: &SlotColumns, p: u8) -> usize
     later_minutes(columns.seconds(), p) as usize + 1
 }
 
-// For each minute what is left of a cost.
-fn all_but(whole: u32, lost: &ByMinute) -> ByMinute
+/// For each minute what is left of a cost.
+pub fn all_but(whole: u32, lost: &ByMinute) -> ByMinute
     requires { (m : ℕ) → m < CALL_MINUTES → slice_index lost.now m ≤ whole }
     ensures { (m : ℕ) → m < CALL_MINUTES → slice_index result m ≡ whole - slice_index lost.now m }
 {
@@ -93,7 +93,8 @@ fn all_but(whole: u32, lost: &ByMinute) -> ByMinute
     costs
 }
 
-fn no_losses() -> ByMinute
+/// Nothing, for each minute.
+pub fn no_losses() -> ByMinute
     ensures { (m : ℕ) → m < CALL_MINUTES → slice_index result m ≡ 0 }
 {
     [0; CALL_MINUTES]

@@ -1,34 +1,47 @@
 //! What the dates of all runs cost, which is kept in a table.
 
-ghost use Rattle.std.specs.Prelude.{◌≡◌, ◌<◌, ℕ, [], IfOk, length, slice_index_or, vec_len};
+ghost use Rattle.std.specs.Prelude.{◌≡◌, ◌<◌, ◌≤◌, ℕ, [], IfOk, OnOk, false, length, slice_index_or, true, vec_len};
 ghost use Rattle.minute_parts.specs.Parts.{part_where};
 ghost use Rattle.minute_parts.specs.Runs.{run_at};
 ghost use Rattle.minute_parts.specs.declared.call.TheConstants.{CALL_MINUTES};
+ghost use Rattle.slot_columns.specs.Layered.{together};
 ghost use Rattle.walk_costs.specs.Dates.{cost_at_call, date_cost, kept, part_cost};
-ghost use Rattle.walk_costs.specs.Walks.{AreDateCosts};
+ghost use Rattle.walk_costs.specs.Walks.{AreDateCosts, ArePairsOf, kept_of, pair_of};
 
 use crate::date::{ByCall, by_call_with, kept};
 use crate::shown::is_told_alike;
 use crate::walks::StationWalks;
-use minute_parts::{Part, Parts};
+use minute_parts::{Part, Parts, Run};
 use signal_base::Station;
 use slot_columns::{LayerTable, SECONDS_PER_MINUTE, SlotColumns};
 use std::alloc::{AllocError, Global};
 
 impl StationWalks {
     /// What the date of a run costs in the walks from second `p`, without the seconds that the station gives up for its call
-    /// sign: by the table where a leap second isn't announced, or the announcement changes nothing.
+    /// sign.
     pub fn kept_date_cost(&self, announced: bool, p: u8, run: usize) -> u32
         requires second { p < SECONDS_PER_MINUTE }
         requires run { run < length self.now.parts.runs }
         ensures { result ≡ part_cost self.now.grid p (kept self.now.grid.station (part_where announced (run_at self.now.parts.runs run))) }
     {
-        let at = self.unions.parts().run(run);
-        if announced && !is_told_alike(at) {
-            let left = kept(self.columns.station(), &at.announced);
-            return self.columns.part_cost(p, &left);
-        }
-        self.dates.cost(run, p)
+        self.dates
+            .cost(pair_of(&self.announced_dates, announced, run), p)
+    }
+
+    // The same where each second may be of the date of either run.
+    pub(crate) fn kept_cost_of_both(&self, announced: bool, p: u8, run: usize, other: usize) -> u32
+        requires second { p < SECONDS_PER_MINUTE }
+        requires run { run < length self.now.parts.runs }
+        requires other { other < length self.now.parts.runs }
+        ensures { result ≡ part_cost self.now.grid p
+            (together (kept_of self.now.parts self.now.grid.station announced run) (kept_of self.now.parts self.now.grid.station announced other)) }
+    {
+        let places = &self.announced_dates;
+        self.dates.cost_of_both(
+            pair_of(places, announced, run),
+            pair_of(places, announced, other),
+            p,
+        )
     }
 
     // What the date of a run costs, for each walk minute that the call sign may take.
@@ -47,17 +60,37 @@ impl StationWalks {
     }
 }
 
+// Where the date of a run stands in the table.
+fn pair_of(places: &Vec<usize>, announced: bool, run: usize) -> usize
+    requires { run < vec_len places.now }
+    ensures { result ≡ pair_of places.now.items announced run }
+{
+    if announced { places[run] } else { run }
+}
+
+/// What the dates cost, without the seconds that are given up for the call sign.
+#[derive(Drop)]
+pub struct DateTable {
+    /// A pair of parts for each run, where no leap second is announced. Behind them stand those that announce one, of the runs
+    /// in which they tell something else.
+    pub costs: LayerTable,
+    /// Where that stands which announces one, of each run.
+    pub announced: Vec<usize>,
+}
+
 /// A table of what the dates cost.
 pub fn dates_of(
     alloc: Global,
     parts: &Parts,
     columns: &SlotColumns,
-) -> Result<LayerTable, AllocError>
-    ensures { IfOk result (λ dates. AreDateCosts parts.now columns.now dates) }
+) -> Result<DateTable, AllocError>
+    ensures { IfOk result (λ dates. AreDateCosts parts.now columns.now dates.costs dates.announced.items) }
 {
-    let kept = kept_parts(alloc, parts, columns.station())?;
-    let dates = LayerTable::make(alloc, columns, &kept, &kept)?;
-    Ok(dates)
+    let station = columns.station();
+    let mut all = kept_parts(alloc, parts, station)?;
+    let announced = add_announced(alloc, &mut all, parts, station)?;
+    let costs = LayerTable::make(alloc, columns, &all, &all)?;
+    Ok(DateTable { costs, announced })
 }
 
 // What the date tells in each run, but of the seconds that are given up.
@@ -70,4 +103,50 @@ fn kept_parts(alloc: Global, parts: &Parts, station: Station) -> Result<Vec<Part
         all.push(kept(station, &parts.run(i).unannounced))?;
     }
     Ok(all)
+}
+
+// Adds what the date tells where a leap second is announced, and says where that stands of each run.
+fn add_announced(
+    alloc: Global,
+    all: &mut Vec<Part>,
+    parts: &Parts,
+    station: Station,
+) -> Result<Vec<usize>, AllocError>
+    requires count { vec_len all.old ≡ length parts.now.runs }
+    requires each { (i : ℕ) → i < length parts.now.runs → slice_index_or all.old.items i [] ≡ kept station (run_at parts.now.runs i).unannounced }
+    ensures count { IfOk result (λ places. vec_len places ≡ length parts.now.runs) }
+    ensures unannounced { IfOk result (λ places. ArePairsOf parts.now station false all.new.items places.items (length parts.now.runs)) }
+    ensures announced { IfOk result (λ places. ArePairsOf parts.now station true all.new.items places.items (length parts.now.runs)) }
+{
+    let mut places = Vec::with_capacity(alloc, parts.runs())?;
+    for i in 0..parts.runs() {
+        let place = place_of_announced(all, parts.run(i), station, i)?;
+        places.push(place)?;
+    }
+    Ok(places)
+}
+
+// Where that of a run stands, which is added if the run tells something else without the announcement. This stands at `i`.
+fn place_of_announced(
+    all: &mut Vec<Part>,
+    run: &Run,
+    station: Station,
+    i: usize,
+) -> Result<usize, AllocError>
+    requires within { i < vec_len all.old }
+    requires unannounced { slice_index_or all.old.items i [] ≡ kept station run.now.unannounced }
+    ensures longer { OnOk result (vec_len all.old ≤ vec_len all.new) }
+    ensures others { OnOk result ((k : ℕ) → k < vec_len all.old → slice_index_or all.new.items k [] ≡ slice_index_or all.old.items k []) }
+    ensures within { IfOk result (λ place. place < vec_len all.new) }
+    ensures place { IfOk result (λ place. slice_index_or all.new.items place [] ≡ kept station run.now.announced) }
+{
+    if is_told_alike(run) {
+        return Ok(i);
+    }
+    let told = kept(station, &run.announced);
+    if told == all[i] {
+        return Ok(i);
+    }
+    all.push(told)?;
+    Ok(all.len() - 1)
 }

@@ -8,7 +8,8 @@ mod crossing;
 mod date;
 mod dut;
 mod kept;
-mod least;
+mod least_across;
+mod least_in;
 mod set_costs;
 mod shown;
 #[cfg(test)]

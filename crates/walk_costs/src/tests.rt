@@ -205,3 +205,51 @@ fn hours_before_the_warning_never_show_it(rt: HostRuntime) -> Result<(), Fail> {
     assert!(rt; !walks.never_shows(WARNED, WARNED));
     Ok(())
 }
+
+// Of DCF77 nothing is given up and nothing added. Of JJY the known slots from second 40 on are the seconds 40 and 42 of one
+// minute and 40 and 41 of the next, in which 2024 tells four zeros; the call sign takes one of the two minutes.
+#[test]
+fn a_floor_is_what_the_cheapest_walk_costs(rt: HostRuntime) -> Result<(), Fail> {
+    let civil = Civil::make(rt.alloc())?;
+    for (station, second) in [(Station::Dcf77, 20), (Station::Jjy, 40)] {
+        let walks = walks(rt.alloc(), &civil, station, &table(20, 10))?;
+        let floor = floor(&walks, second, CALL);
+        assert!(rt; floor.is_some());
+        assert_eq!(rt;
+            floor,
+            cheapest(&walks, &civil, second, CALL),
+            "second {second}"
+        );
+    }
+    Ok(())
+}
+
+// The floor of the run in which the minute lies.
+fn floor(walks: &StationWalks, p: u8, t: u32) -> Option<u32> {
+    let parts = walks.parts();
+    if p as usize >= SECONDS_PER_MINUTE || t >= parts.end() {
+        return None;
+    }
+    Some(walks.least_in(false, p, parts.run_of(t)))
+}
+
+// What its cheapest walk costs.
+fn cheapest(walks: &StationWalks, civil: &Civil, p: u8, t: u32) -> Option<u32> {
+    let parts = walks.parts();
+    if t >= parts.end() {
+        return None;
+    }
+    let run = parts.run_of(t);
+    let mut least = None;
+    for t0 in parts.run(run).first..parts.run_end(run) {
+        least = lesser(least, walks.cost(civil, false, p, t0));
+    }
+    least
+}
+
+fn lesser(one: Option<u32>, other: Option<u32>) -> Option<u32> {
+    match (one, other) {
+        (Some(one), Some(other)) => Some(one.min(other)),
+        (None, cost) | (cost, None) => cost,
+    }
+}

@@ -13,7 +13,8 @@ ghost use Rattle.walk_costs.specs.Walks.{AreSmall, IsDateCost, IsRegularIn, IsSh
 
 use crate::date::DateCost;
 use crate::dut::added;
-use crate::kept::dates_of;
+use crate::kept::{DateTable, dates_of};
+use crate::least_in::LeastWalks;
 use crate::set_costs::look_at_all;
 use crate::shown::{Shown, TWO_MINUTES, differs_elsewhere, is_told_alike, some_slot_shows};
 use civil::Civil;
@@ -33,6 +34,8 @@ pub struct StationWalks {
     pub(crate) walks: WalkTable,
     pub(crate) added: [u32; SECONDS_PER_MINUTE],
     pub(crate) dates: LayerTable,
+    pub(crate) announced_dates: Vec<usize>,
+    pub(crate) least: LeastWalks,
 }
 
 impl Model for StationWalks {
@@ -42,7 +45,7 @@ impl Model for StationWalks {
 
     ghost view = { λ w. record { parts = w.unions; grid = w.columns } };
 
-    ghost invariant = { λ w. AreKept w.unions w.columns w.walks w.added w.dates };
+    ghost invariant = { λ w. AreKept w.unions w.columns w.walks w.added w.dates w.announced_dates.items w.least };
 }
 
 impl StationWalks {
@@ -59,14 +62,17 @@ impl StationWalks {
         let columns = SlotColumns::make(alloc, grid)?;
         let walks = walks_of(alloc, parts, &columns)?;
         let added = all_added(&columns);
-        let dates = dates_of(alloc, parts, &columns)?;
+        let DateTable { costs, announced } = dates_of(alloc, parts, &columns)?;
+        let least = LeastWalks::make(parts, &columns, &walks);
         look_at_all(&columns);
         Ok(StationWalks {
             unions,
             columns,
             walks,
             added,
-            dates,
+            dates: costs,
+            announced_dates: announced,
+            least,
         })
     }
 

@@ -136,7 +136,8 @@ impl Visitor<'_> {
         ensures looked { let t = self.now.tables.now in
             HasLooked (costs_of t) t.window self.now.ceiling day.now floor result seat.old.view seat.new.view }
     {
-        let _named = (day, floor);
+        let _day = *day;
+        let _floor = floor;
         self.race.limit_often::<O>(seat)
     }
 

@@ -38,7 +38,7 @@ invariant_of-result c =
     let firsts = c.args.firsts.now in
     let rests = c.args.rests.now in
     let width : c.len.result ≡ length made.terms.items = omega (arith, c.len.ensures, made.terms.ok.0) in
-    layer_sums own.slots first later tables firsts rests made.first made.later made.terms.items c.in_ok-made.ensures _ refl width c.common_costs-common.ensures.costs
+    layer_sums own.slots first later tables firsts rests made.first made.later made.terms.items c.in_ok-made.ensures _ refl c.requires width c.common_costs-common.ensures.costs
     (subst (λ (ts : List Term). AreTermRows first later ts c.in_ok-rows.rows.items 60) c.deref.ensures.value c.in_ok-rows.ensures)
     (subst (λ (ts : List Term). ArePlaces firsts rests ts c.in_ok-places.places.items (length firsts)) c.deref-2.ensures.value c.in_ok-places.ensures)
     c.common_costs-common.ensures.count
@@ -61,6 +61,6 @@ returns c =
       places = c.in_ok-places.places.items;
     } in
     subst (λ (g : Grid). AreLayerCosts table g firsts rests) c.columns.view_is
-    (layer_costs own.slots first later tables firsts rests made.first made.later made.terms.items c.in_ok-made.ensures table refl width c.common_costs-common.ensures.costs
+    (layer_costs own.slots first later tables firsts rests made.first made.later made.terms.items c.in_ok-made.ensures table refl c.requires width c.common_costs-common.ensures.costs
     (subst (λ (ts : List Term). AreTermRows first later ts c.in_ok-rows.rows.items 60) c.deref.ensures.value c.in_ok-rows.ensures)
     (subst (λ (ts : List Term). ArePlaces firsts rests ts c.in_ok-places.places.items (length firsts)) c.deref-2.ensures.value c.in_ok-places.ensures))

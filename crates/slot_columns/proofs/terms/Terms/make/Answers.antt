@@ -26,7 +26,7 @@ loop-s-preserved c =
       long_first = length-set c.loop-s.first s x.result.set ∙ before.long_first;
       long_later = length-set c.loop-s.later s y.result.set ∙ before.long_later;
       are = terms_more c.args.firsts.now c.args.rests.now c.loop-s.first c.loop-s.later c.loop-s.terms.items c.add_second.new.terms.items s x.result y.result
-          _ c.requires second before.are x.ensures y.ensures
+          _ second before.are x.ensures y.ensures
           (are_alike c.args.firsts.now c.args.rests.now differ.result.within s second differ.ensures.within) c.in_ok-add_second.ensures
           (omega (arith, second, before.long_first)) (omega (arith, second, before.long_later));
     }

@@ -1,0 +1,7 @@
+use Rattle.std.proofs.Common.{◌≤◌, arith}
+use Rattle.field_tables.proofs.UnionBoundLaws.{short_where}
+use Rattle.field_tables.proofs.sums.WindowSums.has_no_first_second.Goals as goal
+
+pub returns : goal.returns
+returns c = λ is t ge lt.
+    omega (arith, short_where c.args.block.now.announced t (c.meets_leap_end.ensures is t ge lt), c.if.true)
