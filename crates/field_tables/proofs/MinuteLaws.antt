@@ -117,10 +117,3 @@ is_sequence window b is block =
     by_announced : (a : Bool) → b.second < (if a then 61 else 60) → b.second ≤ 60
     by_announced true lt = omega (arith, lt)
     by_announced false lt = omega (arith, lt)
-
--- the walks of a stretch are regular, and so is each of them
-pub one_regular : (announced : Bool) (lo hi later end j : ℕ) → AreRegular announced lo (hi + later) end → lo + j < hi → AreRegular announced (lo + j) (lo + j + 1 + later) end
-one_regular announced lo hi later end j are within = record {
-  early = omega (arith, are.early, within);
-  short = λ t ge less. are.short t (omega (arith, ge)) (omega (arith, less, within));
-}
