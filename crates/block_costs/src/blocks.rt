@@ -77,8 +77,11 @@ impl StationBlocks {
         let last = walks.hi - 1 + self.walks.later_minutes(walks.second);
         if self.walks.never_shows(walks.lo, last) {
             let alike = Walks {
+                station: walks.station,
                 announced: false,
-                ..*walks
+                second: walks.second,
+                lo: walks.lo,
+                hi: walks.hi,
             };
             return self.unannounced_cost(&alike);
         }

@@ -63,8 +63,11 @@ impl Walks<'_> {
         columns.seconds();
         columns.receivers();
         let alone = Walks {
+            station: walks,
+            announced: self.announced,
+            second: self.second,
+            lo: self.lo,
             hi: self.lo + 1,
-            ..*self
         };
         let sets = alone.cost_by_minutes();
         sets + walks.added_from(self.second, self.lo)

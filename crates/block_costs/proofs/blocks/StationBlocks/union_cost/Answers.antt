@@ -21,9 +21,9 @@ returns-then-never_shows-clause-cost c = λ sets unions.
     (unannounced_unions w.grid.station b.second b.lo b.hi n c.later_minutes.result sets b.in_a_minute later
     (λ t s ge le lt. same t s ge le (subst (λ a. minute_length a t ≡ 60) c.if-not-walks.false (b.regular.short t ge (omega (arith, le, later, reached, b.some)))) lt) announced)
 
-pub returns-then-walks-hi-clause-cost : goal.returns-then-walks-hi-clause-cost
-returns-then-walks-hi-clause-cost c = λ sets unions.
+pub returns-then-walks-clause-cost : goal.returns-then-walks-clause-cost
+returns-then-walks-clause-cost c = λ sets unions.
     let w = c.args.self.now in
     let b = c.args.walks.now in
-    let end : b.hi ≡ b.lo + 60 = omega (arith, c.if-walks-hi.true, b.some) in
+    let end : b.hi ≡ b.lo + 60 = omega (arith, c.if-walks.true, b.some) in
     c.hour_cost.ensures.cost_is sets (subst (λ e. AreUnionsOfWalks w.grid.station b.announced b.second b.lo e (length w.grid.rows) sets) end unions)

@@ -76,7 +76,7 @@ returns c =
             priced,
             dated,
             crossing_cost w table c.unions-unions.ensures.station a i p lo (60 * hour + h.begin) reach first rest dates both no_call layers minute reached here following
-                (omega (arith, end, c.if-end-walks.false, c.requires.hour)) (omega (arith, end, later, c.if-walks-lo-later.false)) (omega (arith, next_end, later, c.if-walks-hi-later.false, c.requires.hour))
+                (omega (arith, end, c.if-end-walks.false, c.requires.hour)) (omega (arith, end, later, c.if-walks-later.false)) (omega (arith, next_end, later, c.if-walks-later-2.false, c.requires.hour))
                 same_shift (λ t from to. walks.regular.short t from (omega (arith, to, c.requires.hour))) together c.either-both.ensures.bytes alone dates_are c.hours_tell_time_and_date.ensures sets unions,
           );
       bound =
@@ -85,7 +85,7 @@ returns c =
             priced,
             dated,
             crossing_small w table c.unions-unions.ensures.station a i p lo (60 * hour + h.begin) reach first rest dates both no_call layers minute reached here following
-                (omega (arith, end, c.if-end-walks.false, c.requires.hour)) (omega (arith, end, later, c.if-walks-lo-later.false)) (omega (arith, next_end, later, c.if-walks-hi-later.false, c.requires.hour))
+                (omega (arith, end, c.if-end-walks.false, c.requires.hour)) (omega (arith, end, later, c.if-walks-later.false)) (omega (arith, next_end, later, c.if-walks-later-2.false, c.requires.hour))
                 same_shift (λ t from to. walks.regular.short t from (omega (arith, to, c.requires.hour))) together c.either-both.ensures.bytes alone dates_are c.hours_tell_time_and_date.ensures c.columns-columns.ensures.small,
           );
     }

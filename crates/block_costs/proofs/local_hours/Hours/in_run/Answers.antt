@@ -43,7 +43,7 @@ returns c =
     let place : p * 24 + hour < length h.costs.items = omega (arith, in_day, walks.in_a_minute, c.requires.hours.priced.count) in
     let priced = c.index.ensures ∙ get_or_default h.costs.items (p * 24 + hour) c.index.result.now 0 place in
     kept_hour w h.begin h.call h.firsts.items h.rests.items h.costs.items c.requires.hours table c.unions-unions.ensures.station a i p lo hour
-    (c.index.result.now + c.kept_date_cost-date.result) is walks.in_a_minute within minute begun (omega (arith, end, later, c.requires.hour, c.if-walks-run_end.false))
+    (c.index.result.now + c.kept_date_cost-date.result) is walks.in_a_minute within minute begun (omega (arith, end, later, c.requires.hour, c.if-walks-later_minutes.false))
     (λ t from to. walks.regular.short t from (omega (arith, to, c.requires.hour))) bytes covered c.hours_tell_time_and_date.ensures c.columns-columns.ensures.small
     (omega (arith, priced, c.kept_date_cost-date.ensures))
 

@@ -7,7 +7,7 @@ use Rattle.minute_parts.specs.Unions.{IsUnionOver}
 use Rattle.block_costs.proofs.SumLaws.{all_minutes, bounded, minute_more, most_fits, none_yet}
 use Rattle.block_costs.proofs.walks.Walks.cost_by_minutes.Goals as goal
 
-pub loop-m-init : goal.self.loop-m-init
+pub loop-m-init : goal.loop-m-init
 loop-m-init c = record { spent = none_yet c.args.self.now.station.now.grid c.args.self.now.announced c.args.self.now.second c.args.self.now.lo c.args.self.now.hi }
 
 pub overflow_add-cost : goal.overflow_add-cost
@@ -25,7 +25,7 @@ overflow_add-cost c =
     let fits = most_fits c.args.self.now.station.now.grid (omega (arith, rows, c.seconds.ensures.count, c.seconds.ensures.bound)) (omega (arith, receivers, c.receivers.ensures.count, c.receivers.ensures.bound)) in
     omega (arith, small, fits)
 
-pub loop-m-preserved : goal.self.loop-m-preserved
+pub loop-m-preserved : goal.loop-m-preserved
 loop-m-preserved c =
     let grid = c.args.self.now.station.now.grid in
     let station_is = ap (λ (v : PartTable). v.station) c.unions-unions.ensures.unions ∙ c.unions-unions.ensures.station in
