@@ -1,5 +1,5 @@
 -- Floors: of two pieces together, by costs that agree, and of the sequences of a block.
-use Rattle.std.proofs.Common.{◌≡◌, ℕ, ◌<◌, ◌≤◌, min, inl, inr, Option, Some, None, refl, sym, subst, arith}
+use Rattle.std.proofs.Common.{◌≡◌, ℕ, ◌≤◌, min, inl, inr, Option, Some, None, refl, sym, subst, arith}
 use Rattle.std.proofs.Math.Nat.{min-le_left, min-le_right}
 use Rattle.std.proofs.lemmas.Bool.{cases_lt}
 use Rattle.signal_base.specs.declared.window.Window.{Window}

@@ -2,6 +2,7 @@
 ghost use Rattle.std.specs.Prelude.{◌≡◌, ◌<◌, []};
 
 use crate::{Race, Seat};
+use std::marker::Brand;
 use std::test::Fail;
 use std::thread;
 
@@ -17,6 +18,8 @@ fn two_seats_of_one_race(rt: HostRuntime) -> Result<(), Fail> {
     race.offer(&mut first, 7);
     let seen = race.limit(&mut other);
     assert_eq!(rt; seen, 7, "the other seat sees the second-least key");
+    let seen = race.limit_often::<Brand>(&mut other);
+    assert_eq!(rt; seen, 7, "and by a read that may count as more than one");
 
     let drawn = [
         race.draw(&mut other),

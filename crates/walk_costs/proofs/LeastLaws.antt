@@ -9,15 +9,17 @@ use Rattle.symbol_cost.specs.declared.limits.TheConstants.{RECEIVER_COST}
 use Rattle.minute_parts.specs.Overlay.{is_given_up, is_time_second, overlay}
 use Rattle.minute_parts.specs.Parts.{PartTable, part_where, times_at}
 use Rattle.minute_parts.specs.Runs.{run_at}
-use Rattle.slot_columns.specs.Parts.{AreWalkCosts, entry, most_cost, walk_cost, walk_set}
+use Rattle.slot_columns.specs.Parts.{AreWalkCosts, most_cost, walk_cost, walk_set}
+use Rattle.slot_columns.specs.Layered.{AreGroups}
 use Rattle.slot_columns.specs.Tables.{at_place}
 use Rattle.slot_columns.proofs.ColumnLaws.{by_columns}
 use Rattle.slot_columns.proofs.PlaceLaws.{after_walk, before_walk, in_walk, place_free}
 use Rattle.slot_columns.proofs.SetLaws.{none_chosen}
 use Rattle.slot_columns.proofs.SumLaws.{sum_of_fewer, sum_of_none}
 use Rattle.walk_costs.specs.declared.least_in.Choices.{Choices}
+use Rattle.walk_costs.specs.declared.least_in.LeastTable.{LeastTable}
 use Rattle.walk_costs.specs.Dates.{IsAdded, date_cost, given_up, given_up_set, kept, minutes_to_call, part_cost}
-use Rattle.walk_costs.specs.Leasts.{IsChosen, IsLeast, cost_beside, given_beside}
+use Rattle.walk_costs.specs.Leasts.{AreChosen, AreLeast, IsChosen, IsLeastOf, choices_at, cost_beside, given_beside, group_of}
 use Rattle.walk_costs.specs.Walks.{ArePriced, IsRegularIn, PricedParts, cost_of, last_minute}
 use Rattle.walk_costs.proofs.DateLaws.{given, kept_and_given}
 use Rattle.walk_costs.proofs.SplitLaws.{call_minute, calls, parts_of_second, tells_by}
@@ -101,9 +103,9 @@ module _ (grid : Grid) (p m : ℕ) (part : List ℕ) where
       slot cost true = omega arith
       slot cost false = omega arith
 
--- what is given up costs no more than this in the seconds before second s
-abbrev pub IsBelow : Grid → ℕ → ℕ → List ℕ → ℕ → ℕ → Type 0
-IsBelow grid p m part s least = least ≤ sum_below s (λ x. cost_beside grid p m x (given_up_set grid.station part x))
+-- a sum is at most this and what is given up costs in the seconds before second s
+abbrev pub IsBelow : Grid → ℕ → ℕ → List ℕ → ℕ → ℕ → ℕ → Type 0
+IsBelow grid p m part s base sum = sum ≤ base + sum_below s (λ x. cost_beside grid p m x (given_up_set grid.station part x))
 
 -- the set without symbols costs nothing
 free_beside : (grid : Grid) (p m s : ℕ) → cost_beside grid p m s 0 ≡ 0
@@ -111,10 +113,10 @@ free_beside grid p m s =
     sum_of_none 21 (λ j. if j == m then 0 else at_place grid p 0 (60 * j + s)) (λ j few. none_of (j == m) (at_place grid p 0 (60 * j + s)) (place_free grid p (60 * j + s)))
 
 -- with one second more, of which there are two sets
-pub one_more_second : (grid : Grid) (c : Choices) (p m s : ℕ) (part : List ℕ) (least one other next : ℕ) → IsChosen c s (given_up_set grid.station part s)
-    → one ≡ cost_beside grid p m s (get_or c.one s 0) → other ≡ cost_beside grid p m s (get_or c.other s 0) → next ≡ least + min one other
-    → IsBelow grid p m part s least → IsBelow grid p m part (s + 1) next
-one_more_second grid c p m s part least one other next chosen is_one is_other is_next below =
+pub one_more_second : (grid : Grid) (c : Choices) (p m s : ℕ) (part : List ℕ) (base sum one other next : ℕ) → IsChosen c s (given_up_set grid.station part s)
+    → one ≤ cost_beside grid p m s (get_or c.one s 0) → other ≤ cost_beside grid p m s (get_or c.other s 0) → next ≡ sum + min one other
+    → IsBelow grid p m part s base sum → IsBelow grid p m part (s + 1) base next
+one_more_second grid c p m s part base sum one other next chosen is_one is_other is_next below =
     omega (arith, below, is_next, by_choice chosen, sum_below_more s (λ x. cost_beside grid p m x (given_up_set grid.station part x)))
   where
     by_choice : IsChosen c s (given_up_set grid.station part s) → min one other ≤ cost_beside grid p m s (given_up_set grid.station part s)
@@ -123,25 +125,30 @@ one_more_second grid c p m s part least one other next chosen is_one is_other is
     by_choice (inr (inr e)) = omega (arith, is_one, ap (cost_beside grid p m s) e, free_beside grid p m s)
 
 -- and of all of the call sign
-pub all_seconds : (grid : Grid) (p m s : ℕ) (part : List ℕ) (least : ℕ) → s ≤ 60 → IsBelow grid p m part s least → least ≤ given_beside grid p m part
-all_seconds grid p m s part least le below =
+pub all_seconds : (grid : Grid) (p m s : ℕ) (part : List ℕ) (base sum : ℕ) → s ≤ 60 → IsBelow grid p m part s base sum → sum ≤ base + given_beside grid p m part
+all_seconds grid p m s part base sum le below =
     omega (arith, below, sum_of_fewer s 60 (λ x. cost_beside grid p m x (given_up_set grid.station part x)) le)
 
--- the least of the walks from second p
-pub is_least : (grid : Grid) (parts : PartTable) (walks : List (List ℕ)) (announced : Bool) (p least : ℕ) (by_call : List ℕ) → p < 60 → length grid.rows ≤ 1200
-    → AreWalkCosts walks grid parts.times
-    → ((u : ℕ) → u < 1440 → least ≤ entry walks p u + get_or by_call (minutes_to_call u) 0)
-    → ((i m : ℕ) → i < length parts.runs → m < 30 → get_or by_call m 0 ≤ given_beside grid p m (part_where announced (run_at parts.runs i)))
-    → IsLeast parts grid announced p least
-is_least grid parts walks announced p least by_call second short costs by_time by_date = λ i u is_run day.
-    let m : ℕ = minutes_to_call u in
-    omega (
-      arith,
-      by_time u day,
-      costs.each p u second day,
-      by_date i m is_run (omega arith),
-      date_by_second grid p m (part_where announced (run_at parts.runs i)) second short,
-    )
+-- the least of all walks, by groups of runs
+pub are_least : (grid : Grid) (parts : PartTable) (walks : List (List ℕ)) (announced : Bool) (groups : List Choices) (table : LeastTable) → length grid.rows ≤ 1200
+    → AreWalkCosts walks grid parts.times → 0 < length groups
+    → ((i : ℕ) → i < length parts.runs → AreChosen (choices_at groups (group_of (length groups) i)) grid.station (part_where announced (run_at parts.runs i)))
+    → AreGroups 0 (IsLeastOf grid walks groups) (length groups) table.costs.items 60 → table.groups ≡ length groups
+    → AreLeast parts grid announced table
+are_least grid parts walks announced groups table short priced some chosen are count = record {
+  sums = record { some = omega (arith, some, count); count = omega (arith, are.count, ap (λ n. 60 * n) count) };
+  each = λ i p u is_run second day.
+      let g : ℕ = group_of (length groups) i in
+      let part = part_where announced (run_at parts.runs i) in
+      let is_group : g < length groups = omega (arith, some) in
+      omega (
+        arith,
+        ap (λ n. get_or table.costs.items (p * n + group_of n i) 0) count,
+        are.each p g second is_group u part day (chosen i is_run),
+        priced.each p u second day,
+        date_by_second grid p (minutes_to_call u) part second short,
+      );
+}
 
 module _ (w : PricedParts) (costs : List (List ℕ)) (more : List ℕ) (priced : ArePriced w.parts w.grid costs more) (announced : Bool) (p i : ℕ)
     (second : p < 60) (is_run : i < length w.parts.runs) where

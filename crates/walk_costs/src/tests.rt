@@ -87,6 +87,36 @@ fn the_call_sign_costs_nothing(rt: HostRuntime) -> Result<(), Fail> {
     Ok(())
 }
 
+// One walk goes on from the run to the next. From second 0 on both dates tell a marker in it, and the time of day 0 twice.
+// In second 33 they tell the lowest bit of the day of the year, 0 for day 162 and 1 for day 163, which costs 120 or more each
+// time; the seconds 34 and 35 are 0.
+#[test]
+fn a_walk_to_the_next_run_costs_no_less(rt: HostRuntime) -> Result<(), Fail> {
+    let civil = Civil::make(rt.alloc())?;
+    let walks = walks(rt.alloc(), &civil, Station::Jjy, &table(20, 10))?;
+    for (second, least) in [(0, 180 + 120 + 180 + 120), (33, 4 * 120)] {
+        assert_eq!(rt;
+            least_across(&walks, second, RUN_END - 1),
+            Some(least),
+            "second {second}"
+        );
+    }
+    Ok(())
+}
+
+// What no walk costs less than from the run of a minute to the next.
+fn least_across(walks: &StationWalks, p: u8, t: u32) -> Option<u32> {
+    let parts = walks.parts();
+    if p as usize >= SECONDS_PER_MINUTE || t >= parts.end() {
+        return None;
+    }
+    let run = parts.run_of(t);
+    if run >= parts.runs() - 1 {
+        return None;
+    }
+    Some(walks.least_across(false, p, run))
+}
+
 // A low tenth costs 10 and a high one 20, so 0 and 1 cost 190 and 180. The known slots are the seconds 8 and 10 of the one
 // minute and 8 and 9 of the next. Each of them can be a 1, but DUT1 has ones up to second 8 or from second 9 on.
 #[test]

@@ -63,7 +63,7 @@ impl StationWalks {
         let walks = walks_of(alloc, parts, &columns)?;
         let added = all_added(&columns);
         let DateTable { costs, announced } = dates_of(alloc, parts, &columns)?;
-        let least = LeastWalks::make(parts, &columns, &walks);
+        let least = LeastWalks::make(alloc, parts, &columns, &walks)?;
         look_at_all(&columns);
         Ok(StationWalks {
             unions,

@@ -77,7 +77,32 @@ fn found_each_way<R: Threads + Abort + Sync>(
     Ok(keys)
 }
 
-// Floors change no key of three days at the end of a year, under any ceiling and under those about the least cost.
+// Floors change no key, under any ceiling and under those about the least cost.
+fn keys_are_found_each_way<R: Threads + Abort + Sync>(
+    rt: &R,
+    alloc: Global,
+    tables: &Tables,
+    list: &[Block],
+) -> Result<(), Fail>
+    requires { AreItemsOf tables.now.window list.now }
+{
+    let found = found_each_way(rt, alloc, tables, list, GREATEST_COST)?;
+    let Some(first) = found.first else {
+        return Ok(());
+    };
+
+    // At the very cost of the first sequence it is found again, and below it nothing is.
+    let cost = GREATEST_COST.min((first >> 33) as u32);
+    let again = found_each_way(rt, alloc, tables, list, cost)?;
+    assert_eq!(rt; again.first, Some(first));
+    if cost > 0 {
+        let none = found_each_way(rt, alloc, tables, list, cost - 1)?;
+        assert_eq!(rt; none.first, None);
+    }
+    Ok(())
+}
+
+// The same of three days at the end of a year, by this log.
 fn floors_change_no_key<R: Threads + Abort + Sync>(
     rt: &R,
     alloc: Global,
@@ -90,20 +115,7 @@ fn floors_change_no_key<R: Threads + Abort + Sync>(
     let grids = [grid_of(alloc, Station::Jjy, text)?];
     let tables = Tables::make(alloc, &grids, &civil, &window)?;
     let list = items(alloc, &civil, &window)?;
-    let found = found_each_way(rt, alloc, &tables, &list, GREATEST_COST)?;
-    let Some(first) = found.first else {
-        return Ok(());
-    };
-
-    // At the very cost of the first sequence it is found again, and below it nothing is.
-    let cost = GREATEST_COST.min((first >> 33) as u32);
-    let again = found_each_way(rt, alloc, &tables, &list, cost)?;
-    assert_eq!(rt; again.first, Some(first));
-    if cost > 0 {
-        let none = found_each_way(rt, alloc, &tables, &list, cost - 1)?;
-        assert_eq!(rt; none.first, None);
-    }
-    Ok(())
+    keys_are_found_each_way(rt, alloc, &tables, &list)
 }
 
 #[test]

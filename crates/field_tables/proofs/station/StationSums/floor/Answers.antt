@@ -1,4 +1,4 @@
-use Rattle.std.proofs.Common.{◌≤◌, ◌<◌, subst, arith}
+use Rattle.std.proofs.Common.{◌≤◌, subst, arith}
 use Rattle.std.proofs.Math.Nat.{min-le_right}
 use Rattle.slot_columns.specs.Parts.{most_cost}
 use Rattle.walk_costs.specs.Walks.{PricedParts}

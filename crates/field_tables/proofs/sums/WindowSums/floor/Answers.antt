@@ -15,14 +15,14 @@ returns-then-has_no_first_second-clause-floor c = λ q inside legal.
     let length = ap (λ a. minute_length a q.first) inside.announced in
     omega (arith, legal.0.second, long, length, inside.second)
 
-pub returns-then-block-never_shows-clause-floor : goal.returns-then-block-never_shows-clause-floor
-returns-then-block-never_shows-clause-floor c = λ q inside legal.
+pub returns-then-never_shows-clause-floor : goal.returns-then-never_shows-clause-floor
+returns-then-never_shows-clause-floor c = λ q inside legal.
     let sums = c.args.self.now in
     let b = c.args.block.now in
-    let tests = c.if-block-never_shows.true in
+    let regular = c.if-not-has_regular_walks.false in
     let here = subst (IsLegal sums.window) (sym (at_first b q inside)) legal in
-    let shown = (legal_where_shown sums c.end.ensures.sums b c.requires c.has_regular_walks.ensures.short c.has_regular_walks.ensures.encoded q.first inside.not_before inside.before_end tests.0).0 here in
-    c.never_shows.ensures tests.1 q.first inside.not_before inside.before_end shown
+    let shown = (legal_where_shown sums c.end.ensures.sums b c.requires (c.has_regular_walks.ensures.short regular) (c.has_regular_walks.ensures.encoded regular) q.first inside.not_before inside.before_end c.if-block.true).0 here in
+    c.never_shows.ensures c.if-never_shows.true q.first inside.not_before inside.before_end shown
 
 pub returns-clause-floor : goal.returns-clause-floor
 returns-clause-floor c = λ q inside legal.

@@ -19,7 +19,7 @@ no_more c u day =
     let w = c.args.self.now in
     let least = subst (λ (v : PricedParts). AreLeast v.parts v.grid c.args.announced (least_where c.args.announced c.self.inside.least)) c.self.view_is
     (c.self.invariant.least c.args.announced) in
-    omega (arith, c.kept_date_cost.ensures, c.at.ensures, least c.args.p c.requires.second c.args.run u c.requires.run day)
+    omega (arith, c.kept_date_cost.ensures, c.at.ensures, least.each c.args.run c.args.p u c.requires.run c.requires.second day)
 
 fits : (c : After-at) → c.kept_date_cost.result + c.at.result ≤ most_cost c.args.self.now.grid
 fits c =
