@@ -1,20 +1,20 @@
 -- Each text has one outcome: it is that of frames in order, or it is refused for its first bad line.
-use Rattle.std.proofs.Common.{◌≡◌, true, ℕ, zero, suc, ◌+◌, ◌*◌, ◌<◌, ◌≤◌, ◌⊎◌, inl, inr, List, [], ◌∷◌, ◌++◌, length, refl, sym, ap, ◌∙◌, subst, arith, append_assoc, length-append}
+use Rattle.std.proofs.Common.{◌≡◌, true, ℕ, zero, suc, ◌+◌, ◌<◌, ◌≤◌, ◌⊎◌, inl, inr, List, [], ◌∷◌, ◌++◌, length, refl, sym, ap, ◌∙◌, subst, arith, length-append}
 use Rattle.std.proofs.lemmas.Bool.{cases_eq, cases_lt}
-use Rattle.std.proofs.lemmas.List.{append-nil, length_push}
+use Rattle.std.proofs.lemmas.List.{append-nil}
 use Rattle.definitions.specs.time.Calendar.{century_minutes, minute_length}
 use Rattle.definitions.proofs.ExistLaws.{Decided, decide_both, decide_le, decide_some}
 use Rattle.formats.specs.declared.frame.Frame.{Frame}
 use Rattle.formats.specs.declared.frame.FrameLineFault.{FrameLineFault}
 use Rattle.formats.specs.declared.frame.FrameLineFault.TheVariants.{Meaning, Shape, Timing, TooManyFrames}
-use Rattle.formats.specs.declared.frame.TheConstants.{EDGE_LIMIT, ELEMENTS, FRAME_LIMIT, FRAME_TIME, MOST_FRAMES}
+use Rattle.formats.specs.declared.frame.TheConstants.{ELEMENTS, FRAME_LIMIT, FRAME_TIME, MOST_FRAMES}
 use Rattle.formats.specs.Frames.{edge, elements, frames_text, width}
-use Rattle.formats.specs.FrameTexts.{AreInOrder, BeginsWithEdge, HasMeaning, HasOutcome, HasRoom, IsAfter, IsBadNext, IsElement, IsNext, IsOver, IsReadTo, IsRefused, IsSecond, IsTextOf, IsTimely, MayBegin, Next, TellASecond, letter_at, line_due, next_start}
+use Rattle.formats.specs.FrameTexts.{BeginsWithEdge, HasOutcome, HasRoom, IsAfter, IsBadNext, IsElement, IsOver, IsReadTo, IsRefused, IsTextOf, IsTimely, Next, TellASecond, letter_at, line_due, next_start}
 use Rattle.formats.specs.FrameTexts.Next.{NextFrame, Rise, Fall}
 use Rattle.formats.proofs.LineLaws.{decide_bytes}
 use Rattle.formats.proofs.FrameEdgeLaws.{decide_edge, edge_some}
 use Rattle.formats.proofs.FrameReachLaws.{read_reaches, to_end}
-use Rattle.formats.proofs.FrameRunLaws.{Reaches, State, frame_of, letters, one_element, one_end}
+use Rattle.formats.proofs.FrameRunLaws.{Reaches, State, frame_of, letters, one_end}
 use Rattle.formats.proofs.FrameStepLaws.{read_begin, read_fall, read_frame, read_rise}
 use Rattle.formats.proofs.FrameStuckLaws.{bad_once, bad_stuck, end_not_bad, end_stuck}
 

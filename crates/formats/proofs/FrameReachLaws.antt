@@ -1,11 +1,10 @@
 -- What is written of frames leads, line by line, to where it ends.
-use Rattle.std.proofs.Common.{◌≡◌, ℕ, zero, suc, ◌+◌, ◌-◌, ◌*◌, ◌<◌, ◌≤◌, ◌⊎◌, inl, inr, List, [], ◌∷◌, ◌++◌, length, refl, sym, ap, ◌∙◌, subst, arith, append_assoc, length-append, get_or}
-use Rattle.std.specs.List.{All, flat_map}
+use Rattle.std.proofs.Common.{◌≡◌, ℕ, suc, ◌+◌, ◌<◌, ◌⊎◌, inl, inr, List, [], ◌∷◌, ◌++◌, length, refl, sym, ap, ◌∙◌, subst, arith, append_assoc, length-append}
+use Rattle.std.specs.List.{All}
 use Rattle.std.proofs.lemmas.List.{append-nil, get_or_append_left, length_push}
-use Rattle.std.proofs.lemmas.List.Elements.{All-push}
 use Rattle.std.proofs.Math.Seq.{get_or-append_seam}
 use Rattle.formats.specs.declared.frame.Frame.{Frame}
-use Rattle.formats.specs.declared.frame.TheConstants.{EDGE_LIMIT, ELEMENTS, ELEMENT_TIME, FRAME_LIMIT, MOST_FRAMES}
+use Rattle.formats.specs.declared.frame.TheConstants.{ELEMENTS, ELEMENT_TIME, FRAME_LIMIT}
 use Rattle.formats.specs.Bytes.{letter_h, letter_l}
 use Rattle.formats.specs.Frames.{edge, elements, frame_text, frames_text, pulses, width}
 use Rattle.formats.specs.FrameTexts.{AreApart, AreInOrder, IsAfter, IsElement, IsNext, IsReadTo, IsSecond, MayBegin, Next, begun, next_start}
@@ -13,7 +12,7 @@ use Rattle.formats.specs.FrameTexts.Next.{NextFrame, Rise, Fall}
 use Rattle.formats.proofs.LineLaws.{by_end}
 use Rattle.formats.proofs.FrameTellLaws.{are_elements, elements_long}
 use Rattle.formats.proofs.FrameStepLaws.{pulses-push}
-use Rattle.formats.proofs.FrameRunLaws.{Goes, Reaches, State, frame_of, reaches-nil, reaches-one, reaches-then, width_is}
+use Rattle.formats.proofs.FrameRunLaws.{Reaches, State, frame_of, reaches-nil, reaches-one, reaches-then, width_is}
 
 -- what comes next after some elements of a frame
 abbrev next_after : ℕ → List ℕ → Next

@@ -1,18 +1,14 @@
 -- The lines of a text of frames, one after another: what is written of frames leads to one place, and no line leads on
 -- from where a text is refused or ends.
-use Rattle.std.proofs.Common.{◌≡◌, ℕ, zero, suc, ◌+◌, ◌*◌, ◌<◌, ◌≤◌, ◌⊎◌, inl, inr, List, [], ◌∷◌, ◌++◌, length, refl, sym, ap, ◌∙◌, subst, arith, append_assoc, length-append}
-use Rattle.std.specs.List.{All, flat_map}
-use Rattle.std.proofs.lemmas.List.{append-nil, length_push, same_from_push}
+use Rattle.std.proofs.Common.{◌≡◌, ℕ, zero, suc, ◌+◌, ◌*◌, ◌<◌, ◌⊎◌, inl, inr, List, [], ◌∷◌, ◌++◌, length, refl, sym, ap, ◌∙◌, subst, arith}
 use Rattle.formats.specs.declared.frame.Frame.{Frame}
-use Rattle.formats.specs.declared.frame.FrameLineFault.{FrameLineFault}
-use Rattle.formats.specs.declared.frame.FrameLineFault.TheVariants.{Meaning, Shape, Timing, TooManyFrames}
-use Rattle.formats.specs.declared.frame.TheConstants.{EDGE_LIMIT, ELEMENTS, ELEMENT_TIME, FRAME_LIMIT, MOST_FRAMES}
-use Rattle.formats.specs.Bytes.{line_feed, letter_h, letter_l}
-use Rattle.formats.specs.Frames.{edge, elements, frame_text, frames_text, pulses, width}
-use Rattle.formats.specs.FrameTexts.{AreApart, AreInOrder, IsAfter, IsBadNext, IsElement, IsNext, IsReadTo, IsSecond, MayBegin, Next, begun, letter_at, next_start}
+use Rattle.formats.specs.declared.frame.TheConstants.{EDGE_LIMIT, ELEMENTS}
+use Rattle.formats.specs.Bytes.{line_feed}
+use Rattle.formats.specs.Frames.{edge, elements, width}
+use Rattle.formats.specs.FrameTexts.{IsElement, IsSecond, MayBegin, Next, letter_at, next_start}
 use Rattle.formats.specs.FrameTexts.Next.{NextFrame, Rise, Fall}
-use Rattle.formats.proofs.FrameEdgeLaws.{edge_once, no_edge}
-use Rattle.formats.proofs.FrameTellLaws.{are_elements, elements_long, one_second}
+use Rattle.formats.proofs.FrameEdgeLaws.{edge_once}
+use Rattle.formats.proofs.FrameTellLaws.{one_second}
 
 -- whole frames, and what comes next
 abbrev pub State : Type 0

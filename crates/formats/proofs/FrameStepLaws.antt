@@ -1,14 +1,13 @@
 -- From one line of a text of frames to the next: what was read of them, with one edge more.
-use Rattle.std.proofs.Common.{◌≡◌, ℕ, suc, ◌+◌, ◌*◌, ◌<◌, ◌≤◌, List, [], ◌∷◌, ◌++◌, length, refl, sym, ap, ◌∙◌, subst, arith, append_assoc, length-append}
-use Rattle.std.specs.List.{All, flat_map}
+use Rattle.std.proofs.Common.{◌≡◌, ℕ, ◌+◌, ◌<◌, List, [], ◌∷◌, ◌++◌, length, sym, ap, ◌∙◌, arith, append_assoc}
 use Rattle.std.proofs.lemmas.Grind.{flat_map-append}
 use Rattle.std.proofs.lemmas.List.{append-nil, length_push}
 use Rattle.std.proofs.lemmas.List.Elements.{All-push}
 use Rattle.formats.specs.declared.frame.Frame.{Frame}
-use Rattle.formats.specs.declared.frame.TheConstants.{ELEMENTS, ELEMENT_TIME, FRAME_LIMIT, FRAME_TIME, MOST_FRAMES}
+use Rattle.formats.specs.declared.frame.TheConstants.{ELEMENTS, ELEMENT_TIME, FRAME_LIMIT}
 use Rattle.formats.specs.Bytes.{letter_h, letter_l}
 use Rattle.formats.specs.Frames.{edge, elements, frame_text, frames_text, pulses, width}
-use Rattle.formats.specs.FrameTexts.{AreApart, AreInOrder, IsAfter, IsElement, IsNext, IsReadTo, IsSecond, MayBegin, Next, begun, next_start}
+use Rattle.formats.specs.FrameTexts.{AreApart, AreInOrder, IsAfter, IsElement, IsReadTo, IsSecond, MayBegin, next_start}
 use Rattle.formats.specs.FrameTexts.Next.{NextFrame, Rise, Fall}
 
 -- one frame more

@@ -1,13 +1,12 @@
 -- Where a text of frames ends or is refused, no line leads on, and it is refused in one way.
-use Rattle.std.proofs.Common.{◌≡◌, ℕ, suc, ◌+◌, ◌*◌, ◌<◌, ◌≤◌, ◌⊎◌, inl, inr, List, [], ◌∷◌, ◌++◌, length, refl, sym, ap, ◌∙◌, subst, arith}
+use Rattle.std.proofs.Common.{◌≡◌, ℕ, inl, inr, List, [], ◌∷◌, ◌++◌, length, refl, sym, ◌∙◌, subst, arith}
 use Rattle.std.proofs.lemmas.List.{length_push}
 use Rattle.formats.specs.declared.frame.Frame.{Frame}
 use Rattle.formats.specs.declared.frame.FrameLineFault.{FrameLineFault}
 use Rattle.formats.specs.declared.frame.FrameLineFault.TheVariants.{Meaning, Shape, Timing, TooManyFrames}
-use Rattle.formats.specs.declared.frame.TheConstants.{EDGE_LIMIT, ELEMENTS}
+use Rattle.formats.specs.declared.frame.TheConstants.{ELEMENTS}
 use Rattle.formats.specs.Bytes.{letter_h}
-use Rattle.formats.specs.Frames.{edge, elements, width}
-use Rattle.formats.specs.FrameTexts.{BeginsWithEdge, HasMeaning, HasRoom, IsBadNext, IsElement, IsOver, IsSecond, IsTimely, Next, TellASecond, letter_at, next_start}
+use Rattle.formats.specs.FrameTexts.{BeginsWithEdge, HasMeaning, HasRoom, IsBadNext, IsTimely, Next, TellASecond, letter_at}
 use Rattle.formats.specs.FrameTexts.Next.{NextFrame, Rise, Fall}
 use Rattle.formats.proofs.FrameEdgeLaws.{edge_once, no_edge}
 use Rattle.formats.proofs.FrameRunLaws.{Ends, Goes, IsStuck, State, letters, one_element}

@@ -1,11 +1,11 @@
 -- The elements of a second tell that second.
-use Rattle.std.proofs.Common.{◌≡◌, ℕ, zero, suc, ◌+◌, ◌-◌, ◌*◌, ◌/◌, ◌%◌, ◌<◌, ◌≤◌, ◌⊎◌, inl, inr, Bool, true, false, ◌&&◌, nat_lt, if◌then◌else◌, List, length, Option, Some, None, refl, sym, ap, ◌∙◌, subst, arith, get_or}
+use Rattle.std.proofs.Common.{◌≡◌, ℕ, zero, suc, ◌+◌, ◌-◌, ◌*◌, ◌/◌, ◌%◌, ◌<◌, ◌≤◌, ◌⊎◌, inl, inr, Bool, true, false, ◌&&◌, nat_lt, if◌then◌else◌, length, Option, Some, None, refl, sym, ap, ◌∙◌, subst, arith}
 use Rattle.std.specs.List.{All}
 use Rattle.std.specs.Option.{option_map_or}
 use Rattle.std.proofs.lemmas.List.FromFn.{get_or-map-range_with_len, length-map-range_with_len}
 use Rattle.definitions.specs.declared.day.Day.{Day}
 use Rattle.definitions.specs.declared.fields.Fields.{Fields}
-use Rattle.definitions.specs.time.Calendar.{century_minutes, day_at, first_day, is_leap_end, minute_length, minutes_per_day, month_length, next_day, utc_fields}
+use Rattle.definitions.specs.time.Calendar.{day_at, is_leap_end, minutes_per_day, month_length, next_day, utc_fields}
 use Rattle.definitions.specs.codes.Vocabulary.{carried_bit, is_one_of, weight_of, weight_of_ones}
 use Rattle.definitions.proofs.CheckLaws.{all_below}
 use Rattle.definitions.proofs.CenturyLaws.{known, year_begin}

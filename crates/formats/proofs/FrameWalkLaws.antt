@@ -1,11 +1,11 @@
 -- The frames of a walk are in order.
-use Rattle.std.proofs.Common.{◌≡◌, ℕ, zero, suc, ◌+◌, ◌*◌, ◌<◌, ◌≤◌, Bool, true, false, ◌&&◌, if◌then◌else◌, List, length, get_or, map, refl, sym, subst, arith}
+use Rattle.std.proofs.Common.{ℕ, zero, suc, ◌+◌, ◌<◌, ◌≤◌, Bool, true, false, ◌&&◌, if◌then◌else◌, map, sym, subst, arith}
 use Rattle.std.specs.List.{All, range_with_len}
 use Rattle.std.proofs.lemmas.List.FromFn.{get_or-map-range_with_len, length-map-range_with_len}
 use Rattle.signal_base.specs.declared.limits.TheConstants.{MOST_SECONDS, START_LIMIT}
 use Rattle.signal_base.specs.declared.window.Window.{Window}
 use Rattle.definitions.specs.declared.sequence.Sequence.{Sequence}
-use Rattle.definitions.specs.time.Calendar.{is_leap_end, minute_length}
+use Rattle.definitions.specs.time.Calendar.{is_leap_end}
 use Rattle.definitions.specs.sequences.Walks.{IsWalkable, place_at}
 use Rattle.definitions.proofs.PlaceLaws.{within_minute}
 use Rattle.formats.specs.declared.frame.Frame.{Frame}

@@ -1,13 +1,11 @@
 -- The first bad lines.
-use Rattle.std.proofs.Common.{◌≡◌, ◌++◌, ℕ, List, [], ◌∷◌, length, get_or, take, codes, inl, inr, refl, ap, sym, ◌∙◌, arith}
+use Rattle.std.proofs.Common.{◌++◌, ℕ, List, [], ◌∷◌, length, get_or, take, codes, inl, inr, refl, ap, arith}
 use Rattle.std.specs.Fmt.{digits}
-use Rattle.std.proofs.lemmas.List.{append-nil}
 use Rattle.definitions.specs.time.Calendar.{day_at}
 use Rattle.definitions.specs.examples.Dates.{at, on}
 use Rattle.formats.specs.Bytes.{letter_h, letter_l}
 use Rattle.formats.specs.Examples.{frame_at}
 use Rattle.formats.specs.FrameTexts.Next.{Fall, NextFrame}
-use Rattle.formats.specs.Frames.{frame_text}
 use Rattle.formats.proofs.FrameEdgeLaws.{no_edge, no_edge_end, no_edge_line}
 use Rattle.formats.proofs.FrameExampleLaws.{avoids_literal, may_begin, mixed, mixed_begins, mixed_tells_none, nine_is_no_end, one_frame, order-nil, read_one}
 use Rattle.formats.proofs.examples.frames.bad_frames.Goals as goal

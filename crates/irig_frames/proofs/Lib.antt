@@ -1,0 +1,5 @@
+pub mod TimeLaws
+pub mod EdgeLaws
+pub mod TextLaws
+pub mod ToldLaws
+pub mod ReadLaws
