@@ -48,14 +48,14 @@ impl WindowSums {
         let mut total = 0;
         for station in &self.stations {
             let blocks = station.blocks();
-            let walks = Walks {
+            let all = Walks {
                 station: blocks.walks(),
                 announced: block.announced,
                 second: block.second,
                 lo: block.lo,
                 hi,
             };
-            total += blocks.union_cost(&walks);
+            total += blocks.union_cost(&all);
         }
         total
     }

@@ -70,14 +70,14 @@ impl WindowSums {
     {
         let mut total = 0;
         for station in &self.stations {
-            let walks = Walks {
+            let one = Walks {
                 station: station.walks(),
                 announced: minute.announced,
                 second: minute.second,
                 lo: minute.lo,
                 hi: minute.lo + 1,
             };
-            total += walks.first_cost();
+            total += one.first_cost();
         }
         total
     }

@@ -1,5 +1,5 @@
 -- An announced sequence is legal where it shows that.
-use Rattle.std.proofs.Common.{◌≡◌, true, false, sym, ◌∙◌, arith}
+use Rattle.std.proofs.Common.{arith}
 use Rattle.field_tables.proofs.MinuteLaws.{legal_where_shown}
 use Rattle.field_tables.proofs.sums.WindowSums.announced_bound.Goals as goal
 

@@ -7,6 +7,6 @@ pub returns-clause-bound : goal.returns-clause-bound
 returns-clause-bound c =
     let b = c.args.minute.now in (
       legal_where_unannounced c.args.self.now c.end.ensures.sums b c.requires.block c.requires.walks c.requires.encoded b.lo (omega arith) c.requires.block.not_empty
-          c.if-announced.false,
+          c.if-minute.false,
       c.minute_cost.ensures.cost,
     )
