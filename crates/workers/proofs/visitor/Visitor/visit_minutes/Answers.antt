@@ -1,5 +1,5 @@
 -- Each return of a visit of minutes has walked them.
-use Rattle.std.proofs.Common.{refl, ◌∙◌, subst, rules}
+use Rattle.std.proofs.Common.{◌≡◌, refl, ◌∙◌, subst, rules}
 use Rattle.std.specs.List.{AllByRecursion}
 use Rattle.definitions.specs.declared.block.Block.{Block}
 use Rattle.definitions.specs.answers.Blocks.{children, shorter}
