@@ -5,8 +5,8 @@ ghost use Rattle.signal_base.specs.Limits.{IsPriced};
 ghost use Rattle.signal_base.specs.declared.limits.TheConstants.{MOST_COST};
 ghost use Rattle.walk_costs.specs.Walks.{IsRegularIn};
 
-use crate::walks::meets_leap_end;
 use crate::StationWalks;
+use crate::walks::meets_leap_end;
 use civil::Civil;
 use definitions::CENTURY_MINUTES;
 use minute_parts::{Parts, Unions};
