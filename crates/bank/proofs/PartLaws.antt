@@ -134,5 +134,5 @@ counts_add_up (Jjy ∷ ss) = let rest = counts_add_up ss in omega (arith, rest)
 pub heard_in_bank : (b : Bank) → IsBank b → (station : Station) → heard_of station (receivers b.stations.items (receptions b.tunings.items b.logs.items)) ≡ heard_in station b
 heard_in_bank b is station =
     heard_part station b.stations.items (receptions b.tunings.items b.logs.items)
-    (receptions_length b.tunings.items b.logs.items (is.logs ∙ sym is.tunings) ∙ is.tunings) b.in_order
+    (receptions_length b.tunings.items b.logs.items (is.logs ∙ sym is.tunings) ∙ is.tunings) is.in_order
     ∙ part_of_both station b.stations.items b.tunings.items b.logs.items

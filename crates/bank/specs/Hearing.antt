@@ -1,6 +1,7 @@
 -- A bank as the rules see it, and the grids of its stations.
 use Rattle.std.specs.Prelude.{ℕ, suc, ◌≡◌, ◌+◌, ◌==◌, nat_lt, ◌≤◌, Bool, if◌then◌else◌, List, [], ◌∷◌, All, drop, filter, length, map, sum_by, take, min, Option, Some, None}
 use Rattle.std.specs.List.{flat_map, list_any}
+use Rattle.std.specs.List.Sorted.{IsNonDecreasingBy}
 use Rattle.signal_base.specs.declared.limits.TheConstants.{GREATEST_COST, MOST_RECEIVERS}
 use Rattle.signal_base.specs.declared.station.Station.{Station}
 use Rattle.signal_base.specs.declared.station.Station.TheVariants.{Dcf77, Msf, Wwvb, Jjy}
@@ -26,7 +27,7 @@ bank_seen b =
       ceiling = b.ceiling;
     }
 
--- its numbers are in their ranges, and its lists have one entry for each receiver
+-- its numbers are in their ranges, and its lists have one entry for each receiver, in the order of their stations
 pub record IsBank (b : Bank) : Type 0 where
   pub some_receiver : 1 ≤ length b.stations.items
   pub few_receivers : length b.stations.items ≤ MOST_RECEIVERS
@@ -35,6 +36,7 @@ pub record IsBank (b : Bank) : Type 0 where
   pub tuned : All IsTuned b.tunings.items
   pub priced : IsPriced b.table
   pub ceiling : b.ceiling ≤ GREATEST_COST
+  pub in_order : IsNonDecreasingBy number_of b.stations.items
 
 -- the times of the logs' first records
 abbrev pub times_of : List Records → List ℕ

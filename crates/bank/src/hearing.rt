@@ -2,7 +2,6 @@
 
 ghost use Rattle.std.specs.Prelude.{◌≡◌, ◌==◌, ◌<◌, IfOk, length, map, unwrap_or};
 ghost use Rattle.std.specs.List.{list_any};
-ghost use Rattle.std.specs.List.Sorted.{IsNonDecreasingBy};
 ghost use Rattle.std.specs.Option.{ForSome};
 ghost use Rattle.signal_base.specs.Number.{number_of};
 ghost use Rattle.definitions.specs.sequences.Windows.{IsWindow};
@@ -22,7 +21,7 @@ use signal_base::{CostTable, Station, Stations, Tuning, Window};
 use std::alloc::{AllocError, Global};
 
 /// What is scored: receivers with what they heard, what a tenth of a second costs, and above which cost nothing is
-/// admitted. The lists have one entry for each receiver, in the same order: that of their stations.
+/// admitted. The lists have one entry for each receiver, in the same order.
 #[derive(Debug, Drop)]
 pub struct Bank {
     /// The station that each receiver listens to.
@@ -35,7 +34,6 @@ pub struct Bank {
     pub table: CostTable,
     /// Sequences that cost more aren't admitted.
     pub ceiling: u32,
-    ghost in_order: { IsNonDecreasingBy number_of stations.items },
 }
 
 /// The bank of a configuration and its logs.

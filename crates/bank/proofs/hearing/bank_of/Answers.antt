@@ -33,10 +33,5 @@ returns-clause-in_range c =
       tuned = subst (λ (ts : List Tuning). All IsTuned ts) (sym tunings) (all_tuned rs c.requires.in_range.receivers);
       priced = c.requires.in_range.priced;
       ceiling = c.requires.in_range.ceiling;
+      in_order = subst (IsNonDecreasingBy number_of) (sym stations) (rises_map (λ r. r.station) number_of rs c.args.loaded.in_order);
     }
-
-pub Bank-in_order : goal.Bank-in_order
-Bank-in_order c =
-    let rs = c.args.loaded.config.receivers.items in
-    let stations = c.in_ok-stations.ensures ∙ ap (map (λ r. r.station)) c.as_slice.ensures.value in
-    subst (IsNonDecreasingBy number_of) (sym stations) (rises_map (λ r. r.station) number_of rs c.args.loaded.in_order)

@@ -70,4 +70,5 @@ returns-clause-in_range c =
       tuned = inv.tuned;
       priced = c.default.ensures.priced;
       ceiling = omega arith;
+      in_order = inv.in_order;
     }
