@@ -8,7 +8,7 @@ ghost use Rattle.definitions.specs.sequences.Windows.{IsWindow};
 
 use crate::chance::Chance;
 use bounds::{Bounded, bound, bounded_children, children};
-use definitions::{Block, CENTURY_MINUTES, Sequence};
+use definitions::{Block, CENTURY_MINUTES, Sequence, Span};
 use field_tables::Tables;
 use signal_base::Window;
 
