@@ -18,7 +18,8 @@ use workers::{Found, NoGate, finish, search, search_with};
 // How many workers are compared with one.
 const MANY: u8 = 4;
 
-/// Counts what a search of the items with one worker comes to, and times searches. All find the same keys, else it is refused.
+/// Counts what a search of the items with one worker comes to that asks for no floors of days, and times searches that do. All
+/// find the same keys, else it is refused.
 pub fn measure_search<R: Threads + Sync + Clock + Print + AllocGlobal>(
     rt: &R,
     tables: &Tables,

@@ -5,9 +5,9 @@ ghost use Rattle.workers.specs.Searches.{AreItemsOf};
 
 use crate::tests::{Counter, YEAR_2001, grid_of, jjy};
 use crate::{Found, NoGate, finish, search_with};
-use bounds::items;
+use bounds::{bounded_children, items};
 use civil::Civil;
-use definitions::Block;
+use definitions::{Block, Span, items_share_the_sequences};
 use field_tables::Tables;
 use race_words::Race;
 use signal_base::{GREATEST_COST, Station};
@@ -126,4 +126,28 @@ fn floors_change_no_key_of_noise(rt: HostRuntime) -> Result<(), Fail> {
 #[test]
 fn floors_change_no_key_of_silence(rt: HostRuntime) -> Result<(), Fail> {
     floors_change_no_key(&rt, rt.alloc(), b"")
+}
+
+// No clause says that a floor is above 0. By this log one is, of a day on which no leap second is announced.
+#[test]
+fn a_day_of_noise_has_a_floor(rt: HostRuntime) -> Result<(), Fail> {
+    let civil = Civil::make(rt.alloc())?;
+    let window = jjy(YEAR_2001 - 2880, YEAR_2001 + 1440);
+    let grids = [grid_of(rt.alloc(), Station::Jjy, NOISE)?];
+    let tables = Tables::make(rt.alloc(), &grids, &civil, &window)?;
+    let list = items(rt.alloc(), &civil, &window)?;
+    items_share_the_sequences();
+    let Some(year) = list.first() else {
+        panic!(rt; "no year");
+    };
+    assert!(rt; !year.announced);
+    let Some(day) = bounded_children(&tables, year).next_block() else {
+        panic!(rt; "no day");
+    };
+    if day.span != Span::Day {
+        panic!(rt; "no day");
+    }
+    let floor = tables.floor(&day);
+    assert!(rt; floor.is_some() && floor != Some(0), "a floor of nothing");
+    Ok(())
 }
