@@ -4,4 +4,3 @@ pub mod TotalLaws
 pub mod UnionLaws
 pub mod HourLaws
 mod CrossLaws
-mod DayLaws

@@ -8,7 +8,6 @@ use Rattle.minute_parts.specs.HourLayers.{AreTimeLayers}
 use Rattle.minute_parts.specs.Overlay.{is_given_up}
 use Rattle.minute_parts.specs.Walks.{later_minutes}
 use Rattle.walk_costs.specs.Walks.{PricedParts}
-use Rattle.block_costs.specs.declared.local_hours.HoursInRun.{HoursInRun}
 use Rattle.block_costs.specs.declared.local_hours.TheConstants.{DAY_HOURS}
 use Rattle.minute_parts.specs.declared.hour_layers.TheConstants.{HOUR_MINUTES}
 use Rattle.block_costs.specs.Blocks.{AreUnionsOfWalks, unions_cost}
@@ -45,11 +44,3 @@ pub record AreHours (w : PricedParts) (begin : ℕ) (call : List ℕ) (firsts re
 pub record IsHourCost (w : PricedParts) (announced : Bool) (p lo cost : ℕ) : Type 0 where
   pub cost_is : (sets : ℕ → ℕ) → AreUnionsOfWalks w.grid.station announced p lo (lo + HOUR_MINUTES) (length w.grid.rows) sets → cost ≡ unions_cost w.grid sets
   pub bound : cost ≤ most_cost w.grid
-
--- hours one after the other, from that which begins in the minute lo on, at most so many: each costs an entry of some costs and
--- what the date does
-pub record AreHoursInRun (w : PricedParts) (costs : List ℕ) (announced : Bool) (p lo most : ℕ) (r : HoursInRun) : Type 0 where
-  pub some : 1 ≤ r.count
-  pub few : r.count ≤ most
-  pub entries : r.begin + r.count ≤ length costs
-  pub each : (j : ℕ) → j < r.count → IsHourCost w announced p (lo + HOUR_MINUTES * j) (slice_index costs (r.begin + j) + r.date)

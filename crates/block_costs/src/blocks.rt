@@ -1,17 +1,14 @@
 //! The tables of a station's blocks.
 
-ghost use Rattle.std.specs.Prelude.{ℕ, ◌≡◌, ◌+◌, ◌<◌, ◌≤◌, IfOk, false, length};
-ghost use Rattle.minute_parts.specs.Unions.{AreRegular};
+ghost use Rattle.std.specs.Prelude.{ℕ, ◌≡◌, ◌+◌, ◌≤◌, IfOk, false, length};
 ghost use Rattle.slot_columns.specs.Parts.{most_cost};
-ghost use Rattle.slot_columns.specs.declared.limits.TheConstants.{SECONDS_PER_MINUTE};
-ghost use Rattle.minute_parts.specs.Walks.{later_minutes};
 ghost use Rattle.block_costs.specs.Blocks.{AreUnionsOfWalks, unions_cost};
 ghost use Rattle.block_costs.specs.Hours.{IsHourCost};
 ghost use Rattle.minute_parts.specs.declared.hour_layers.TheConstants.{HOUR_MINUTES};
 
 use crate::kept::{Kept, YEAR_DAYS, is_kept, kept_days, kept_years};
 use crate::local_hours::{Hours, hours_of};
-use crate::unkept::cost_as_asked;
+use crate::walks::Walks;
 use definitions::MINUTES_PER_DAY;
 use minute_parts::HOUR_MINUTES;
 use std::alloc::{AllocError, Global};
@@ -22,10 +19,10 @@ use walk_costs::StationWalks;
 /// the walks.
 #[derive(Drop)]
 pub struct StationBlocks {
-    pub(crate) walks: StationWalks,
+    walks: StationWalks,
     days: Kept,
     years: Kept,
-    pub(crate) hours: Hours,
+    hours: Hours,
 }
 
 impl Model for StationBlocks {
@@ -65,77 +62,69 @@ impl StationBlocks {
         &self.walks
     }
 
-    /// What the unions over a block cost whose walks have 60 seconds in each minute: from second `p`, below 60, of the
-    /// minutes from `lo` up to, and without, `hi`.
-    pub fn union_cost(&self, announced: bool, p: u8, lo: u32, hi: u32) -> u32
-        requires second { p < SECONDS_PER_MINUTE }
-        requires some { lo < hi }
-        requires regular { AreRegular announced lo (hi + later_minutes (length self.now.grid.rows) p) self.now.parts.end }
-        ensures cost { (sets : ℕ → ℕ) → AreUnionsOfWalks self.now.grid.station announced p lo hi (length self.now.grid.rows) sets → result ≡ unions_cost self.now.grid sets }
+    /// What the unions cost over some walks of the station.
+    pub fn union_cost(&self, walks: &Walks<'_>) -> u32
+        requires { walks.now.station.now ≡ self.now }
+        ensures cost { (sets : ℕ → ℕ) → AreUnionsOfWalks self.now.grid.station walks.now.announced walks.now.second walks.now.lo walks.now.hi (length self.now.grid.rows) sets
+            → result ≡ unions_cost self.now.grid sets }
         ensures bound { result ≤ most_cost self.now.grid }
     {
-        if !announced {
-            return self.unannounced_cost(p, lo, hi);
+        if !walks.announced {
+            return self.unannounced_cost(walks);
         }
         // What ends before the parts' end fits.
         self.walks.parts().end();
-        let last = hi - 1 + self.walks.later_minutes(p);
-        if self.walks.never_shows(lo, last) {
-            return self.unannounced_cost(p, lo, hi);
+        let last = walks.hi - 1 + self.walks.later_minutes(walks.second);
+        if self.walks.never_shows(walks.lo, last) {
+            let alike = Walks {
+                station: walks.station,
+                announced: false,
+                second: walks.second,
+                lo: walks.lo,
+                hi: walks.hi,
+            };
+            return self.unannounced_cost(&alike);
         }
-        if hi - lo == HOUR_MINUTES as u32 {
-            return self.hour_cost(announced, p, lo);
+        if walks.hi - walks.lo == HOUR_MINUTES as u32 {
+            return self.hour_cost(walks);
         }
-        cost_as_asked(&self.walks, announced, p, lo, hi)
+        walks.cost_as_asked()
     }
 
     // The same where no leap second is announced.
-    fn unannounced_cost(&self, p: u8, lo: u32, hi: u32) -> u32
-        requires second { p < SECONDS_PER_MINUTE }
-        requires some { lo < hi }
-        requires encoded { hi + later_minutes (length self.now.grid.rows) p ≤ self.now.parts.end }
-        ensures cost { (sets : ℕ → ℕ) → AreUnionsOfWalks self.now.grid.station false p lo hi (length self.now.grid.rows) sets → result ≡ unions_cost self.now.grid sets }
+    fn unannounced_cost(&self, walks: &Walks<'_>) -> u32
+        requires of { walks.now.station.now ≡ self.now }
+        requires unannounced { walks.now.announced ≡ false }
+        ensures cost { (sets : ℕ → ℕ) → AreUnionsOfWalks self.now.grid.station false walks.now.second walks.now.lo walks.now.hi (length self.now.grid.rows) sets
+            → result ≡ unions_cost self.now.grid sets }
         ensures bound { result ≤ most_cost self.now.grid }
     {
-        let day = (lo / MINUTES_PER_DAY) as usize;
-        if is_kept(&self.days, day, lo, hi) {
-            return self.days.costs.cost(day, p);
+        let day = (walks.lo / MINUTES_PER_DAY) as usize;
+        if is_kept(&self.days, day, walks.lo, walks.hi) {
+            return self.days.costs.cost(day, walks.second);
         }
-        if hi - lo == HOUR_MINUTES as u32 {
-            return self.hour_cost(false, p, lo);
+        if walks.hi - walks.lo == HOUR_MINUTES as u32 {
+            return self.hour_cost(walks);
         }
         let year = day / YEAR_DAYS as usize;
-        if is_kept(&self.years, year, lo, hi) {
-            return self.years.costs.cost(year, p);
+        if is_kept(&self.years, year, walks.lo, walks.hi) {
+            return self.years.costs.cost(year, walks.second);
         }
-        cost_as_asked(&self.walks, false, p, lo, hi)
+        walks.cost_as_asked()
     }
 
-    // The same of the hour that begins in the minute `lo`.
-    fn hour_cost(&self, announced: bool, p: u8, lo: u32) -> u32
-        requires second { p < SECONDS_PER_MINUTE }
-        requires regular { AreRegular announced lo (lo + HOUR_MINUTES + later_minutes (length self.now.grid.rows) p) self.now.parts.end }
-        ensures { IsHourCost self.now announced p lo result }
+    // The same of an hour: by what is kept, or else by unions that are made for it.
+    fn hour_cost(&self, walks: &Walks<'_>) -> u32
+        requires of { walks.now.station.now ≡ self.now }
+        requires hour { walks.now.hi ≡ walks.now.lo + HOUR_MINUTES }
+        ensures { IsHourCost self.now walks.now.announced walks.now.second walks.now.lo result }
     {
-        // What so few slots and receivers cost fits.
-        self.walks.columns();
-        match self.hours.in_run(&self.walks, announced, p, lo, 1) {
-            Some(kept) => self.hours.costs[kept.begin] + kept.date,
-            None => self.hour_alone(announced, p, lo),
-        }
-    }
-
-    // The same of an hour that isn't kept, or whose walks don't lie in one run: by unions that are made for it, if need be.
-    pub(crate) fn hour_alone(&self, announced: bool, p: u8, lo: u32) -> u32
-        requires second { p < SECONDS_PER_MINUTE }
-        requires regular { AreRegular announced lo (lo + HOUR_MINUTES + later_minutes (length self.now.grid.rows) p) self.now.parts.end }
-        ensures { IsHourCost self.now announced p lo result }
-    {
-        if let Some(cost) = self.hours.across(&self.walks, announced, p, lo) {
+        if let Some(cost) = self.hours.in_run(walks) {
             return cost;
         }
-        // What ends before the parts' end fits.
-        self.walks.parts().end();
-        cost_as_asked(&self.walks, announced, p, lo, lo + HOUR_MINUTES as u32)
+        if let Some(cost) = self.hours.across(walks) {
+            return cost;
+        }
+        walks.cost_as_asked()
     }
 }

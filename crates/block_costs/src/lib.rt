@@ -4,17 +4,13 @@
 
 mod across;
 mod blocks;
-#[cfg(test)]
-mod crossing_tests;
-mod day;
 mod kept;
 mod local_hours;
-mod minutes;
+mod sequences;
 #[cfg(test)]
 mod tests;
 mod unkept;
+mod walks;
 
 pub use blocks::StationBlocks;
-pub use day::HoursOfDay;
-pub use local_hours::DAY_HOURS;
-pub use minutes::MinuteCosts;
+pub use walks::Walks;

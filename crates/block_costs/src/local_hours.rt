@@ -1,15 +1,14 @@
 //! What the unions of whole hours cost whose walks lie in one run: what the time of day tells there, which is kept for each
 //! hour of the local day, and what the date tells of the seconds that are left to it.
 
-ghost use Rattle.std.specs.Prelude.{ℕ, ◌≡◌, ◌+◌, ◌*◌, ◌<◌, ◌≤◌, ◌^◌, IfOk, IfSome, OnOk, bit_or, false, length, slice_index, true};
+ghost use Rattle.std.specs.Prelude.{ℕ, ◌≡◌, ◌+◌, ◌<◌, ◌≤◌, ◌^◌, IfOk, IfSome, OnOk, bit_or, false, length, slice_index, true};
 ghost use Rattle.minute_parts.specs.declared.hour_layers.TheConstants.{HOUR_MINUTES};
 ghost use Rattle.slot_columns.specs.declared.limits.TheConstants.{SECONDS_PER_MINUTE};
-ghost use Rattle.minute_parts.specs.Unions.{AreRegular};
 ghost use Rattle.minute_parts.specs.Overlay.{is_given_up};
-ghost use Rattle.minute_parts.specs.Walks.{later_minutes};
-ghost use Rattle.block_costs.specs.Hours.{AreHourCosts, AreHourLayers, AreHours, AreHoursInRun, hour_at};
+ghost use Rattle.block_costs.specs.Hours.{AreHourCosts, AreHourLayers, AreHours, IsHourCost, hour_at};
 
 use crate::kept::LAST_SECOND;
+use crate::walks::Walks;
 use definitions::{MINUTES_PER_DAY, MINUTES_PER_HOUR};
 use minute_parts::{CALL_BEGIN, CALL_END, CALL_MARKER, CALL_MINUTE, hours_tell_time_and_date};
 use signal_base::Station;
@@ -28,17 +27,6 @@ pub struct Hours {
     pub rests: Vec<Part>,
     // A row of hours for each second in which a walk may begin.
     pub costs: Vec<u32>,
-}
-
-/// Hours whose costs are kept, one after the other, and whose walks lie in one run.
-#[derive(Clone, Copy)]
-pub struct HoursInRun {
-    /// Where the costs begin of what the time of day tells.
-    pub begin: usize,
-    /// How many hours these are.
-    pub count: usize,
-    /// What the date costs in each of them.
-    pub date: u32,
 }
 
 /// How many hours there are.
@@ -140,54 +128,40 @@ fn add_hour(
 }
 
 impl Hours {
-    /// What the unions cost over the walks from second `p` of the hours that are kept, from that which begins in the minute `lo`
-    /// on, as far as their walks lie in its run, and at most so many hours. None where not even the first is kept or lies in one
-    /// run.
-    pub fn in_run(
-        &self,
-        walks: &StationWalks,
-        announced: bool,
-        p: u8,
-        lo: u32,
-        most: usize,
-    ) -> Option<HoursInRun>
-        requires hours { AreHours walks.now self.now.begin self.now.call self.now.firsts.items self.now.rests.items self.now.costs.items }
-        requires second { p < SECONDS_PER_MINUTE }
-        requires some { 1 ≤ most }
-        requires few { most ≤ DAY_HOURS }
-        requires regular { AreRegular announced lo (lo + HOUR_MINUTES * most + later_minutes (length walks.now.grid.rows) p) walks.now.parts.end }
-        ensures { IfSome result (AreHoursInRun walks.now self.now.costs.items announced p lo most) }
+    /// What the unions cost over the walks of an hour, where it is kept and they lie in one run. None of other hours.
+    pub fn in_run(&self, walks: &Walks<'_>) -> Option<u32>
+        requires hours { AreHours walks.now.station.now self.now.begin self.now.call self.now.firsts.items self.now.rests.items self.now.costs.items }
+        requires hour { walks.now.hi ≡ walks.now.lo + HOUR_MINUTES }
+        ensures { IfSome result (IsHourCost walks.now.station.now walks.now.announced walks.now.second walks.now.lo) }
     {
         hours_tell_time_and_date();
-        let unions = walks.unions();
+        let station = walks.station;
+        let p = walks.second;
+        let unions = station.unions();
         let parts = unions.parts();
         // They are a table, as their end is one.
         parts.end();
-        let run = parts.run_of(lo);
+        let run = parts.run_of(walks.lo);
         let at = parts.run(run);
-        let left = parts.run_end(run) - lo;
-        let whole = left.saturating_sub(walks.later_minutes(p)) / MINUTES_PER_HOUR;
-        let u = lo % MINUTES_PER_DAY + at.shift as u32;
+        if walks.hi + station.later_minutes(p) > parts.run_end(run) {
+            return None;
+        }
+        let u = walks.lo % MINUTES_PER_DAY + at.shift as u32;
         if u % MINUTES_PER_HOUR != self.begin as u32 {
             return None;
         }
         let hour = (u % MINUTES_PER_DAY / MINUTES_PER_HOUR) as usize;
-        let kept = self.firsts.len().min(DAY_HOURS).saturating_sub(hour);
-        let count = most.min(whole as usize).min(kept);
-        if count == 0 {
+        if hour >= self.firsts.len() {
             return None;
         }
-        let columns = walks.columns();
-        let told = at.date_part(announced);
+        let columns = station.columns();
+        let told = at.date_part(walks.announced);
         if !leaves_nothing(columns.station(), &self.call, told) {
             return None;
         }
         bytes_of(told);
-        Some(HoursInRun {
-            begin: p as usize * DAY_HOURS + hour,
-            count,
-            date: walks.kept_date_cost(announced, p, run),
-        })
+        let date = station.kept_date_cost(walks.announced, p, run);
+        Some(self.costs[p as usize * DAY_HOURS + hour] + date)
     }
 }
 

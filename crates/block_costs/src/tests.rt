@@ -1,16 +1,12 @@
 //! Blocks of which four seconds are known, whose costs were worked out by hand, and how long such costs take.
 
-ghost use Rattle.std.specs.Prelude.{◌≡◌, ◌+◌, ◌<◌, ◌≤◌, ℕ, IfOk, false, length, slice_index};
+ghost use Rattle.std.specs.Prelude.{◌≡◌, ◌<◌, ◌≤◌, IfOk};
 ghost use Rattle.signal_base.specs.Limits.{IsPriced};
 ghost use Rattle.signal_base.specs.declared.limits.TheConstants.{MOST_COST};
-ghost use Rattle.slot_columns.specs.declared.limits.TheConstants.{SECONDS_PER_MINUTE};
-ghost use Rattle.minute_parts.specs.Unions.{AreRegular};
-ghost use Rattle.minute_parts.specs.Walks.{later_minutes};
-ghost use Rattle.minute_parts.specs.declared.hour_layers.TheConstants.{HOUR_MINUTES};
 
-use crate::{MinuteCosts, StationBlocks};
+use crate::{StationBlocks, Walks};
 use civil::Civil;
-use minute_parts::{HOUR_MINUTES, Parts, Unions};
+use minute_parts::{Parts, Unions};
 use pulse_log::read_log;
 use signal_base::{CostTable, Station, Tuning};
 use std::alloc::Global;
@@ -76,44 +72,33 @@ fn cost(blocks: &StationBlocks, p: u8, lo: u32, hi: u32) -> Option<u32> {
     if hi > end || end - hi < reach {
         return None;
     }
-    Some(blocks.union_cost(false, p, lo, hi))
+    let walks = Walks {
+        station: blocks.walks(),
+        announced: false,
+        second: p,
+        lo,
+        hi,
+    };
+    Some(blocks.union_cost(&walks))
 }
 
-// The cost of the sequence that begins in the minute `lo + i`, among those of the minutes before `hi`, and none where these
-// reach past the last minute that is encoded.
-fn minute_cost(blocks: &StationBlocks, p: u8, lo: u32, hi: u32, i: usize) -> Option<u32>
-    requires second { p < 60 }
-    requires order { lo ≤ hi }
-    requires few { hi ≤ lo + 60 }
-    requires entry { i < 60 }
+// The cost of the sequence that begins in the minute `t0`, and none where it reaches past the last minute that is encoded.
+fn minute_cost(blocks: &StationBlocks, p: u8, t0: u32) -> Option<u32>
+    requires { p < 60 }
 {
     let end = blocks.walks().parts().end();
     let reach = blocks.walks().later_minutes(p);
-    if hi > end || end - hi < reach {
+    if t0 >= end || end - t0 - 1 < reach {
         return None;
     }
-    Some(minute_costs(blocks, p, lo, hi)[i])
-}
-
-/// What is added to costs of 0.
-pub fn minute_costs(blocks: &StationBlocks, p: u8, lo: u32, hi: u32) -> MinuteCosts
-    requires second { p < SECONDS_PER_MINUTE }
-    requires order { lo ≤ hi }
-    requires few { hi ≤ lo + HOUR_MINUTES }
-    requires regular { AreRegular false lo (hi + later_minutes (length blocks.now.grid.rows) p) blocks.now.parts.end }
-{
-    let mut costs = no_costs();
-    let walks = blocks.walks();
-    // What a walk costs fits.
-    walks.columns();
-    blocks.add_minute_costs(false, p, lo, hi, &mut costs);
-    costs
-}
-
-fn no_costs() -> MinuteCosts
-    ensures { (i : ℕ) → i < HOUR_MINUTES → slice_index result i ≡ 0 }
-{
-    [0; HOUR_MINUTES]
+    let walks = Walks {
+        station: blocks.walks(),
+        announced: false,
+        second: p,
+        lo: t0,
+        hi: t0 + 1,
+    };
+    Some(walks.first_cost())
 }
 
 // 2024-06-10T06:46Z, a minute after JJY's call sign; the minutes 46 to 55 of the hour come then. That day, and that year.
@@ -149,39 +134,25 @@ fn unions_of_known_seconds(rt: HostRuntime) -> Result<(), Fail> {
 }
 
 // From second 1 on the minutes' tens tell, which change from 4 to 5 in minute 50, and to 0 after minute 59. From second 33 on
-// the local day's number does, of which the last bit changes at 15:00Z. What isn't asked for costs nothing.
+// the local day's number does, of which the last bit changes at 15:00Z.
 #[test]
 fn minutes_one_by_one(rt: HostRuntime) -> Result<(), Fail> {
     let blocks = StationBlocks::make(rt.alloc(), walks(rt.alloc(), 62)?)?;
-    assert_eq!(rt;
-        minute_cost(&blocks, 1, MINUTE, MINUTE + 15, 3),
-        Some(150 + 120 + 150 + 120)
-    );
-    assert_eq!(rt;
-        minute_cost(&blocks, 1, MINUTE, MINUTE + 15, 4),
-        Some(150 + 150 + 150 + 120)
-    );
-    assert_eq!(rt;
-        minute_cost(&blocks, 1, MINUTE, MINUTE + 15, 13),
-        Some(150 + 150 + 120 + 120)
-    );
-    assert_eq!(rt;
-        minute_cost(&blocks, 1, MINUTE, MINUTE + 15, 14),
-        Some(4 * 120)
-    );
-    assert_eq!(rt; minute_cost(&blocks, 1, MINUTE, MINUTE + 15, 15), Some(0));
-    assert_eq!(rt;
-        minute_cost(&blocks, 33, DAY + 898, DAY + 901, 0),
-        Some(4 * 120)
-    );
-    assert_eq!(rt;
-        minute_cost(&blocks, 33, DAY + 898, DAY + 901, 1),
-        Some(120 + 120 + 150 + 120)
-    );
-    assert_eq!(rt;
-        minute_cost(&blocks, 33, DAY + 898, DAY + 901, 2),
-        Some(150 + 120 + 150 + 120)
-    );
+    for (second, minute, expected) in [
+        (1, MINUTE + 3, 150 + 120 + 150 + 120),
+        (1, MINUTE + 4, 150 + 150 + 150 + 120),
+        (1, MINUTE + 13, 150 + 150 + 120 + 120),
+        (1, MINUTE + 14, 4 * 120),
+        (33, DAY + 898, 4 * 120),
+        (33, DAY + 899, 120 + 120 + 150 + 120),
+        (33, DAY + 900, 150 + 120 + 150 + 120),
+    ] {
+        assert_eq!(rt;
+            minute_cost(&blocks, second, minute),
+            Some(expected),
+            "second {second} of {minute}"
+        );
+    }
     Ok(())
 }
 
@@ -220,8 +191,8 @@ fn of_years(blocks: &StationBlocks) -> u32 {
 
 fn of_minutes(blocks: &StationBlocks) -> u32 {
     let mut all = 0;
-    for hour in 0..60_000u32 {
-        all ^= minute_cost(blocks, 17, hour * 60, hour * 60 + 60, 59).unwrap_or(0);
+    for minute in 0..360_000u32 {
+        all ^= minute_cost(blocks, 17, minute * 100).unwrap_or(0);
     }
     all
 }
@@ -238,7 +209,7 @@ fn times_of(rt: &HostRuntime, blocks: &StationBlocks) -> Result<u32, Fail> {
     tell(rt, "a year", begin, 10_000)?;
     let begin = Instant::now(rt)?;
     sum ^= of_minutes(blocks);
-    tell(rt, "the 60 minutes of an hour", begin, 60_000)?;
+    tell(rt, "a minute", begin, 360_000)?;
     Ok(sum)
 }
 

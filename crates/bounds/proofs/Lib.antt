@@ -1,5 +1,3 @@
 pub mod BlockLists
 pub mod RankLaws
 pub mod OneRanking
-pub mod MinuteLists
-mod HourLists

@@ -3,11 +3,9 @@
 #![tactic(auto)]
 
 mod fault;
-mod hours;
 mod keyed;
 mod laws;
 mod least;
-mod minutes;
 mod parts;
 mod ranking;
 mod rows;
@@ -17,11 +15,9 @@ mod years;
 
 pub use definitions::{Block, Span};
 pub use fault::ItemsFault;
-pub use hours::{BoundedHours, bounded_hours, day_costs};
 pub use keyed::block_key;
 pub use laws::ranking_is_one;
 pub use least::bound;
-pub use minutes::{BoundedMinutes, bounded_minutes, hour_costs};
 pub use parts::{ChildBlocks, children};
 pub use ranking::{announced_last, ranked};
 pub use rows::{Bounded, BoundedChildren, bounded_children};

@@ -22,8 +22,7 @@ pub struct Bounded {
 }
 
 /// The children of a block that are left, in order, which are given with their bounds. Contracts see what they see of the
-/// tables that bound them, and the list of them. The hours of a whole day cost less as `BoundedHours`, and the minutes of an hour
-/// as `BoundedMinutes`.
+/// tables that bound them, and the list of them.
 #[derive(Drop)]
 pub struct BoundedChildren<'a> {
     tables: &'a Tables<'a>,

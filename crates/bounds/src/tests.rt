@@ -4,10 +4,7 @@ ghost use Rattle.std.specs.Prelude.{◌≡◌, IfOk, length};
 ghost use Rattle.signal_base.specs.Limits.{IsPriced};
 ghost use Rattle.signal_base.specs.declared.station.Station.TheVariants.{Dcf77};
 
-use crate::{
-    Block, BoundedChildren, BoundedMinutes, Span, announced_last, bounded_children,
-    bounded_minutes, hour_costs, items, ranked,
-};
+use crate::{Block, BoundedChildren, Span, announced_last, bounded_children, items, ranked};
 use civil::Civil;
 use field_tables::Tables;
 use pulse_log::read_log;
@@ -137,16 +134,6 @@ fn assert_children(
 }
 
 // The same of the minutes of an hour.
-fn assert_minutes(rt: &impl Abort, mut row: BoundedMinutes, minutes: &[(u32, u32, Option<u32>)]) {
-    for (lo, hi, bound) in minutes {
-        let found = row
-            .next()
-            .map(|minute| (minute.block.lo, minute.block.hi, minute.bound));
-        assert_eq!(rt; found, Some((*lo, *hi, *bound)));
-    }
-    assert_eq!(rt; row.next(), None);
-}
-
 #[test]
 fn bounds_the_parts_of_the_last_minutes(rt: HostRuntime) -> Result<(), Fail> {
     let civil = Civil::make(rt.alloc())?;
@@ -176,32 +163,6 @@ fn bounds_the_parts_of_the_last_minutes(rt: HostRuntime) -> Result<(), Fail> {
     assert_children(
         &rt,
         bounded_children(&tables, &hour.block),
-        &[(FROM, FROM + 1, Some(0)), (FROM + 1, FROM + 2, None)],
-    );
-    Ok(())
-}
-
-#[test]
-fn bounds_the_minutes_of_the_last_hour_at_once(rt: HostRuntime) -> Result<(), Fail> {
-    let civil = Civil::make(rt.alloc())?;
-    let window = window_from(FROM);
-    let grids = [silent_grid(rt.alloc())?];
-    let tables = Tables::make(rt.alloc(), &grids, &civil, &window)?;
-    let list = items(rt.alloc(), &civil, &window)?;
-    let Some(year) = list.first() else {
-        panic!(rt; "no year");
-    };
-    let Some(day) = bounded_children(&tables, year).next() else {
-        panic!(rt; "no day");
-    };
-    let Some(hour) = bounded_children(&tables, &day.block).next() else {
-        panic!(rt; "no hour");
-    };
-    assert_eq!(rt; hour.block.span, Span::Hour);
-    let costs = hour_costs(&tables, &hour.block);
-    assert_minutes(
-        &rt,
-        bounded_minutes(&costs),
         &[(FROM, FROM + 1, Some(0)), (FROM + 1, FROM + 2, None)],
     );
     Ok(())

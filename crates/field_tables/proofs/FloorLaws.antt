@@ -12,7 +12,7 @@ use Rattle.plain_costs.specs.Agreement.{AgreeOn}
 use Rattle.plain_costs.proofs.AgreementLaws.{sequence_same}
 use Rattle.walk_costs.specs.Walks.{PricedParts}
 use Rattle.field_tables.specs.Floors.{CostAtLeast, IsFloor}
-use Rattle.field_tables.specs.Hours.{sequence_at}
+use Rattle.field_tables.specs.Minutes.{sequence_at}
 
 -- the lesser of the floors of two neighbouring pieces is one of both together
 pub joined : (w : PricedParts) (b : Block) (lo t hi n m least : ℕ) → least ≡ min n m → CostAtLeast w b lo t n → CostAtLeast w b t hi m

@@ -21,7 +21,7 @@ use Rattle.leap_unions.proofs.NominalLaws.{reached}
 use Rattle.minute_parts.specs.Walks.{later_minutes}
 use Rattle.walk_costs.specs.Walks.{PricedParts, ShowsAnnouncement, cost_of}
 use Rattle.block_costs.specs.Blocks.{unions_cost}
-use Rattle.field_tables.specs.Hours.{no_walks}
+use Rattle.field_tables.specs.Minutes.{no_walks}
 use Rattle.field_tables.specs.Leaps.{IsLeapCost}
 use Rattle.field_tables.specs.Sums.{AreSums, Sums}
 use Rattle.field_tables.proofs.BlockLaws.{ends_no_later}

@@ -4,7 +4,6 @@ pub mod SumLaws
 pub mod BlockLaws
 pub mod UnionBoundLaws
 pub mod MinuteLaws
-pub mod DayLaws
-pub mod RowLaws
+pub mod LegalLaws
 pub mod LeapLaws
 pub mod FloorLaws

@@ -1,7 +1,6 @@
 -- The sequences of a block whose walks have 60 seconds in each minute: which are legal.
 use Rattle.std.proofs.Common.{◌≡◌, ◌≢◌, ℕ, ◌+◌, ◌-◌, ◌/◌, ◌<◌, ◌≤◌, ◌↔◌, if◌then◌else◌, inl, inr, refl, Bool, true, false, length, get_or, sym, ap, ◌∙◌, subst, arith}
 use Rattle.std.proofs.Math.ListN.{get_or-map}
-use Rattle.std.proofs.Math.Nat.{min-eq_left}
 use Rattle.std.proofs.lemmas.List.{get_or_default, length-map}
 use Rattle.signal_base.specs.declared.station.Station.{Station}
 use Rattle.signal_base.specs.declared.window.Window.{Window}
@@ -19,7 +18,7 @@ use Rattle.walk_costs.specs.Walks.{PricedParts, ShowsAnnouncement}
 use Rattle.walk_costs.proofs.PlaceLaws.{nominal}
 use Rattle.plain_costs.proofs.GridLaws.{place}
 use Rattle.field_tables.specs.Blocks.{AreMinutesOf, HasShortWalks}
-use Rattle.field_tables.specs.Hours.{minute_at, no_walks, sequence_at}
+use Rattle.field_tables.specs.Minutes.{no_walks, sequence_at}
 use Rattle.field_tables.specs.Sums.{AreSums, Sums, grids_of}
 use Rattle.field_tables.proofs.BlockLaws.{ends_no_later}
 use Rattle.field_tables.proofs.SumLaws.{heard, slots}
@@ -28,6 +27,11 @@ use Rattle.field_tables.proofs.SumLaws.{heard, slots}
 pub regular_walks : (sums : Sums) (b : Block) → HasShortWalks sums.window b → b.hi + reach sums.window b ≤ sums.end
     → AreRegular b.announced b.lo (b.hi + reach sums.window b) sums.end
 regular_walks sums b short ends = record { early = ends; short = short.short }
+
+-- and so are those of the block's first walk
+pub first_regular : (sums : Sums) (b : Block) → b.lo < b.hi → HasShortWalks sums.window b → b.hi + reach sums.window b ≤ sums.end
+    → AreRegular b.announced b.lo (b.lo + 1 + reach sums.window b) sums.end
+first_regular sums b some short ends = record { early = omega (arith, some, ends); short = λ t from to. short.short t from (omega (arith, to, some)) }
 
 -- a sequence that is walkable with the announcement and without is legal where it shows that
 pub legal_by_showing : (window : Window) (q : Sequence) → q.announced ≡ true → q.second < 60 → IsWalkable window q → IsWalkable window (unannounced q)
@@ -104,18 +108,6 @@ minutes_of window b block = record {
   no_later = (ends_no_later b.hi (span_end b.span b.lo) window.to block.ends).1;
 }
 
--- the minutes of a block are blocks of its window
-pub minute_is_block : (window : Window) (b : Block) (i : ℕ) → IsBlock window b → b.lo + i < b.hi → IsBlock window (minute_at b i)
-minute_is_block window b i block less =
-    let within = ends_no_later b.hi (span_end b.span b.lo) window.to block.ends in
-    let le : b.lo + i + 1 ≤ window.to = omega (arith, less, within.1) in record {
-      second = block.second;
-      not_empty = omega arith;
-      not_before = omega (arith, block.not_before);
-      begins = λ t ge lt. omega (arith, lt);
-      ends = sym (min-eq_left le);
-    }
-
 -- and their sequences may be asked for
 pub is_sequence : (window : Window) (b : Block) → IsWindow window → IsBlock window b → IsSequence (first_of b)
 is_sequence window b is block =
@@ -125,10 +117,3 @@ is_sequence window b is block =
     by_announced : (a : Bool) → b.second < (if a then 61 else 60) → b.second ≤ 60
     by_announced true lt = omega (arith, lt)
     by_announced false lt = omega (arith, lt)
-
--- the walks of a stretch are regular, and so is each of them
-pub one_regular : (announced : Bool) (lo hi later end j : ℕ) → AreRegular announced lo (hi + later) end → lo + j < hi → AreRegular announced (lo + j) (lo + j + 1 + later) end
-one_regular announced lo hi later end j are within = record {
-  early = omega (arith, are.early, within);
-  short = λ t ge less. are.short t (omega (arith, ge)) (omega (arith, less, within));
-}

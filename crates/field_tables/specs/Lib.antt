@@ -3,7 +3,6 @@ pub mod Agreement
 pub mod Scored
 pub mod Sums
 pub mod Blocks
-pub mod Hours
-pub mod Days
+pub mod Minutes
 pub mod Leaps
 pub mod Floors

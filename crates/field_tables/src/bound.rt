@@ -12,6 +12,7 @@ ghost use Rattle.field_tables.specs.Blocks.{AreUnionsOver, HasShortWalks};
 ghost use Rattle.field_tables.specs.Sums.{costs_by};
 
 use crate::sums::WindowSums;
+use block_costs::Walks;
 use civil::Civil;
 use definitions::Block;
 use leap_unions::Sets;
@@ -47,7 +48,14 @@ impl WindowSums {
         let mut total = 0;
         for station in &self.stations {
             let blocks = station.blocks();
-            total += blocks.union_cost(block.announced, block.second, block.lo, hi);
+            let all = Walks {
+                station: blocks.walks(),
+                announced: block.announced,
+                second: block.second,
+                lo: block.lo,
+                hi,
+            };
+            total += blocks.union_cost(&all);
         }
         total
     }

@@ -10,7 +10,7 @@ ghost use Rattle.definitions.specs.time.Calendar.{minute_length};
 ghost use Rattle.minute_parts.specs.Walks.{reach};
 ghost use Rattle.field_tables.specs.Blocks.{AreMinutesOf, HasShortWalks};
 ghost use Rattle.field_tables.specs.Floors.{IsFloor};
-ghost use Rattle.field_tables.specs.Hours.{sequence_at};
+ghost use Rattle.field_tables.specs.Minutes.{sequence_at};
 ghost use Rattle.field_tables.specs.Scored.{costs_of};
 ghost use Rattle.field_tables.specs.Sums.{costs_by};
 

@@ -4,10 +4,9 @@ ghost use Rattle.std.specs.Prelude.{◌≡◌, ◌+◌, ◌<◌, ◌≤◌, ℕ,
 ghost use Rattle.signal_base.specs.declared.limits.TheConstants.{GREATEST_COST};
 ghost use Rattle.definitions.specs.answers.Blocks.{IsBlock, IsMinuteBound};
 ghost use Rattle.definitions.specs.time.Calendar.{century_minutes, is_leap_end};
-ghost use Rattle.field_tables.specs.Hours.{bound_of};
 ghost use Rattle.field_tables.specs.Sums.{costs_by};
 
-use crate::minutes::entry;
+use crate::minute::bound_if;
 use crate::sums::WindowSums;
 use civil::Civil;
 use definitions::{Block, MINUTES_PER_DAY};
@@ -27,29 +26,13 @@ pub fn meets_leap_end(civil: &Civil, lo: u32, end: u32) -> bool
 }
 
 impl WindowSums {
-    /// A minute of the block, or its end: walks that begin before it should end before the last minute of the UTC day in which
-    /// the block begins. A guess for speed; callers check it.
-    pub fn early_until(&self, block: &Block) -> u32
-        requires order { block.now.lo < block.now.hi }
-        requires century { block.now.hi ≤ century_minutes }
-        ensures begun { block.now.lo ≤ result }
-        ensures ends { result ≤ block.now.hi }
-    {
-        if block.second as usize >= SECONDS_PER_MINUTE {
-            return block.lo;
-        }
-        let last = block.lo / MINUTES_PER_DAY * MINUTES_PER_DAY + (MINUTES_PER_DAY - 1);
-        let later = self.later_minutes(block.second);
-        block.hi.min(last.saturating_sub(later)).max(block.lo)
-    }
-
-    /// The entry of an announced minute whose walk may meet a leap second, where the stations know at once what it costs them:
+    /// The bound of an announced minute whose walk may meet a leap second, where the stations know at once what it costs them:
     /// the sequence is legal where it shows the announcement at some station.
-    pub fn leap_entry(&self, minute: &Block) -> Option<u32>
+    pub fn leap_minute_bound(&self, minute: &Block) -> Option<Option<u32>>
         requires block { IsBlock self.now.window minute.now }
         requires announced { minute.now.announced ≡ true }
-        ensures bound { IfSome result (λ entry. IsMinuteBound (costs_by self.now) self.now.window minute.now (bound_of entry)) }
-        ensures small { IfSome result (λ entry. IfSome (bound_of entry) (λ n. n ≤ GREATEST_COST)) }
+        ensures bound { IfSome result (IsMinuteBound (costs_by self.now) self.now.window minute.now) }
+        ensures small { IfSome result (λ bound. IfSome bound (λ n. n ≤ GREATEST_COST)) }
     {
         let p = minute.second;
         if p as usize >= SECONDS_PER_MINUTE {
@@ -68,6 +51,6 @@ impl WindowSums {
             cost += leap.cost;
             shows |= leap.shows;
         }
-        Some(entry(shows, cost))
+        Some(bound_if(shows, cost))
     }
 }

@@ -3,20 +3,14 @@
 #![tactic(auto)]
 
 mod bound;
-mod day;
 mod floor;
-mod hour;
-mod hours;
 mod leaps;
-mod minutes;
-mod shown;
+mod minute;
 mod station;
 mod station_floor;
 mod stations;
 mod sums;
 mod tables;
 
-pub use day::DayCosts;
-pub use hour::HourCosts;
 pub use plain_costs::{agreeing_costs_cost_alike, dut1, grids_agree_with_their_costs, plain_cost};
 pub use tables::{Tables, TablesFault};

@@ -1,29 +1,25 @@
 //! What one station of a window may send, and what that costs.
 
-ghost use Rattle.std.specs.Prelude.{ℕ, ◌≡◌, ◌+◌, ◌<◌, ◌≤◌, ◌⊎◌, ◌↔◌, ◌^◌, ◌&&◌, Bool, IfOk, IfSome, IsTrue, MatchOption, false, length, slice_index, slice_index_or, true};
+ghost use Rattle.std.specs.Prelude.{ℕ, ◌≡◌, ◌+◌, ◌<◌, ◌≤◌, ◌↔◌, ◌&&◌, Bool, IfOk, IfSome, MatchOption, false, length, slice_index, true};
 ghost use Rattle.signal_base.specs.declared.limits.TheConstants.{MOST_SECONDS};
 ghost use Rattle.definitions.specs.codes.Allowed.{CanBeEncoded, has_station};
 ghost use Rattle.definitions.specs.answers.Blocks.{HasWalk, IsBlock, IsUnion};
 ghost use Rattle.definitions.specs.heard.Dut1.{has_dut1};
 ghost use Rattle.definitions.specs.sequences.Windows.{IsWindow};
-ghost use Rattle.slot_columns.specs.Parts.{most_cost};
 ghost use Rattle.slot_columns.specs.declared.limits.TheConstants.{SECONDS_PER_MINUTE};
 ghost use Rattle.minute_parts.specs.Unions.{AreRegular};
 ghost use Rattle.minute_parts.specs.Walks.{later_minutes};
-ghost use Rattle.walk_costs.specs.Walks.{ShowsAnnouncement, cost_of};
-ghost use Rattle.field_tables.specs.Hours.{sequence_at};
+ghost use Rattle.walk_costs.specs.Walks.{ShowsAnnouncement};
+ghost use Rattle.field_tables.specs.Minutes.{sequence_at};
 ghost use Rattle.field_tables.specs.Leaps.{IsLeapCost};
 ghost use Rattle.field_tables.specs.Sums.{IsOf};
-ghost use Rattle.minute_parts.specs.declared.hour_layers.TheConstants.{HOUR_MINUTES};
 
 use crate::bound::cost_of_sets;
-use crate::minutes::Flags;
-use crate::shown::mark_stretch;
-use block_costs::{MinuteCosts, StationBlocks};
+use block_costs::StationBlocks;
 use civil::Civil;
 use definitions::Block;
 use leap_unions::{LeapUnions, Sets};
-use minute_parts::{HOUR_MINUTES, Parts, Unions};
+use minute_parts::{Parts, Unions};
 use signal_base::{Station, Window};
 use std::alloc::{AllocError, Global};
 use std::marker::Model;
@@ -85,41 +81,6 @@ impl StationSums {
         ensures { result.now ≡ self.now }
     {
         &self.blocks
-    }
-
-    /// Adds what the sequences of at most 60 minutes cost the station, whose walks have 60 seconds in each minute.
-    pub fn add_minute_costs(&self, block: &Block, costs: &mut MinuteCosts)
-        requires second { block.now.second < SECONDS_PER_MINUTE }
-        requires order { block.now.lo < block.now.hi }
-        requires few { block.now.hi ≤ block.now.lo + HOUR_MINUTES }
-        requires regular { AreRegular block.now.announced block.now.lo (block.now.hi + later_minutes (length self.now.grid.rows) block.now.second) self.now.parts.end }
-        requires room { (i : ℕ) → i < HOUR_MINUTES → slice_index costs.old i + most_cost self.now.grid < 2 ^ 32 }
-        ensures costs { (i : ℕ) → block.now.lo + i < block.now.hi
-            → slice_index costs.new i ≡ slice_index costs.old i + cost_of self.now block.now.announced block.now.second (block.now.lo + i) }
-        ensures small { (i : ℕ) → i < HOUR_MINUTES → slice_index costs.new i ≤ slice_index costs.old i + most_cost self.now.grid }
-    {
-        self.blocks
-            .add_minute_costs(block.announced, block.second, block.lo, block.hi, costs);
-    }
-
-    /// Adds the minutes in which an announced sequence shows the announcement at the station.
-    pub fn add_shown(&self, block: &Block, shown: &mut Flags)
-        requires announced { block.now.announced ≡ true }
-        requires second { block.now.second < SECONDS_PER_MINUTE }
-        requires order { block.now.lo < block.now.hi }
-        requires few { block.now.hi ≤ block.now.lo + HOUR_MINUTES }
-        requires regular { AreRegular true block.now.lo (block.now.hi + later_minutes (length self.now.grid.rows) block.now.second) self.now.parts.end }
-        ensures { (i : ℕ) → block.now.lo + i < block.now.hi
-            → slice_index_or shown.new i false ≡ true ↔ (slice_index_or shown.old i false ≡ true ⊎ ShowsAnnouncement self.now (sequence_at block.now (block.now.lo + i))) }
-    {
-        if self.never_shows(block) {
-            return;
-        }
-        let walks = self.walks();
-        let mut t = block.lo;
-        while t < block.hi {
-            t = mark_stretch(shown, walks, block.second, block.lo, t, block.hi);
-        }
     }
 
     /// Whether it is known of an announced block that none of its sequences shows the announcement at the station.

@@ -1,23 +1,17 @@
 //! What a search asks of a window's sequences and blocks.
 
-ghost use Rattle.std.specs.Prelude.{◌≡◌, ◌+◌, ◌<◌, ◌≤◌, ◌↔◌, IfOk, IfSome, IsTrue, MatchOption, true};
+ghost use Rattle.std.specs.Prelude.{◌≡◌, ◌<◌, ◌≤◌, ◌↔◌, IfOk, IfSome, IsTrue, MatchOption, true};
 ghost use Rattle.definitions.specs.codes.Allowed.{has_station};
 ghost use Rattle.definitions.specs.sequences.Walks.{IsLegal, IsSequence, IsWalkable};
 ghost use Rattle.definitions.specs.sequences.Windows.{IsWindow};
 ghost use Rattle.definitions.specs.heard.Costs.{sequence_cost, set_cost};
 ghost use Rattle.definitions.specs.answers.Blocks.{HasWalk, IsBlock, IsMinuteBound, IsUnion, IsUnionBound};
-ghost use Rattle.minute_parts.specs.declared.hour_layers.TheConstants.{HOUR_MINUTES};
 ghost use Rattle.field_tables.specs.Grids.{AreGrids};
-ghost use Rattle.field_tables.specs.Hours.{IsRowOf, bound_of, minute_at, up_to};
 ghost use Rattle.field_tables.specs.Scored.{costs_of};
 
-use crate::day::DayCosts;
-use crate::hour::HourCosts;
-use crate::minutes::{MinuteRow, bound_of, entry_of, none_legal};
 use crate::sums::WindowSums;
 use civil::Civil;
-use definitions::{Block, Sequence, Span};
-use minute_parts::HOUR_MINUTES;
+use definitions::{Block, Sequence};
 use plain_costs::{grid_of, has_walk, plain_cost, unions_of};
 use signal_base::{GREATEST_COST, Station, Window};
 use slot_columns::SECONDS_PER_MINUTE;
@@ -158,18 +152,16 @@ impl<'a> Tables<'a> {
 
     /// The bound of a minute of the window: what its sequence costs, at most 1,920,000,000. None exactly where that isn't legal.
     pub fn minute_bound(&self, minute: &Block) -> Option<u32>
-        requires block { IsBlock self.now.window minute.now }
-        requires few { minute.now.hi ≤ minute.now.lo + HOUR_MINUTES }
+        requires { IsBlock self.now.window minute.now }
         ensures bound { IsMinuteBound (costs_of self.now) self.now.window minute.now result }
         ensures small { IfSome result (λ n. n ≤ GREATEST_COST) }
     {
-        // Where a leap second is announced, whether the minute shows that is known from the date in most minutes.
-        if minute.announced && self.sums.has_regular_walks(self.civil, minute) {
-            return self.sums.minutes(minute).bound(0);
+        if self.sums.has_regular_walks(self.civil, minute) {
+            return self.sums.minute_bound(minute);
         }
         if minute.announced {
-            if let Some(entry) = self.sums.leap_entry(minute) {
-                return bound_of(entry);
+            if let Some(bound) = self.sums.leap_minute_bound(minute) {
+                return bound;
             }
         }
         let q = Sequence {
@@ -182,101 +174,5 @@ impl<'a> Tables<'a> {
         } else {
             None
         }
-    }
-
-    /// The bounds of the minutes of an hour, or of any other block of at most 60 minutes.
-    pub fn hour(&'a self, block: &Block) -> HourCosts<'a>
-        requires block { IsBlock self.now.window block.now }
-        requires few { block.now.hi ≤ block.now.lo + HOUR_MINUTES }
-        ensures tables { result.tables ≡ self.now }
-        ensures block { result.block ≡ block.now }
-    {
-        let _window = self.window();
-        HourCosts {
-            tables: self,
-            hour: *block,
-            row: self.row(block),
-        }
-    }
-
-    // The bounds of the minutes of a block, all at once where that can be.
-    fn row(&self, block: &Block) -> MinuteRow
-        requires block { IsBlock self.now.window block.now }
-        requires few { block.now.hi ≤ block.now.lo + HOUR_MINUTES }
-        ensures { IsRowOf (costs_of self.now) self.now.window block.now result }
-    {
-        if self.sums.has_regular_walks(self.civil, block) {
-            return self.sums.minutes(block);
-        }
-        // Of an hour in which walks reach a leap end most begin too early for it.
-        let cut = self.sums.early_until(block);
-        let early = up_to(block, cut);
-        if cut > block.lo && self.sums.has_regular_walks(self.civil, &early) {
-            return self.row_after(block, cut, &self.sums.minutes(&early));
-        }
-        self.row_after(block, block.lo, &none_legal())
-    }
-
-    // The bounds of the minutes of a block, where those of the minutes before `cut` are known: those of the others one by one.
-    fn row_after(&self, block: &Block, cut: u32, known: &MinuteRow) -> MinuteRow
-        requires block { IsBlock self.now.window block.now }
-        requires few { block.now.hi ≤ block.now.lo + HOUR_MINUTES }
-        requires begun { block.now.lo ≤ cut }
-        requires ends { cut ≤ block.now.hi }
-        requires known { IsRowOf (costs_of self.now) self.now.window (up_to block.now cut) known.now }
-        ensures { IsRowOf (costs_of self.now) self.now.window block.now result }
-    {
-        let mut entries = known.entries;
-        for i in (cut - block.lo) as usize..(block.hi - block.lo) as usize {
-            entries[i] = self.entry_at(block, i as u32);
-        }
-        MinuteRow { entries }
-    }
-
-    // The entry of the minute that comes `i` minutes after the block's first.
-    fn entry_at(&self, block: &Block, i: u32) -> u32
-        requires block { IsBlock self.now.window block.now }
-        requires within { block.now.lo + i < block.now.hi }
-        ensures bound { IsMinuteBound (costs_of self.now) self.now.window (minute_at block.now i) (bound_of result) }
-        ensures small { IfSome (bound_of result) (λ n. n ≤ GREATEST_COST) }
-    {
-        let lo = block.lo + i;
-        let minute = Block {
-            announced: block.announced,
-            second: block.second,
-            span: Span::Minute,
-            lo,
-            hi: lo + 1,
-        };
-        entry_of(self.minute_bound(&minute))
-    }
-
-    /// What the hours of a day cost at the least, where it is a whole UTC day whose walks have 60 seconds in each minute, and
-    /// each station can encode them. Of other days each hour is asked for by itself.
-    pub fn day(&'a self, block: &Block) -> Option<DayCosts<'a>>
-        requires { IsBlock self.now.window block.now }
-        ensures tables { IfSome result (λ day. day.tables ≡ self.now) }
-        ensures block { IfSome result (λ day. day.block ≡ block.now) }
-    {
-        let row = self.sums.hours(self.civil, block)?;
-        Some(DayCosts {
-            grids: self.grids,
-            sums: &self.sums,
-            day: *block,
-            row,
-        })
-    }
-}
-
-// The minutes of a block before one of them.
-fn up_to(block: &Block, cut: u32) -> Block
-    ensures { result ≡ up_to block.now cut }
-{
-    Block {
-        announced: block.announced,
-        second: block.second,
-        span: block.span,
-        lo: block.lo,
-        hi: cut,
     }
 }

@@ -1,7 +1,8 @@
 //! The quick answers of a search compared with the plain ones, over windows and blocks by chance.
 
-ghost use Rattle.std.specs.Prelude.{◌<◌, ◌≤◌, ◌*◌, length};
+ghost use Rattle.std.specs.Prelude.{◌≡◌, ◌<◌, ◌≤◌, ◌*◌, length};
 ghost use Rattle.definitions.specs.answers.Blocks.{IsBlock};
+ghost use Rattle.definitions.specs.declared.block.Span.TheVariants.{Day};
 ghost use Rattle.definitions.specs.sequences.Walks.{IsSequence};
 ghost use Rattle.definitions.specs.time.Calendar.{century_minutes};
 ghost use Rattle.formats.specs.OrderRanges.{IsAsked};
@@ -10,11 +11,11 @@ ghost use Rattle.search_bench.specs.declared.compare.TheConstants.{LONG_REACH};
 
 use crate::case::Case;
 use crate::chance::Chance;
-use crate::draw::{draw_block, draw_item, draw_sequence, draw_slot};
+use crate::draw::{draw_block, draw_day, draw_item, draw_sequence, draw_slot};
 use crate::fault::Fault;
 use crate::noise::noisy_bank;
 use crate::places::{PLACES, Place, minute_at};
-use crate::plain::{plain_bound, plain_union};
+use crate::plain::{least_cost, plain_bound, plain_union};
 use crate::tally::Tally;
 use bank::{grids_of, window_of};
 use bounds::{Bounded, bound, items};
@@ -55,6 +56,11 @@ const SHORTEST_YEAR: u32 = 365 * MINUTES_PER_DAY;
 const DRAWS: u32 = 1000;
 
 const MOST_SLOTS: u64 = 2_000_000;
+
+// So many days are drawn for a window, as far as they have no more slots together than so many.
+const DAYS: u32 = 300;
+
+const MOST_DAY_SLOTS: u64 = 3_000_000;
 
 // So many sequences are drawn for a window.
 const SEQUENCES: u32 = 200;
@@ -208,6 +214,7 @@ fn compare_window(
         return compare_year(alloc, &case, chance, tally);
     }
     compare_blocks(alloc, &case, chance, tally)?;
+    compare_floors(alloc, &case, tally)?;
     for _ in 0..SEQUENCES {
         let q = draw_sequence(&case.window, chance);
         compare_sequence(&case, &q, tally)?;
@@ -236,6 +243,53 @@ fn compare_blocks(
         }
     }
     Ok(())
+}
+
+// Compares the floors of days. They are drawn by numbers of their own, so that what else is compared doesn't depend on them.
+fn compare_floors(alloc: Global, case: &Case, tally: &mut Tally) -> Result<(), Fault> {
+    let list = items(alloc, case.civil, &case.window)?;
+    let mut chance = Chance::new(case.window.from as u64);
+    let mut slots_left = MOST_DAY_SLOTS;
+    for _ in 0..DAYS {
+        let Some(day) = draw_day(case.tables, &list, &mut chance) else {
+            return Ok(());
+        };
+        let slots = slots_of(case, &day);
+        if slots <= slots_left {
+            slots_left -= slots;
+            compare_floor(case, &day, tally)?;
+        }
+    }
+    Ok(())
+}
+
+// Compares the floor of a day with what its legal sequences cost at the least.
+fn compare_floor(case: &Case, day: &Block, tally: &mut Tally) -> Result<(), Fault>
+    requires block { IsBlock case.now.window day.now }
+    requires day { day.now.span ≡ Day }
+{
+    let floor = case.tables.floor(day);
+    let least = least_cost(case, day);
+    tally.count_floor(floor, least);
+    if is_above(floor, least) {
+        return Err(Fault::Floors {
+            day: *day,
+            floor,
+            least,
+        });
+    }
+    Ok(())
+}
+
+// Whether a floor is above the least cost. None is above each cost.
+fn is_above(floor: Option<u32>, least: Option<u32>) -> bool {
+    let Some(least) = least else {
+        return false;
+    };
+    match floor {
+        Some(floor) => floor > least,
+        None => true,
+    }
 }
 
 // Compares the bound of one whole year, for some first second.

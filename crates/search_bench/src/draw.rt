@@ -3,17 +3,13 @@
 ghost use Rattle.std.specs.Prelude.{◌≡◌, ◌<◌, ◌≤◌, IfSome, length};
 ghost use Rattle.std.specs.List.{AllByRecursion};
 ghost use Rattle.definitions.specs.answers.Blocks.{IsBlock};
-ghost use Rattle.definitions.specs.declared.block.Span.TheVariants.{Day, Hour};
 ghost use Rattle.definitions.specs.sequences.Walks.{IsSequence};
 ghost use Rattle.definitions.specs.sequences.Windows.{IsWindow};
 
 use crate::chance::Chance;
-use bounds::{
-    Bounded, bound, bounded_children, bounded_hours, bounded_minutes, children, day_costs,
-    hour_costs,
-};
+use bounds::{Bounded, bound, bounded_children, children};
 use definitions::{Block, CENTURY_MINUTES, Sequence, Span};
-use field_tables::{DayCosts, Tables};
+use field_tables::Tables;
 use signal_base::Window;
 
 // From a year it is so many steps to a minute.
@@ -42,6 +38,21 @@ pub fn draw_item(tables: &Tables, items: &[Block], chance: &mut Chance) -> Optio
 {
     let item = &items[draw_number(items, chance)?];
     Some(descendant(tables, item, 0, chance))
+}
+
+/// A day of one of the items by chance.
+pub fn draw_day(tables: &Tables, items: &[Block], chance: &mut Chance) -> Option<Block>
+    requires { AllByRecursion (IsBlock tables.now.window) items.now }
+    ensures block { IfSome result (λ day. IsBlock tables.now.window day) }
+    ensures day { IfSome result (λ day. day.span ≡ Day) }
+{
+    let item = &items[draw_number(items, chance)?];
+    let day = draw_child(tables, item, chance)?.block;
+    if day.span == Span::Day {
+        Some(day)
+    } else {
+        None
+    }
 }
 
 // The number of one of the blocks, if there are some.
@@ -98,40 +109,7 @@ fn nth_child(tables: &Tables, block: &Block, number: u32) -> Option<Bounded>
     requires { IsBlock tables.now.window block.now }
     ensures { IfSome result (λ child. IsBlock tables.now.window child.block) }
 {
-    if block.span == Span::Hour {
-        return nth_minute(tables, block, number);
-    }
-    if let Some(costs) = day_costs(tables, block) {
-        return nth_hour(tables, &costs, number);
-    }
     let mut row = bounded_children(tables, block);
-    for _ in 0..number {
-        let _passed = row.next()?;
-    }
-    row.next()
-}
-
-// The same of a day whose hours are bounded at once, with the bound that its row gives.
-fn nth_hour(tables: &Tables, costs: &DayCosts<'_>, number: u32) -> Option<Bounded>
-    requires tables { costs.now.tables ≡ tables.now }
-    requires day { costs.now.block.span ≡ Day }
-    ensures { IfSome result (λ hour. IsBlock tables.now.window hour.block) }
-{
-    let mut row = bounded_hours(costs);
-    for _ in 0..number {
-        let _passed = row.next()?;
-    }
-    row.next()
-}
-
-// The same of an hour, with the bound that its row gives.
-fn nth_minute(tables: &Tables, hour: &Block, number: u32) -> Option<Bounded>
-    requires block { IsBlock tables.now.window hour.now }
-    requires hour { hour.now.span ≡ Hour }
-    ensures { IfSome result (λ minute. IsBlock tables.now.window minute.block) }
-{
-    let costs = hour_costs(tables, hour);
-    let mut row = bounded_minutes(&costs);
     for _ in 0..number {
         let _passed = row.next()?;
     }

@@ -43,6 +43,15 @@ pub enum Fault {
         /// The union by a walk to the slot of each of its sequences.
         plain: Option<u8>,
     },
+    /// The floor of a day is above a legal sequence of it.
+    Floors {
+        /// The day.
+        day: Block,
+        /// The floor.
+        floor: Option<u32>,
+        /// What the cheapest of its legal sequences costs, by a walk for each.
+        least: Option<u32>,
+    },
     /// A sequence is legal by one way and not by the other, or costs another sum.
     Sequences(Sequence),
     /// Two searches of the same window found other keys.
@@ -75,6 +84,10 @@ impl fmt::Display for Fault {
             } => write!(
                 f,
                 "unions differ in slot {slot}: {quick:?}, {plain:?} plainly, of {block:?}"
+            ),
+            Fault::Floors { day, floor, least } => write!(
+                f,
+                "a floor too high: {floor:?}, {least:?} plainly, of {day:?}"
             ),
             Fault::Sequences(sequence) => write!(f, "legality or costs differ: {sequence:?}"),
             Fault::Searches => f.write_str("searches of one window found different keys"),

@@ -2,7 +2,7 @@
 //!
 //! | Words | What it does |
 //! |---|---|
-//! | `compare [SEED]` | compares the bounds of blocks, and the legality and costs of sequences, over windows of noise |
+//! | `compare [SEED]` | compares the bounds of blocks, floors of days, and the legality and costs of sequences, over windows of noise |
 //! | `costs STATION` | works out ten million costs of an empty log |
 //! | `measure SECONDS FROM TO STATION=LOG..` | counts and times what a search of the logs visits |
 #![tactic(auto)]

@@ -34,6 +34,21 @@ fn minute_bound(case: &Case, block: &Block) -> Option<u32>
     Some(plain_cost(case.grids, case.civil, &case.window, &q))
 }
 
+/// What the legal sequence of a block costs that costs least, by walks. None where none is legal.
+pub fn least_cost(case: &Case, block: &Block) -> Option<u32>
+    requires { IsBlock case.now.window block.now }
+{
+    let mut least = None;
+    for first in block.lo..block.hi {
+        let q = sequence_from(block, first);
+        if legal(case.civil, &case.window, &q) {
+            let cost = plain_cost(case.grids, case.civil, &case.window, &q);
+            least = Some(cost.min(least.unwrap_or(cost)));
+        }
+    }
+    least
+}
+
 /// The union of the sets that the block's walkable sequences allow the station in a slot of the window, by walks. None where
 /// none of them is walkable.
 pub fn plain_union(case: &Case, station: Station, block: &Block, slot: u16) -> Option<u8>

@@ -19,6 +19,11 @@ pub struct Tally {
     sequences: u32,
     walkable: u32,
     legal: u32,
+    floors: u32,
+    exact_floors: u32,
+    zero_floors: u32,
+    days_not_legal: u32,
+    days_without_floor: u32,
 }
 
 impl Tally {
@@ -38,6 +43,11 @@ impl Tally {
             sequences: 0,
             walkable: 0,
             legal: 0,
+            floors: 0,
+            exact_floors: 0,
+            zero_floors: 0,
+            days_not_legal: 0,
+            days_without_floor: 0,
         }
     }
 
@@ -71,6 +81,15 @@ impl Tally {
         count_if(&mut self.walkable, is_walkable);
         count_if(&mut self.legal, is_legal);
     }
+
+    /// Counts the floor of a day with the least cost of its legal sequences.
+    pub fn count_floor(&mut self, floor: Option<u32>, least: Option<u32>) {
+        count_if(&mut self.floors, true);
+        count_if(&mut self.days_without_floor, floor.is_none());
+        count_if(&mut self.days_not_legal, least.is_none());
+        count_if(&mut self.exact_floors, least.is_some() && floor == least);
+        count_if(&mut self.zero_floors, least.is_some() && floor == Some(0));
+    }
 }
 
 // The second that is inserted.
@@ -101,6 +120,11 @@ impl fmt::Display for Tally {
             sequences,
             walkable,
             legal,
+            floors,
+            exact_floors,
+            zero_floors,
+            days_not_legal,
+            days_without_floor,
         } = *self;
         write!(f, "{windows} windows")?;
         write!(
@@ -115,6 +139,10 @@ impl fmt::Display for Tally {
         write!(
             f,
             "; {sequences} sequences, {walkable} walkable, {legal} legal"
+        )?;
+        write!(
+            f,
+            "; {floors} floors, {exact_floors} exact, {zero_floors} of 0; of {days_not_legal} days without a legal sequence {days_without_floor} told"
         )
     }
 }

@@ -10,8 +10,6 @@ pub mod WalkLaws
 pub mod DateLaws
 pub mod ShownLaws
 pub mod AnnouncedLaws
-pub mod StretchLaws
-pub mod MarkLaws
 pub mod CrossingLaws
 pub mod PairLaws
 pub mod ScoredLaws

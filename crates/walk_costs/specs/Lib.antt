@@ -1,6 +1,5 @@
 pub mod Dates
 pub mod Shown
 pub mod Walks
-pub mod Stretches
 pub mod Crossings
 pub mod Leasts

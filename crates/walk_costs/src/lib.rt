@@ -10,17 +10,13 @@ mod dut;
 mod kept;
 mod least_across;
 mod least_in;
-mod marks;
 mod set_costs;
 mod shown;
-mod stretch;
 #[cfg(test)]
 mod tests;
 mod walks;
 
 pub use crossing::Crossing;
 pub use date::{ByCall, ByMinute, DateCost};
-pub use marks::Flags;
 pub use shown::Shown;
-pub use stretch::{MinuteCosts, STRETCH};
 pub use walks::StationWalks;

@@ -1,14 +1,12 @@
 //! Walks of which four seconds are known, whose costs were worked out by hand.
 
-ghost use Rattle.std.specs.Prelude.{◌≡◌, ◌+◌, ◌<◌, ◌≤◌, ℕ, IfOk, false, slice_index};
+ghost use Rattle.std.specs.Prelude.{◌≡◌, ◌≤◌, IfOk, false};
 ghost use Rattle.signal_base.specs.Limits.{IsPriced};
 ghost use Rattle.signal_base.specs.declared.limits.TheConstants.{MOST_COST};
-ghost use Rattle.definitions.specs.time.Calendar.{century_minutes};
 ghost use Rattle.walk_costs.specs.Walks.{IsRegularIn};
-ghost use Rattle.walk_costs.specs.declared.stretch.TheConstants.{STRETCH};
 
+use crate::StationWalks;
 use crate::walks::meets_leap_end;
-use crate::{MinuteCosts, STRETCH, StationWalks};
 use civil::Civil;
 use definitions::CENTURY_MINUTES;
 use minute_parts::{Parts, Unions};
@@ -236,59 +234,6 @@ fn hours_before_the_warning_never_show_it(rt: HostRuntime) -> Result<(), Fail> {
     assert!(rt; !walks.never_shows(WARNED - 60, WARNED));
     assert!(rt; !walks.never_shows(WARNED, WARNED));
     Ok(())
-}
-
-// The minutes before, of and after JJY's call sign, and of MSF the last one of a day and the first two of the next: in the
-// walk of the last one DUT1 is told in two days.
-#[test]
-fn minutes_of_a_stretch_cost_what_each_does(rt: HostRuntime) -> Result<(), Fail> {
-    let civil = Civil::make(rt.alloc())?;
-    let jjy = walks(rt.alloc(), &civil, Station::Jjy, &table(20, 10))?;
-    let costs = stretch(&jjy, &civil, 40, CALL - 1);
-    assert_eq!(rt; costs, Some([2 * 120, 2 * 120, 4 * 120]));
-
-    let msf = walks(rt.alloc(), &civil, Station::Msf, &table(10, 20))?;
-    let costs = stretch(&msf, &civil, 8, 12_637_439);
-    assert_eq!(rt;
-        costs,
-        Some([4 * 180, 2 * 180 + 2 * 190, 2 * 180 + 2 * 190])
-    );
-    Ok(())
-}
-
-// The costs of three minutes on end, where their walks lie in one run.
-fn stretch(walks: &StationWalks, civil: &Civil, p: u8, lo: u32) -> Option<[u32; 3]> {
-    if lo >= CENTURY_MINUTES {
-        return None;
-    }
-    let first = walks.run_of_walk(civil, false, p, lo);
-    let last = walks.run_of_walk(civil, false, p, lo + 2);
-    match (first, last) {
-        (Some(run), Some(same)) if run == same => {
-            let costs = costs_in_run(walks, p, lo, run);
-            Some([costs[0], costs[1], costs[2]])
-        }
-        _ => None,
-    }
-}
-
-fn costs_in_run(walks: &StationWalks, p: u8, lo: u32, run: usize) -> MinuteCosts
-    requires minute { lo < century_minutes }
-    requires first { IsRegularIn walks.now false p lo run }
-    requires last { IsRegularIn walks.now false p (lo + 2) run }
-{
-    // What a walk costs fits.
-    walks.columns();
-    let date = walks.date_cost(false, p, run);
-    let mut costs = no_costs();
-    walks.add_costs_in_run(&date, lo, lo, lo + 3, &mut costs);
-    costs
-}
-
-fn no_costs() -> MinuteCosts
-    ensures { (i : ℕ) → i < STRETCH → slice_index result i ≡ 0 }
-{
-    [0; STRETCH]
 }
 
 // Of DCF77 nothing is given up and nothing added. Of JJY the known slots from second 40 on are the seconds 40 and 42 of one

@@ -1,7 +1,7 @@
 //! Visits of blocks, down to the minutes.
 
 ghost use Rattle.std.specs.Prelude.{◌≡◌, ◌≢◌, ◌<◌, ◌≤◌, IfNone, IfOk, IfSome, OnOk, OnErr};
-ghost use Rattle.definitions.specs.declared.block.Span.TheVariants.{Day, Hour, Minute};
+ghost use Rattle.definitions.specs.declared.block.Span.TheVariants.{Hour, Minute};
 ghost use Rattle.std.specs.Option.{ForSome};
 ghost use Rattle.definitions.specs.sequences.Windows.{IsWindow};
 ghost use Rattle.definitions.specs.answers.Blocks.{IsBlock, IsBound, children};
@@ -14,12 +14,9 @@ ghost use Rattle.workers.specs.Visits.{limit_at};
 ghost use Rattle.workers.specs.Steps.{HasOpened, HasStopped, HasWalked, HaveStopped, HaveWalked};
 
 use crate::recorder::Recorder;
-use bounds::{
-    Bounded, block_key, bound, bounded_children, bounded_hours, bounded_minutes, day_costs,
-    hour_costs,
-};
+use bounds::{Bounded, block_key, bound, bounded_children};
 use definitions::{Block, Span, children_share_the_sequences};
-use field_tables::{DayCosts, Tables};
+use field_tables::Tables;
 use race_words::{Race, Seat};
 use sequence::ceiling_key;
 
@@ -82,9 +79,6 @@ impl Visitor<'_> {
         if block.span == Span::Hour {
             return self.visit_minutes(seat, block, recorder);
         }
-        if let Some(costs) = day_costs(self.tables, block) {
-            return self.visit_hours(seat, block, &costs, recorder);
-        }
         children_share_the_sequences();
         let mut children = bounded_children(self.tables, block);
         // What doesn't change is the loop's own, so that it may stay in registers: after each read of the race's limit
@@ -101,39 +95,7 @@ impl Visitor<'_> {
         Ok(())
     }
 
-    // Visits the hours of a day, one after the other, whose costs are known.
-    fn visit_hours<K: Recorder>(
-        &self,
-        seat: &mut Seat,
-        day: &Block,
-        costs: &DayCosts<'_>,
-        recorder: &mut K,
-    ) -> Result<(), K::Fault>
-        requires race { seat.old.race ≡ self.now.race.now.id }
-        requires day { day.now.span ≡ Day }
-        requires costs { costs.now.block ≡ day.now }
-        requires tables { costs.now.tables ≡ self.now.tables.now }
-        ensures race { seat.new.race ≡ seat.old.race }
-        ensures walked { let t = self.now.tables.now in
-            OnOk result (HaveWalked K.told (costs_of t) t.window self.now.ceiling (children day.now) seat.old.view seat.new.view recorder.old recorder.new) }
-        ensures stopped { let t = self.now.tables.now in
-            OnErr result (HaveStopped K.told K.fails (costs_of t) t.window self.now.ceiling (children day.now) seat.old.view seat.new.view recorder.old recorder.new) }
-    {
-        let mut hours = bounded_hours(costs);
-        // As in `visit_children`.
-        let visitor = *self;
-        while let Some(hour) = hours.next() {
-            let opened = visitor.come_to(seat, &hour, recorder)?;
-            let Some(_key) = opened else {
-                continue;
-            };
-            let copy = hour.block;
-            self.visit_minutes(seat, &copy, recorder)?;
-        }
-        Ok(())
-    }
-
-    // Visits the minutes of an hour, one after the other. Over noise these are nearly all visits of a search.
+    // Visits the minutes of an hour, one after the other.
     fn visit_minutes<K: Recorder>(
         &self,
         seat: &mut Seat,
@@ -149,8 +111,8 @@ impl Visitor<'_> {
         ensures stopped { let t = self.now.tables.now in
             OnErr result (HaveStopped K.told K.fails (costs_of t) t.window self.now.ceiling (children hour.now) seat.old.view seat.new.view recorder.old recorder.new) }
     {
-        let costs = hour_costs(self.tables, hour);
-        let mut minutes = bounded_minutes(&costs);
+        children_share_the_sequences();
+        let mut minutes = bounded_children(self.tables, hour);
         // As in `visit_children`.
         let visitor = *self;
         while let Some(minute) = minutes.next() {

@@ -1,9 +1,12 @@
-use Rattle.std.proofs.Common.{◌+◌, ◌≡◌, false, length, subst, arith}
+use Rattle.std.proofs.Common.{◌+◌, ◌≡◌, false, length, sym, subst, arith}
 use Rattle.block_costs.specs.Blocks.{AreUnionsOfWalks}
 use Rattle.block_costs.proofs.blocks.StationBlocks.unannounced_cost.Goals as goal
 
-pub returns-then-hi-lo-clause-cost : goal.returns-then-hi-lo-clause-cost
-returns-then-hi-lo-clause-cost c = λ sets unions.
+pub returns-then-walks-clause-cost : goal.returns-then-walks-clause-cost
+returns-then-walks-clause-cost c = λ sets unions.
     let w = c.args.self.now in
-    let end : c.args.hi ≡ c.args.lo + 60 = omega (arith, c.if-hi-lo.true, c.requires.some) in
-    c.hour_cost.ensures.cost_is sets (subst (λ e. AreUnionsOfWalks w.grid.station false c.args.p c.args.lo e (length w.grid.rows) sets) end unions)
+    let b = c.args.walks.now in
+    let end : b.hi ≡ b.lo + 60 = omega (arith, c.if-walks.true, b.some) in
+    c.hour_cost.ensures.cost_is sets
+    (subst (λ a. AreUnionsOfWalks w.grid.station a b.second b.lo (b.lo + 60) (length w.grid.rows) sets) (sym c.requires.unannounced)
+    (subst (λ e. AreUnionsOfWalks w.grid.station false b.second b.lo e (length w.grid.rows) sets) end unions))

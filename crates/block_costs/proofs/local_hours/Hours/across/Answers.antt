@@ -16,11 +16,12 @@ use Rattle.block_costs.proofs.local_hours.Hours.across.Goals as goal
 
 pub returns : goal.returns
 returns c =
-    let w = c.args.walks.now in
+    let walks = c.args.walks.now in
+    let w = walks.station.now in
     let h = c.args.self.now in
-    let a = c.args.announced in
-    let p = c.args.p in
-    let lo = c.args.lo in
+    let a = walks.announced in
+    let p = walks.second in
+    let lo = walks.lo in
     let i = c.run_of-run.result in
     let run = run_at w.parts.runs i in
     let next = run_at w.parts.runs (i + 1) in
@@ -45,7 +46,7 @@ returns c =
     let within : hour < length h.firsts.items = omega (arith, c.if-hour-len.false, c.len.ensures) in
     let in_day : hour < 24 = omega (arith, minute) in
     let reach = later_minutes (length w.grid.rows) 59 in
-    let reached : later_minutes (length w.grid.rows) p ≤ reach = omega (arith, c.requires.second) in
+    let reached : later_minutes (length w.grid.rows) p ≤ reach = omega (arith, walks.in_a_minute) in
     let first = part_at h.firsts.items hour in
     let rest = part_at h.rests.items hour in
     let both = c.either-both.result in
@@ -57,12 +58,13 @@ returns c =
     let alone = λ (s : ℕ) (lt : s < 60). subst (λ (d : List ℕ). get_or d s 0 < 256) before_is (c.bytes_of.ensures s lt) in
     let dates_are : dates ≡ (if nat_lt (end_of_run w.parts.runs w.parts.end i) (lo + 60) then both else part_where a run) =
     c.either_of-first.ensures
+    ∙ ap (λ n. if nat_lt c.run_end-end.result n then both else c.date_part-before.result.now) c.requires.hour
     ∙ ap (λ (d : List ℕ). if nat_lt c.run_end-end.result (lo + 60) then both else d) before_is
     ∙ ap (λ n. if nat_lt n (lo + 60) then both else part_where a run) end in
-    let place : p * 24 + hour < length h.costs.items = omega (arith, in_day, c.requires.second, c.requires.hours.priced.count) in
+    let place : p * 24 + hour < length h.costs.items = omega (arith, in_day, walks.in_a_minute, c.requires.hours.priced.count) in
     let priced : c.index.result.now ≡ layered_cost w.grid.station (cost_at w.grid.rows) (length w.grid.rows) p first rest =
     c.index.ensures ∙ get_or_default h.costs.items (p * 24 + hour) c.index.result.now 0 place
-    ∙ c.requires.hours.priced.each p hour c.requires.second in_day
+    ∙ c.requires.hours.priced.each p hour walks.in_a_minute in_day
     ∙ ap (λ (b : Bool). if b then layered_cost w.grid.station (cost_at w.grid.rows) (length w.grid.rows) p first rest else 0) (lt-ltb hour (length h.firsts.items) within) in
     let dated : c.layered_cost-dates.result ≡ layered_cost w.grid.station (cost_at w.grid.rows) (length w.grid.rows) p dates both =
     subst (λ (g : Grid). c.layered_cost-dates.result ≡ layered_cost g.station (cost_at g.rows) (length g.rows) p dates both) grid_is c.layered_cost-dates.ensures.cost in
@@ -74,8 +76,8 @@ returns c =
             priced,
             dated,
             crossing_cost w table c.unions-unions.ensures.station a i p lo (60 * hour + h.begin) reach first rest dates both no_call layers minute reached here following
-                (omega (arith, end, c.if-end-hour_end.false)) (omega (arith, end, later, c.if-lo-later.false)) (omega (arith, next_end, later, c.if-hour_end-later.false))
-                same_shift c.requires.regular.short together c.either-both.ensures.bytes alone dates_are c.hours_tell_time_and_date.ensures sets unions,
+                (omega (arith, end, c.if-end-walks.false, c.requires.hour)) (omega (arith, end, later, c.if-walks-later.false)) (omega (arith, next_end, later, c.if-walks-later-2.false, c.requires.hour))
+                same_shift (λ t from to. walks.regular.short t from (omega (arith, to, c.requires.hour))) together c.either-both.ensures.bytes alone dates_are c.hours_tell_time_and_date.ensures sets unions,
           );
       bound =
           omega (
@@ -83,8 +85,8 @@ returns c =
             priced,
             dated,
             crossing_small w table c.unions-unions.ensures.station a i p lo (60 * hour + h.begin) reach first rest dates both no_call layers minute reached here following
-                (omega (arith, end, c.if-end-hour_end.false)) (omega (arith, end, later, c.if-lo-later.false)) (omega (arith, next_end, later, c.if-hour_end-later.false))
-                same_shift c.requires.regular.short together c.either-both.ensures.bytes alone dates_are c.hours_tell_time_and_date.ensures c.columns-columns.ensures.small,
+                (omega (arith, end, c.if-end-walks.false, c.requires.hour)) (omega (arith, end, later, c.if-walks-later.false)) (omega (arith, next_end, later, c.if-walks-later-2.false, c.requires.hour))
+                same_shift (λ t from to. walks.regular.short t from (omega (arith, to, c.requires.hour))) together c.either-both.ensures.bytes alone dates_are c.hours_tell_time_and_date.ensures c.columns-columns.ensures.small,
           );
     }
 

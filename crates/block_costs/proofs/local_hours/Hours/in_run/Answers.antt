@@ -1,5 +1,6 @@
--- Each hour of the run is one that is kept.
+-- An hour that is kept, with the date of its run.
 use Rattle.std.proofs.Common.{◌≡◌, ◌+◌, ◌-◌, ◌*◌, ◌/◌, ◌%◌, ◌<◌, ◌≤◌, ℕ, true, List, bit_or, length, get_or, ap, ◌∙◌, subst, arith}
+use Rattle.std.proofs.lemmas.List.{get_or_default}
 use Rattle.signal_base.specs.declared.station.Station.{Station}
 use Rattle.symbol_cost.specs.Grid.{Grid}
 use Rattle.minute_parts.specs.declared.runs.Run.{Run}
@@ -12,11 +13,12 @@ use Rattle.block_costs.proofs.local_hours.Hours.in_run.Goals as goal
 
 pub returns : goal.returns
 returns c =
-    let w = c.args.walks.now in
+    let walks = c.args.walks.now in
+    let w = walks.station.now in
     let h = c.args.self.now in
-    let a = c.args.announced in
-    let p = c.args.p in
-    let lo = c.args.lo in
+    let a = walks.announced in
+    let p = walks.second in
+    let lo = walks.lo in
     let i = c.run_of-run.result in
     let run = run_at w.parts.runs i in
     let parts_is = c.parts-parts.ensures ∙ c.unions-unions.ensures.unions in
@@ -36,22 +38,14 @@ returns c =
     let covered = λ (s : ℕ) (given : is_given_up w.grid.station s ≡ true).
     subst (λ (d : List ℕ). bit_or (get_or h.call s 0) (get_or d s 0) ≡ get_or h.call s 0) told_is
     (c.leaves_nothing.ensures c.if-not-leaves_nothing.false s (ap (λ (st : Station). is_given_up st s) station ∙ given)) in
-    let count = c.min-count.result in
-    let asked : count ≤ c.args.most = omega (arith, c.min-count.ensures, c.min-2.ensures) in
-    let inside : 60 * count + c.later_minutes.result ≤ c.run_end.result - lo = omega (arith, c.min-count.ensures, c.min-2.ensures, c.saturating_sub-whole.ensures, c.if-count-eq0.false) in
-    let kept : hour + count ≤ length h.firsts.items = omega (arith, c.min-count.ensures, c.saturating_sub-kept.ensures, c.min.ensures, c.len.ensures, c.if-count-eq0.false) in
-    let in_day : hour + count ≤ 24 = omega (arith, c.min-count.ensures, c.saturating_sub-kept.ensures, c.min.ensures, c.if-count-eq0.false) in
-    record {
-      some = omega (arith, c.if-count-eq0.false);
-      few = asked;
-      entries = omega (arith, in_day, c.requires.second, c.requires.hours.priced.count);
-      each = λ j lt.
-          let place : p * 24 + hour + j ≡ p * 24 + (hour + j) = omega arith in
-          kept_hour w h.begin h.call h.firsts.items h.rests.items h.costs.items c.requires.hours table c.unions-unions.ensures.station a i p (lo + 60 * j) (hour + j)
-          (get_or h.costs.items (p * 24 + hour + j) 0 + c.kept_date_cost.result) is c.requires.second (omega (arith, lt, kept))
-          (omega (arith, minute, lt, in_day))
-          (omega (arith, begun)) (omega (arith, end, later, inside, lt))
-          (λ t from to. c.requires.regular.short t (omega (arith, from)) (omega (arith, to, lt, asked)))
-          bytes covered c.hours_tell_time_and_date.ensures c.columns-columns.ensures.small
-          (omega (arith, ap (λ n. get_or h.costs.items n 0) place, c.kept_date_cost.ensures));
-    }
+    let within : hour < length h.firsts.items = omega (arith, c.if-hour-len.false, c.len.ensures) in
+    let in_day : hour < 24 = omega (arith, minute) in
+    let place : p * 24 + hour < length h.costs.items = omega (arith, in_day, walks.in_a_minute, c.requires.hours.priced.count) in
+    let priced = c.index.ensures ∙ get_or_default h.costs.items (p * 24 + hour) c.index.result.now 0 place in
+    kept_hour w h.begin h.call h.firsts.items h.rests.items h.costs.items c.requires.hours table c.unions-unions.ensures.station a i p lo hour
+    (c.index.result.now + c.kept_date_cost-date.result) is walks.in_a_minute within minute begun (omega (arith, end, later, c.requires.hour, c.if-walks-later_minutes.false))
+    (λ t from to. walks.regular.short t from (omega (arith, to, c.requires.hour))) bytes covered c.hours_tell_time_and_date.ensures c.columns-columns.ensures.small
+    (omega (arith, priced, c.kept_date_cost-date.ensures))
+
+pub overflow_add-result : goal.overflow_add-result
+overflow_add-result c = omega (arith, (returns c).bound, c.columns-columns.ensures.fits)

@@ -10,8 +10,8 @@ use Rattle.field_tables.specs.Sums.{AreSums, Sums}
 use Rattle.field_tables.proofs.SumLaws.{next, next_within, of_walks, price_of, regular, small, whole}
 use Rattle.field_tables.proofs.sums.WindowSums.cost_of_unions.Goals as goal
 
-pub union_cost-total-requires-clause-regular : goal.union_cost-total-requires-clause-regular
-union_cost-total-requires-clause-regular c =
+pub invariant_of-all-clause-regular : goal.invariant_of-all-clause-regular
+invariant_of-all-clause-regular c =
     let are = subst AreSums c.self.view_is c.self.invariant in
     let all = c.deref-station-items.ensures.value ∙ ap (λ (s : Sums). s.stations) c.self.view_is in
     let b = c.args.block.now in
@@ -19,7 +19,7 @@ union_cost-total-requires-clause-regular c =
     let w = c.station-item.result in
     let lt = subst (λ (ws : List PricedParts). i < length ws) all c.loop-station-test.true in
     let is = c.station-item.is ∙ ap (λ (ws : List PricedParts). get_or ws i w) all in
-    subst (λ (v : PricedParts). AreRegular b.announced b.lo (c.args.hi + later_minutes (length v.grid.rows) b.second) v.parts.end) (sym c.blocks-blocks.ensures)
+    subst (λ (v : PricedParts). AreRegular b.announced b.lo (c.args.hi + later_minutes (length v.grid.rows) b.second) v.parts.end) (sym (c.walks.ensures ∙ c.blocks-blocks.ensures))
     (regular c.args.self.now are i w lt is b.announced b.second b.lo c.args.hi c.requires.regular)
 
 pub overflow_add-total : goal.overflow_add-total

@@ -3,7 +3,7 @@ use Rattle.signal_base.specs.declared.station.Station.{Station}
 use Rattle.definitions.specs.heard.Costs.{station_cost}
 use Rattle.symbol_cost.specs.Grid.{Grid, cost_at}
 use Rattle.walk_costs.specs.Walks.{PricedParts}
-use Rattle.field_tables.specs.Hours.{sequence_at}
+use Rattle.field_tables.specs.Minutes.{sequence_at}
 use Rattle.field_tables.specs.Sums.{AreSums, Sums, grids_of}
 use Rattle.field_tables.proofs.MinuteLaws.{regular_walks}
 use Rattle.field_tables.proofs.SumLaws.{next_less, next_within, regular, slots, small, whole}

@@ -1,7 +1,7 @@
 use Rattle.std.proofs.Common.{ℕ, ◌<◌, ◌≤◌, sum_by, take}
 use Rattle.definitions.specs.heard.Costs.{station_cost}
 use Rattle.symbol_cost.specs.Grid.{Grid, cost_at}
-use Rattle.field_tables.specs.Hours.{sequence_at}
+use Rattle.field_tables.specs.Minutes.{sequence_at}
 use Rattle.field_tables.specs.Sums.{grids_of}
 use Rattle.field_tables.proofs.SumLaws.{IsWithin}
 use Rattle.field_tables.proofs.sums.WindowSums.least_cost.Given as goal

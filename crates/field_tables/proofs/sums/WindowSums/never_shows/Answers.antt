@@ -4,7 +4,7 @@ use Rattle.std.proofs.lemmas.List.{get_or_default}
 use Rattle.minute_parts.specs.Unions.{AreRegular}
 use Rattle.minute_parts.specs.Walks.{later_minutes}
 use Rattle.walk_costs.specs.Walks.{PricedParts, ShowsAnnouncement}
-use Rattle.field_tables.specs.Hours.{no_walks, sequence_at}
+use Rattle.field_tables.specs.Minutes.{no_walks, sequence_at}
 use Rattle.field_tables.specs.Sums.{AreSums, Sums}
 use Rattle.field_tables.proofs.MinuteLaws.{regular_walks, some_shows}
 use Rattle.field_tables.proofs.SumLaws.{regular}

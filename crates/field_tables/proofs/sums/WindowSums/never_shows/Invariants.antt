@@ -1,6 +1,6 @@
 use Rattle.std.proofs.Common.{ℕ, ◌<◌, ◌≤◌, slice_index_or}
 use Rattle.walk_costs.specs.Walks.{ShowsAnnouncement}
-use Rattle.field_tables.specs.Hours.{no_walks, sequence_at}
+use Rattle.field_tables.specs.Minutes.{no_walks, sequence_at}
 use Rattle.field_tables.proofs.sums.WindowSums.never_shows.Given as goal
 
 abbrev pub invariant-loop-station : goal.invariant-loop-station

@@ -16,7 +16,7 @@ loop-child-init g t c =
 pub loop-child-preserved-in_default-opened : goal.loop-child-preserved-in_default-opened
 loop-child-preserved-in_default-opened g t c =
     let at = c.loop-child.invariant in
-    let child = c.in-Some-next.ensures in record {
+    let child = c.in-Some.ensures in record {
       race = c.come_to.ensures.race ∙ at.race;
       tables = child.tables ∙ at.tables;
       spans = (rw child.child at at.spans).1;
@@ -26,7 +26,7 @@ loop-child-preserved-in_default-opened g t c =
 pub loop-child-preserved : goal.loop-child-preserved
 loop-child-preserved g t c =
     let at = c.loop-child.invariant in
-    let child = c.in-Some-next.ensures in
+    let child = c.in-Some.ensures in
     let visited = c.in_ok-visit_children.ensures in record {
       race = visited.race ∙ (c.come_to.ensures.race ∙ at.race);
       tables = child.tables ∙ at.tables;
@@ -35,17 +35,17 @@ loop-child-preserved g t c =
     }
 
 pub returns-clause-walked : goal.returns-clause-walked
-returns-clause-walked g t c = ended c.loop-child.invariant.walking c.in_default-next.ensures.end.0
+returns-clause-walked g t c = ended c.loop-child.invariant.walking c.in_default.ensures.end.0
 
 pub returns-in_err-opened-clause-stopped : goal.returns-in_err-opened-clause-stopped
 returns-in_err-opened-clause-stopped g t c =
-    let stopped = next_stopped c.loop-child.invariant.walking c.in-Some-next.ensures.child c.in_err-opened.ensures.stopped in
+    let stopped = next_stopped c.loop-child.invariant.walking c.in-Some.ensures.child c.in_err-opened.ensures.stopped in
     search rules
 
 pub returns-in_err-visit_children-clause-stopped : goal.returns-in_err-visit_children-clause-stopped
 returns-in_err-visit_children-clause-stopped g t c =
     let at = c.loop-child.invariant in
-    let child = c.in-Some-next.ensures in
+    let child = c.in-Some.ensures in
     let stopped = next_stopped at.walking child.child
     (with_children_stopped (rw at.tables at child.bound) (rw c.in-Some-opened.is at c.in_ok-opened.ensures.opened) (search rules) c.in_err-visit_children.ensures.stopped) in
     search rules
