@@ -4,6 +4,7 @@ pub mod SumLaws
 pub mod BlockLaws
 pub mod UnionBoundLaws
 pub mod MinuteLaws
+pub mod QuietLaws
 pub mod LegalLaws
 pub mod LeapLaws
 pub mod FloorLaws

@@ -6,3 +6,4 @@ pub mod Blocks
 pub mod Minutes
 pub mod Leaps
 pub mod Floors
+pub mod Quiet

@@ -10,6 +10,7 @@ ghost use Rattle.definitions.specs.time.Calendar.{minute_length};
 ghost use Rattle.minute_parts.specs.Walks.{reach};
 ghost use Rattle.field_tables.specs.Blocks.{AreMinutesOf, HasShortWalks};
 ghost use Rattle.field_tables.specs.Floors.{IsFloor};
+ghost use Rattle.field_tables.specs.Quiet.{IsQuiet};
 ghost use Rattle.field_tables.specs.Minutes.{sequence_at};
 ghost use Rattle.field_tables.specs.Scored.{costs_of};
 ghost use Rattle.field_tables.specs.Sums.{costs_by};
@@ -18,7 +19,7 @@ use crate::leaps::meets_leap_end;
 use crate::sums::WindowSums;
 use crate::tables::Tables;
 use civil::Civil;
-use definitions::Block;
+use definitions::{Block, MINUTES_PER_DAY};
 use slot_columns::SECONDS_PER_MINUTE;
 
 impl<'a> Tables<'a> {
@@ -30,7 +31,18 @@ impl<'a> Tables<'a> {
         ensures floor { IsFloor (costs_of self.now) self.now.window day.now result }
         ensures small { IfSome result (λ n. n ≤ GREATEST_COST) }
     {
+        if day.announced && self.is_quiet((day.lo / MINUTES_PER_DAY) as usize) {
+            return None;
+        }
         self.sums.floor(self.civil, day)
+    }
+
+    // Whether it is known that no announced sequence is legal that begins on the day.
+    #[inline(always)]
+    fn is_quiet(&self, day: usize) -> bool
+        ensures { result ≡ true → IsQuiet self.now.window day }
+    {
+        day < self.quiet.len() && self.quiet[day]
     }
 }
 

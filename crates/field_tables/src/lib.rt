@@ -6,6 +6,7 @@ mod bound;
 mod floor;
 mod leaps;
 mod minute;
+mod quiet;
 mod station;
 mod station_floor;
 mod stations;

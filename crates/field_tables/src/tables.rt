@@ -40,9 +40,12 @@ pub struct Tables<'a> {
     pub(crate) civil: &'a Civil,
     window: Window,
     pub(crate) sums: WindowSums,
+    // The days on which no announced sequence is legal.
+    pub(crate) quiet: Vec<bool>,
 }
 
 impl<'a> Model for Tables<'a> {
+    ghost use Rattle.field_tables.specs.Quiet.{AreQuiet};
     ghost use Rattle.field_tables.specs.Scored.{Scored};
     ghost use Rattle.field_tables.specs.Sums.{AreTables};
 
@@ -50,7 +53,7 @@ impl<'a> Model for Tables<'a> {
 
     ghost view = { λ t. record { window = t.window; grids = t.grids.now } };
 
-    ghost invariant = { λ t. AreTables t.window t.grids.now t.sums };
+    ghost invariant = { λ t. AreTables t.window t.grids.now t.sums × AreQuiet t.window t.quiet.items };
 }
 
 impl<'a> Tables<'a> {
@@ -68,11 +71,13 @@ impl<'a> Tables<'a> {
         ensures grids { IfOk result (λ tables. tables.grids ≡ grids.now) }
     {
         let sums = WindowSums::make(alloc, civil, grids, window)?;
+        let quiet = sums.quiet_days(alloc, civil)?;
         Ok(Tables {
             grids,
             civil,
             window: *window,
             sums,
+            quiet,
         })
     }
 

@@ -12,6 +12,6 @@ returns-in-Some-clause-cost c =
     let q = c.args.q.now in
     let inside = c.self.inside in
     c.in-Some.ensures.cost
-    ∙ ap (λ (w : Window). sequence_cost (costs_by inside.sums) w q) c.self.invariant.same
-    ∙ sequence_same inside.window (costs_by inside.sums) (grid_costs inside.grids.now) q c.self.invariant.agree
+    ∙ ap (λ (w : Window). sequence_cost (costs_by inside.sums) w q) c.self.invariant.0.same
+    ∙ sequence_same inside.window (costs_by inside.sums) (grid_costs inside.grids.now) q c.self.invariant.0.agree
     ∙ ap (λ (s : Scored). sequence_cost (costs_of s) s.window q) c.self.view_is

@@ -13,9 +13,9 @@ returns-then-has_regular_walks-clause-bound c =
     let inside = c.self.inside in
     let b = c.args.minute.now in
     let found = c.minute_bound.result in
-    let by_sums = subst (λ (x : Window). IsMinuteBound (costs_by inside.sums) x b found) c.self.invariant.same c.minute_bound.ensures.bound in
+    let by_sums = subst (λ (x : Window). IsMinuteBound (costs_by inside.sums) x b found) c.self.invariant.0.same c.minute_bound.ensures.bound in
     subst (λ (s : Scored). IsMinuteBound (costs_of s) s.window b found) c.self.view_is
-    (bound_agrees inside.window (costs_by inside.sums) (grid_costs inside.grids.now) b found c.self.invariant.agree by_sums)
+    (bound_agrees inside.window (costs_by inside.sums) (grid_costs inside.grids.now) b found c.self.invariant.0.agree by_sums)
 
 pub returns-then-legal-clause-bound : goal.returns-then-legal-clause-bound
 returns-then-legal-clause-bound c = (c.legal.ensures.0 c.if-legal.true, c.cost.ensures.cost)
@@ -25,6 +25,6 @@ returns-in-Some-clause-bound c =
     let inside = c.self.inside in
     let b = c.args.minute.now in
     let found = c.in-Some.bound in
-    let by_sums = subst (λ (x : Window). IsMinuteBound (costs_by inside.sums) x b found) c.self.invariant.same c.in-Some.ensures.bound in
+    let by_sums = subst (λ (x : Window). IsMinuteBound (costs_by inside.sums) x b found) c.self.invariant.0.same c.in-Some.ensures.bound in
     subst (λ (s : Scored). IsMinuteBound (costs_of s) s.window b found) c.self.view_is
-    (bound_agrees inside.window (costs_by inside.sums) (grid_costs inside.grids.now) b found c.self.invariant.agree by_sums)
+    (bound_agrees inside.window (costs_by inside.sums) (grid_costs inside.grids.now) b found c.self.invariant.0.agree by_sums)

@@ -29,7 +29,7 @@ pub cost-requires : goal.cost-requires
 cost-requires c =
     let window_is = ap (λ (s : Scored). s.window) c.self.view_is in
     let heard = subst (λ (w : Window). has_station w.stations c.args.station ≡ true) (sym window_is) c.requires.station in
-    let slots = (its_grid c.self.inside.window c.self.inside.grids.now c.args.station c.in-Some.grid.now c.self.invariant.are_grids heard c.in-Some.ensures).1 in
+    let slots = (its_grid c.self.inside.window c.self.inside.grids.now c.args.station c.in-Some.grid.now c.self.invariant.0.are_grids heard c.in-Some.ensures).1 in
     let seconds = ap (λ (w : Window). w.seconds) window_is in
     omega (arith, slots, seconds, c.requires.slot)
 
@@ -37,7 +37,7 @@ pub unreachable-requires : goal.unreachable-requires
 unreachable-requires c =
     let window_is = ap (λ (s : Scored). s.window) c.self.view_is in
     let heard = subst (λ (w : Window). has_station w.stations c.args.station ≡ true) (sym window_is) c.requires.station in
-    let own = found c.self.inside.window c.self.inside.grids.now c.self.invariant.are_grids c.args.station heard in
+    let own = found c.self.inside.window c.self.inside.grids.now c.self.invariant.0.are_grids c.args.station heard in
     let both = sym own.1 ∙ c.in-None.ensures in
     cc
 
@@ -45,6 +45,6 @@ pub returns : goal.returns
 returns c =
     let window_is = ap (λ (s : Scored). s.window) c.self.view_is in
     let heard = subst (λ (w : Window). has_station w.stations c.args.station ≡ true) (sym window_is) c.requires.station in
-    let same = (its_grid c.self.inside.window c.self.inside.grids.now c.args.station c.in-Some.grid.now c.self.invariant.are_grids heard c.in-Some.ensures).0 in
+    let same = (its_grid c.self.inside.window c.self.inside.grids.now c.args.station c.in-Some.grid.now c.self.invariant.0.are_grids heard c.in-Some.ensures).0 in
     by_grid c.self.inside.grids.now c.args.station c.in-Some.grid.now c.args.slot c.args.set c.cost.result c.in-Some.ensures same c.cost.ensures.cost
     ∙ ap (λ (s : Scored). set_cost c.args.station (costs_of s c.args.station c.args.slot) c.args.set) c.self.view_is

@@ -11,14 +11,14 @@ pub returns-then-has_short_walks-clause-bound : goal.returns-then-has_short_walk
 returns-then-has_short_walks-clause-bound c =
     let inside = c.self.inside in
     let b = c.args.block.now in
-    let found = subst (λ (x : Window). IsUnionBound (costs_by inside.sums) x b c.union_bound.result) c.self.invariant.same c.union_bound.ensures.bound in
+    let found = subst (λ (x : Window). IsUnionBound (costs_by inside.sums) x b c.union_bound.result) c.self.invariant.0.same c.union_bound.ensures.bound in
     subst (λ (s : Scored). IsUnionBound (costs_of s) s.window b c.union_bound.result) c.self.view_is
-    (bound_same inside.window (costs_by inside.sums) (grid_costs inside.grids.now) b c.union_bound.result c.self.invariant.agree found)
+    (bound_same inside.window (costs_by inside.sums) (grid_costs inside.grids.now) b c.union_bound.result c.self.invariant.0.agree found)
 
 pub returns-clause-bound : goal.returns-clause-bound
 returns-clause-bound c =
     let inside = c.self.inside in
     let b = c.args.block.now in
-    let found = subst (λ (x : Window). IsUnionBound (costs_by inside.sums) x b c.leap_bound.result) c.self.invariant.same c.leap_bound.ensures.bound in
+    let found = subst (λ (x : Window). IsUnionBound (costs_by inside.sums) x b c.leap_bound.result) c.self.invariant.0.same c.leap_bound.ensures.bound in
     subst (λ (s : Scored). IsUnionBound (costs_of s) s.window b c.leap_bound.result) c.self.view_is
-    (bound_same inside.window (costs_by inside.sums) (grid_costs inside.grids.now) b c.leap_bound.result c.self.invariant.agree found)
+    (bound_same inside.window (costs_by inside.sums) (grid_costs inside.grids.now) b c.leap_bound.result c.self.invariant.0.agree found)
