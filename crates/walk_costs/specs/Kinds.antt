@@ -1,5 +1,5 @@
 -- Kinds of walks, by what their dates tell in the seconds that are given up for the call sign and by when they may begin.
-use Rattle.std.specs.Prelude.{ℕ, ◌≡◌, ◌+◌, ◌-◌, ◌*◌, ◌/◌, ◌%◌, ◌<◌, ◌≤◌, ◌==◌, bit_or, Bool, true, if◌then◌else◌, List, [], length, map, slice_index, slice_index_or}
+use Rattle.std.specs.Prelude.{ℕ, ◌≡◌, ◌+◌, ◌-◌, ◌*◌, ◌/◌, ◌%◌, ◌<◌, ◌≤◌, ◌==◌, bit_or, Bool, true, if◌then◌else◌, List, [], ◌∷◌, ◌++◌, length, map, slice_index, slice_index_or}
 use Rattle.std.specs.List.{range_with_len}
 use Rattle.signal_base.specs.declared.station.Station.{Station}
 use Rattle.definitions.specs.codes.Vocabulary.{unscored}
@@ -59,6 +59,12 @@ pub record IsPlaced (old new : List Kind) (kind : Kind) (place : ℕ) : Type 0 w
   pub same : AreSame (kind_at new place) kind
   pub longer : length old ≤ length new
   pub kept : (k : ℕ) → k < length old → kind_at new k ≡ kind_at old k
+
+-- and the place stands behind the old places
+pub record HasPlace (old new : List Kind) (places more : List ℕ) (kind : Kind) : Type 0 where
+  pub place : ℕ
+  pub placed : IsPlaced old new kind place
+  pub added : more ≡ places ++ place ∷ []
 
 -- the first n of two places for each run, of kinds of a list
 pub record AreKindsOf (parts : PartTable) (station : Station) (across : Bool) (all : List Kind) (places : List ℕ) (n : ℕ) : Type 0 where

@@ -1,5 +1,5 @@
 -- What walks cost at the least, at any time of day at which they may begin.
-use Rattle.std.specs.Prelude.{ℕ, ◌≡◌, ◌⊎◌, ◌×◌, ◌+◌, ◌*◌, ◌<◌, ◌≤◌, Bool, if◌then◌else◌, List, length, max, slice_index, slice_index_or}
+use Rattle.std.specs.Prelude.{ℕ, ◌≡◌, ◌⊎◌, ◌+◌, ◌*◌, ◌<◌, ◌≤◌, Bool, if◌then◌else◌, List, length, max, slice_index, slice_index_or}
 use Rattle.signal_base.specs.declared.limits.TheConstants.{GREATEST_COST}
 use Rattle.definitions.specs.time.Calendar.{minutes_per_day}
 use Rattle.symbol_cost.specs.Grid.{Grid, cost_at}

@@ -2,9 +2,10 @@
 //!
 //! There are few: in those seconds the date tells the year, the weekday and whether a leap second is announced.
 
-ghost use Rattle.std.specs.Prelude.{◌≡◌, ◌*◌, ◌<◌, ℕ, IfOk, length, slice_index, true};
+ghost use Rattle.std.specs.Prelude.{◌≡◌, ◌*◌, ◌<◌, ℕ, IfOk, OnOk, length, slice_index, true};
 ghost use Rattle.minute_parts.specs.Overlay.{is_given_up};
-ghost use Rattle.walk_costs.specs.Kinds.{AreKindsOf, AreSame, IsPlaced, IsKindOf, either_set};
+ghost use Rattle.minute_parts.specs.Parts.{IsPartTable};
+ghost use Rattle.walk_costs.specs.Kinds.{AreKindsOf, AreSame, HasPlace, IsKindOf, IsPlaced, either_set, end_in, last_begin};
 
 use crate::walks::local_time;
 use definitions::MINUTES_PER_DAY;
@@ -45,36 +46,65 @@ pub fn kinds_of(
     station: Station,
     across: bool,
 ) -> Result<Kinds, AllocError>
+    requires { IsPartTable parts.now }
     ensures { IfOk result (λ kinds. AreKindsOf parts.now station across kinds.all.items kinds.places.items (2 * length parts.now.runs)) }
 {
     let mut all = Vec::new(alloc);
-    let mut places = Vec::with_capacity(alloc, 2 * parts.runs())?;
-    for i in 0..2 * parts.runs() {
-        let kind = kind_of(parts, station, across, i % 2 == 1, i / 2);
-        let place = place_of(&mut all, &places, &kind)?;
-        places.push(place)?;
+    let mut places = Vec::with_capacity(alloc, parts.runs().saturating_mul(2))?;
+    for i in 0..parts.runs() {
+        add_kind(
+            &mut all,
+            &mut places,
+            &kind_of(parts, station, across, false, i),
+        )?;
+        add_kind(
+            &mut all,
+            &mut places,
+            &kind_of(parts, station, across, true, i),
+        )?;
     }
     Ok(Kinds { all, places })
 }
 
-// That of the walks which begin in a run. The last run has no next.
+// That of the walks which begin in a run.
 fn kind_of(parts: &Parts, station: Station, across: bool, announced: bool, run: usize) -> Kind
-    requires { run < length parts.now.runs }
+    requires table { IsPartTable parts.now }
+    requires run { run < length parts.now.runs }
     ensures { IsKindOf parts.now station across announced run result }
+{
+    let one = parts.run(run).date_part(announced);
+    let other = parts.run(end_in(parts, across, run)).date_part(announced);
+    Kind {
+        told: told_by(station, one, other),
+        last: last_begin(parts, across, run),
+    }
+}
+
+// The run in which they end. The last run has no next, and stands for it.
+fn end_in(parts: &Parts, across: bool, run: usize) -> usize
+    requires { run < length parts.now.runs }
+    ensures within { result < length parts.now.runs }
+    ensures end { end_in across run < length parts.now.runs → result ≡ end_in across run }
 {
     // The next run's number fits, as the count of runs does.
     let runs = parts.runs();
-    let one = parts.run(run).date_part(announced);
-    if !across || run + 1 == runs {
-        return Kind {
-            told: told_by(station, one, one),
-            last: MINUTES_PER_DAY as u16 - 1,
-        };
+    if across && run + 1 < runs {
+        run + 1
+    } else {
+        run
     }
-    let other = parts.run(run + 1).date_part(announced);
-    Kind {
-        told: told_by(station, one, other),
-        last: local_time(parts.run(run).shift, parts.run_end(run) - 1),
+}
+
+// The last minute of the local day in which they begin.
+fn last_begin(parts: &Parts, across: bool, run: usize) -> u16
+    requires table { IsPartTable parts.now }
+    requires run { run < length parts.now.runs }
+    ensures { result ≡ last_begin parts.now across run }
+{
+    if across {
+        local_time(parts.run(run).shift, parts.run_end(run) - 1)
+    } else {
+        MINUTES_PER_DAY as u16 - 1
     }
 }
 
@@ -112,7 +142,16 @@ fn either(one: u8, other: u8) -> u8
     one % SETS | other % SETS
 }
 
-// Where a kind stands. It is added where it isn't among the last ones.
+// Adds a place for a kind, and the kind where it isn't among the last ones.
+fn add_kind(all: &mut Vec<Kind>, places: &mut Vec<usize>, kind: &Kind) -> Result<(), AllocError>
+    ensures { OnOk result (HasPlace all.old.items all.new.items places.old.items places.new.items kind.now) }
+{
+    let place = place_of(all, places, kind)?;
+    places.push(place)?;
+    Ok(())
+}
+
+// Where it stands then.
 fn place_of(all: &mut Vec<Kind>, places: &Vec<usize>, kind: &Kind) -> Result<usize, AllocError>
     ensures { IfOk result (IsPlaced all.old.items all.new.items kind.now) }
 {

@@ -4,14 +4,14 @@
 //! the date, and which minute of a walk that is depends on the time of day. So what dates tell in those seconds is counted
 //! with the time of day.
 
-ghost use Rattle.std.specs.Prelude.{◌≡◌, ◌+◌, ◌^◌, ◌<◌, ◌≤◌, ℕ, IfOk, OnOk, false, length, slice_index, true};
+ghost use Rattle.std.specs.Prelude.{◌≡◌, ◌+◌, ◌*◌, ◌^◌, ◌<◌, ◌≤◌, ℕ, IfOk, OnOk, false, length, slice_index, true};
 ghost use Rattle.definitions.specs.time.Calendar.{minutes_per_day};
 ghost use Rattle.minute_parts.specs.Parts.{IsPartTable};
 ghost use Rattle.slot_columns.specs.Layered.{AreAdded, AreGroups};
 ghost use Rattle.slot_columns.specs.Parts.{AreWalkCosts, entry, most_cost};
 ghost use Rattle.walk_costs.specs.Crossings.{IsAcross};
 ghost use Rattle.walk_costs.specs.Dates.{most_given};
-ghost use Rattle.walk_costs.specs.Leasts.{AreBegins, AreHalfCosts, AreLeast, AreLeastSums, IsLeastBy, IsLeastOf, begin_count, least_at, split_at};
+ghost use Rattle.walk_costs.specs.Leasts.{AreBegins, AreHalfCosts, AreLeast, AreLeastSums, IsLeastBy, IsLeastOf, begin_count, least_at, place_of_run, split_at};
 ghost use Rattle.walk_costs.specs.Walks.{IsRegularIn, cost_of};
 
 use crate::date::{ByMinute, given_costs};
@@ -93,9 +93,18 @@ impl LeastTable {
         requires run { (runs : ℕ) × (run < runs) × AreLeastSums self.now runs }
         ensures { result ≡ least_at self.now announced p run }
     {
-        let place = if announced { 2 * run + 1 } else { 2 * run };
-        self.costs[p as usize * self.kinds + self.places[place]]
+        // The places are so many that their numbers fit.
+        let kind = self.places[place_of_run(announced, run)];
+        self.costs[p as usize * self.kinds + kind]
     }
+}
+
+// Where the place of a run stands.
+fn place_of_run(announced: bool, run: usize) -> usize
+    requires { 2 * run + 1 < 2 ^ 64 }
+    ensures { result ≡ place_of_run announced run }
+{
+    if announced { 2 * run + 1 } else { 2 * run }
 }
 
 impl StationWalks {
