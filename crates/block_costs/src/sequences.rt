@@ -24,8 +24,7 @@ impl Walks<'_> {
         if left <= walks.later_minutes(self.second) {
             return self.cost_over_runs(run);
         }
-        let date = walks.date_cost(self.announced, self.second, run);
-        walks.cost_by(&date, self.lo)
+        walks.cost_in(self.announced, self.second, self.lo, run)
     }
 
     // The same of a walk that leaves the run in which it begins. Mostly it ends in the next, and the local time is encoded there

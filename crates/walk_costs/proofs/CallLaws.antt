@@ -1,6 +1,6 @@
 -- The seconds of JJY's call sign.
-use Rattle.std.proofs.Common.{◌≡◌, ℕ, ◌+◌, ◌*◌, ◌/◌, ◌%◌, ◌<◌, ◌≤◌, ◌⊎◌, inl, inr, false, if◌then◌else◌, List, get_or, refl, ap, ◌∙◌, arith}
-use Rattle.std.proofs.lemmas.Bool.{and_left, and_right, cases_eq, lt-leb, or_from}
+use Rattle.std.proofs.Common.{◌≡◌, ℕ, ◌+◌, ◌*◌, ◌/◌, ◌%◌, ◌<◌, ◌≤◌, ◌⊎◌, inl, inr, true, false, if◌then◌else◌, List, get_or, refl, ap, ◌∙◌, arith}
+use Rattle.std.proofs.lemmas.Bool.{and_left, and_right, cases_eq, cases_lt, lt-leb, or_from}
 use Rattle.signal_base.specs.declared.station.Station.{Station}
 use Rattle.signal_base.specs.declared.station.Station.TheVariants.{Dcf77, Msf, Wwvb, Jjy}
 use Rattle.symbol_cost.specs.Grid.{Grid, cost_at}
@@ -33,6 +33,13 @@ not_late Dcf77 s le = refl
 not_late Msf s le = refl
 not_late Wwvb s le = refl
 not_late Jjy s le = or_from _ _ (and_right _ _ (lt-leb s 48 (omega arith))) (and_right _ _ (lt-leb s 55 (omega arith)))
+
+-- a second that is given up is one of the call sign
+pub in_call : (station : Station) (s : ℕ) → is_given_up station s ≡ true → (40 ≤ s) × (s < 56)
+in_call station s gives = (
+  elim (cases_lt s 40) [ inl lt ↦ (let no = not_early station s lt in absurd cc) | inr le ↦ le ],
+  elim (cases_lt s 56) [ inl lt ↦ lt | inr le ↦ (let no = not_late station s le in absurd cc) ],
+)
 
 -- what is told of a second that is given up
 pub given_at : (station : Station) (part : List ℕ) (s : ℕ) → s < 60 → get_or (given_up station part) s 0 ≡ given_up_set station part s

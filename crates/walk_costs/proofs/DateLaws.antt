@@ -8,7 +8,7 @@ use Rattle.symbol_cost.specs.declared.limits.TheConstants.{RECEIVER_COST}
 use Rattle.slot_columns.specs.Parts.{minute_cost, most_cost}
 use Rattle.slot_columns.proofs.SetLaws.{none_chosen}
 use Rattle.minute_parts.specs.Overlay.{is_given_up}
-use Rattle.walk_costs.specs.Dates.{given_up, given_up_set, kept, kept_set, part_cost}
+use Rattle.walk_costs.specs.Dates.{date_cost, given_cost, given_up, given_up_set, kept, kept_set, part_cost}
 use Rattle.minute_parts.specs.Walks.{later_minutes}
 use Rattle.walk_costs.specs.Walks.{AreSmall}
 use Rattle.walk_costs.proofs.SumLaws.{cost_in, made_part, part_by_second, sum_le, sum_of_two}
@@ -28,7 +28,7 @@ module _ (grid : Grid) (p : ℕ) (part : List ℕ) where
   abbrev pub given : ℕ → ℕ
   given k = cost_in grid k (given_up_set grid.station part ((p + k) % 60))
 
-  given_sum : part_cost grid p (given_up grid.station part) ≡ sum_below n given
+  pub given_sum : part_cost grid p (given_up grid.station part) ≡ sum_below n given
   unfolding given_up
   given_sum = made_part grid p (given_up_set grid.station part) (given_up grid.station part) refl
 
@@ -101,6 +101,14 @@ module _ (grid : Grid) (p : ℕ) (part : List ℕ) where
       slot : (cost : ℕ) (b : Bool) → (if b then cost else 0) ≤ cost
       slot cost true = omega arith
       slot cost false = omega arith
+
+  pub minute_of_all : (m : ℕ)
+      → minute_cost grid.station (cost_at grid.rows) n p m (given_up grid.station part) ≤ part_cost grid p (given_up grid.station part)
+  minute_of_all m = omega (arith, one_more_lost m, before_all (m + 1))
+
+  -- the date costs what it does in the seconds that are kept, and in those that are given up
+  pub date_by_second : (m : ℕ) → date_cost grid p m part ≡ part_cost grid p (kept grid.station part) + given_cost grid p m part
+  date_by_second m = omega (arith, kept_and_given, minute_of_all m)
 
   -- what each minute loses, of which some were summed and the others lose nothing
   pub minute_lost : (m all : ℕ) (losses : List ℕ) → all ≡ later_minutes n p + 1

@@ -1,220 +1,215 @@
--- That no walk in a run costs less than its date and the least of all times of day.
-use Rattle.std.proofs.Common.{◌≡◌, ℕ, zero, suc, ◌+◌, ◌*◌, ◌/◌, ◌%◌, ◌<◌, ◌≤◌, inl, inr, Bool, true, false, ◌==◌, ◌&&◌, ◌||◌, if◌then◌else◌, List, length, min, get_or, refl, sym, ap, ◌∙◌, arith}
-use Rattle.std.proofs.lemmas.Bool.{cases_order, eq-eqb, ne_eqb}
+-- What dates cost in the seconds that are given up for the call sign, and the least of all walks of a kind.
+use Rattle.std.proofs.Common.{◌≡◌, ℕ, ◌+◌, ◌*◌, ◌/◌, ◌%◌, ◌<◌, ◌≤◌, ◌⊎◌, inl, inr, Bool, true, false, ◌==◌, if◌then◌else◌, List, [], ◌∷◌, ◌++◌, length, get_or, refl, sym, ap, ◌∙◌, subst, arith}
+use Rattle.std.proofs.Math.ListN.{get_or-append}
+use Rattle.std.proofs.lemmas.Bool.{cases_lt, eq-eqb, ne_eqb}
+use Rattle.std.proofs.lemmas.List.{get_or_push, length_push}
+use Rattle.std.proofs.lemmas.List.FromFn.{get_or-map-range_with_len}
 use Rattle.signal_base.specs.declared.station.Station.{Station}
 use Rattle.definitions.specs.heard.Costs.{sum_below}
-use Rattle.definitions.proofs.CostLaws.{sum_below_bound, sum_below_more, sum_below_same}
+use Rattle.definitions.proofs.CostLaws.{sum_below_same}
 use Rattle.symbol_cost.specs.Grid.{Grid, cost_at}
-use Rattle.symbol_cost.specs.declared.limits.TheConstants.{RECEIVER_COST}
-use Rattle.minute_parts.specs.Overlay.{is_given_up, is_time_second, overlay}
-use Rattle.minute_parts.specs.Parts.{PartTable, part_where, times_at}
+use Rattle.minute_parts.specs.Overlay.{is_given_up}
+use Rattle.minute_parts.specs.Parts.{PartTable, part_where}
 use Rattle.minute_parts.specs.Runs.{run_at}
-use Rattle.slot_columns.specs.Parts.{AreWalkCosts, most_cost, walk_cost, walk_set}
-use Rattle.slot_columns.specs.Layered.{AreGroups}
-use Rattle.slot_columns.specs.Tables.{at_place}
-use Rattle.slot_columns.proofs.ColumnLaws.{by_columns}
-use Rattle.slot_columns.proofs.PlaceLaws.{after_walk, before_walk, in_walk, place_free}
+use Rattle.slot_columns.specs.Parts.{AreWalkCosts}
+use Rattle.slot_columns.specs.Layered.{AreAdded, AreGroups}
 use Rattle.slot_columns.proofs.SetLaws.{none_chosen}
-use Rattle.slot_columns.proofs.SumLaws.{sum_of_fewer, sum_of_none}
-use Rattle.walk_costs.specs.declared.least_in.Choices.{Choices}
-use Rattle.walk_costs.specs.declared.least_in.LeastTable.{LeastTable}
-use Rattle.walk_costs.specs.Dates.{IsAdded, date_cost, given_up, given_up_set, kept, minutes_to_call, part_cost}
-use Rattle.walk_costs.specs.Leasts.{AreChosen, AreLeast, IsChosen, IsLeastOf, choices_at, cost_beside, given_beside, group_of}
-use Rattle.walk_costs.specs.Walks.{ArePriced, IsRegularIn, PricedParts, cost_of, last_minute}
-use Rattle.walk_costs.proofs.DateLaws.{given, kept_and_given}
-use Rattle.walk_costs.proofs.SplitLaws.{call_minute, calls, parts_of_second, tells_by}
-use Rattle.walk_costs.proofs.SumLaws.{cost_in, made_part, part_by_second, sum_of_two, sums_of_two}
-use Rattle.walk_costs.proofs.WalkLaws.{lost, lost_le, lost_sum, total_at}
+use Rattle.walk_costs.specs.declared.halves.Split.{Split}
+use Rattle.walk_costs.specs.declared.kinds.Kind.{Kind}
+use Rattle.walk_costs.specs.declared.least.LeastTable.{LeastTable}
+use Rattle.walk_costs.specs.Dates.{given_cost, given_up_set, minutes_to_call}
+use Rattle.walk_costs.specs.Kinds.{AreKindsOf, AreSame, HasPlace, IsBegin, IsKindOf, either_part, either_set, end_in, kind_at, last_begin, told_of}
+use Rattle.walk_costs.specs.Leasts.{AreHalfCosts, AreHalves, AreLeast, IsLeastBy, IsLeastOf, IsSplit, IsSplitTo, begin_count, no_split, place_of_run, split_at}
+use Rattle.walk_costs.proofs.CallLaws.{in_call}
+use Rattle.walk_costs.proofs.DateLaws.{given, given_sum}
+use Rattle.walk_costs.proofs.SumLaws.{cost_in, sum_of_two}
+use Rattle.walk_costs.proofs.WalkLaws.{lost, lost_sum}
 
--- a sum is one of its terms, where there is such a term, and the sum of the others
-pub sum_beside : (n m one : ℕ) (f : ℕ → ℕ) → (m < n → one ≡ f m) → (n ≤ m → one ≡ 0)
-    → sum_below n f ≡ sum_below n (λ j. if j == m then 0 else f j) + one
-unfolding sum_below
-sum_beside zero m one f there none = omega (arith, none (omega arith))
-sum_beside (suc n) m one f there none = elim (cases_order m n) [
-  | inl same ↦ (
-      let others = sum_beside n m 0 f (λ lt. absurd (omega (arith, lt, same))) (λ le. refl) in
-      let this = ap (λ (b : Bool). if b then 0 else f n) (eq-eqb n m (sym same)) in
-      omega (arith, others, this, there (omega (arith, same)), ap f same))
-  | inr apart ↦ (elim apart [
-    | inl early ↦ (
-        let others = sum_beside n m one f (λ lt. there (omega (arith, lt))) (λ le. absurd (omega (arith, le, early))) in
-        let this = ap (λ (b : Bool). if b then 0 else f n) (ne_eqb n m (λ e. omega (arith, e, early))) in
-        omega (arith, others, this))
-    | inr late ↦ (
-        let others = sum_beside n m one f (λ lt. absurd (omega (arith, lt, late))) (λ le. none (omega (arith, late))) in
-        let this = ap (λ (b : Bool). if b then 0 else f n) (ne_eqb n m (λ e. omega (arith, e, late))) in
-        omega (arith, others, this))
-  ])
-]
+-- what two parts tell together in a second
+pub either_at : (a b : List ℕ) (s : ℕ) → s < 60 → get_or (either_part a b) s 0 ≡ either_set (get_or a s 0) (get_or b s 0)
+unfolding either_part
+either_at a b s lt = get_or-map-range_with_len (λ x. either_set (get_or a x 0) (get_or b x 0)) 0 60 s s 0 lt (omega arith)
 
-none_of : (b : Bool) (cost : ℕ) → cost ≡ 0 → (if b then 0 else cost) ≡ 0
-none_of true cost none = refl
-none_of false cost none = none
-
-module _ (grid : Grid) (p m : ℕ) (part : List ℕ) where
+module _ (grid : Grid) (p : ℕ) where
   abbrev n : ℕ
   n = length grid.rows
 
-  -- what a second costs that is given up and isn't in walk minute m, in slot k and at place i
-  abbrev beside : ℕ → ℕ
-  beside k = if (p + k) / 60 == m then 0 else given grid p part k
+  -- what a part costs in a slot, in the seconds that are given up and in another walk minute than m
+  abbrev pub given_in : ℕ → List ℕ → ℕ → ℕ
+  given_in m part k = if (p + k) / 60 == m then 0 else cost_in grid k (given_up_set grid.station part ((p + k) % 60))
 
-  abbrev at : ℕ → ℕ
-  at i = if i / 60 == m then 0 else at_place grid p (given_up_set grid.station part (i % 60)) i
-
-  in_column : (j s : ℕ) → s < 60 → at (60 * j + s) ≡ (if j == m then 0 else at_place grid p (given_up_set grid.station part s) (60 * j + s))
-  in_column j s lt =
-      let i : ℕ = 60 * j + s in
-      let minute : i / 60 ≡ j = omega arith in
-      let here : i % 60 ≡ s = omega arith in
-      ap (λ x. if x == m then 0 else at_place grid p (given_up_set grid.station part (i % 60)) i) minute
-      ∙ ap (λ x. if j == m then 0 else at_place grid p (given_up_set grid.station part x) i) here
-
-  by_second : p < 60 → n ≤ 1200 → sum_below n beside ≡ given_beside grid p m part
-  by_second second short =
-      sum_below_same n beside (λ k. at (p + k))
-      (λ k within. ap (λ c. if (p + k) / 60 == m then 0 else c) (sym (in_walk grid p (given_up_set grid.station part ((p + k) % 60)) k within)))
-      ∙ by_columns at p n second short
-      (λ i lt. none_of (i / 60 == m) (at_place grid p (given_up_set grid.station part (i % 60)) i) (before_walk grid p (given_up_set grid.station part (i % 60)) i lt))
-      (λ i le. none_of (i / 60 == m) (at_place grid p (given_up_set grid.station part (i % 60)) i) (after_walk grid p (given_up_set grid.station part (i % 60)) i le))
-      ∙ sum_below_same 60 (λ s. sum_below 21 (λ j. at (60 * j + s))) (λ s. cost_beside grid p m s (given_up_set grid.station part s))
-      (λ s lt. sum_below_same 21 (λ j. at (60 * j + s)) (λ j. if j == m then 0 else at_place grid p (given_up_set grid.station part s) (60 * j + s)) (λ j few. in_column j s lt))
-
-  given_sum : part_cost grid p (given_up grid.station part) ≡ sum_below n (given grid p part)
-  unfolding given_up
-  given_sum = made_part grid p (given_up_set grid.station part) (given_up grid.station part) refl
-
-  -- the date costs what is kept does, and what is given up in the other minutes
-  pub date_by_second : p < 60 → n ≤ 1200 → date_cost grid p m part ≡ part_cost grid p (kept grid.station part) + given_beside grid p m part
-  date_by_second second short =
-      let both = sum_below_same n (given grid p part) (λ k. lost grid p m part k + beside k) (λ k within. slot (given grid p part k) ((p + k) / 60 == m)) in
-      omega (
-        arith,
-        kept_and_given grid p part,
-        given_sum,
-        both,
-        sum_of_two n (lost grid p m part) beside,
-        lost_sum grid p m part,
-        by_second second short,
-      )
+  pub given_by_slot : (m : ℕ) (part : List ℕ) → given_cost grid p m part ≡ sum_below n (given_in m part)
+  given_by_slot m part =
+      let both = sum_below_same n (given grid p part) (λ k. lost grid p m part k + given_in m part k) (λ k within. slot (given grid p part k) ((p + k) / 60 == m)) in
+      omega (arith, given_sum grid p part, both, sum_of_two n (lost grid p m part) (given_in m part), lost_sum grid p m part)
     where
       slot : (cost : ℕ) (here : Bool) → cost ≡ (if here then cost else 0) + (if here then 0 else cost)
       slot cost true = omega arith
       slot cost false = omega arith
 
--- a sum is at most this and what is given up costs in the seconds before second s
-abbrev pub IsBelow : Grid → ℕ → ℕ → List ℕ → ℕ → ℕ → ℕ → Type 0
-IsBelow grid p m part s base sum = sum ≤ base + sum_below s (λ x. cost_beside grid p m x (given_up_set grid.station part x))
+  -- parts that tell the same there cost the same
+  pub same_given : (m : ℕ) (a b : List ℕ) → ((s : ℕ) → s < 60 → is_given_up grid.station s ≡ true → get_or a s 0 ≡ get_or b s 0) → given_cost grid p m a ≡ given_cost grid p m b
+  same_given m a b same =
+      given_by_slot m a
+      ∙ sum_below_same n (given_in m a) (given_in m b)
+      (λ k within. ap (λ set. if (p + k) / 60 == m then 0 else cost_in grid k set) (by_test ((p + k) % 60) (is_given_up grid.station ((p + k) % 60)) (same ((p + k) % 60) (omega arith))))
+      ∙ sym (given_by_slot m b)
+    where
+      by_test : (s : ℕ) (gives : Bool) → (gives ≡ true → get_or a s 0 ≡ get_or b s 0) → (if gives then get_or a s 0 else 0) ≡ (if gives then get_or b s 0 else 0)
+      by_test s true is = is refl
+      by_test s false is = refl
 
--- the set without symbols costs nothing
-free_beside : (grid : Grid) (p m s : ℕ) → cost_beside grid p m s 0 ≡ 0
-free_beside grid p m s =
-    sum_of_none 21 (λ j. if j == m then 0 else at_place grid p 0 (60 * j + s)) (λ j few. none_of (j == m) (at_place grid p 0 (60 * j + s)) (place_free grid p (60 * j + s)))
+  -- two halves cost what the whole does
+  pub halves_together : (m : ℕ) (told low high : List ℕ) → IsSplit told low high → given_cost grid p m told ≡ given_cost grid p m low + given_cost grid p m high
+  halves_together m told low high split =
+      let both = sum_below_same n (given_in m told) (λ k. given_in m low k + given_in m high k)
+      (λ k within. slot k ((p + k) % 60) ((p + k) / 60 == m) (is_given_up grid.station ((p + k) % 60))
+      (λ gives. let call = in_call grid.station ((p + k) % 60) gives in split ((p + k) % 60) call.0 call.1)) in
+      omega (arith, both, given_by_slot m told, given_by_slot m low, given_by_slot m high, sum_of_two n (given_in m low) (given_in m high))
+    where
+      set : ℕ → List ℕ → Bool → ℕ
+      set s part gives = if gives then get_or part s 0 else 0
 
--- with one second more, of which there are two sets
-pub one_more_second : (grid : Grid) (c : Choices) (p m s : ℕ) (part : List ℕ) (base sum one other next : ℕ) → IsChosen c s (given_up_set grid.station part s)
-    → one ≤ cost_beside grid p m s (get_or c.one s 0) → other ≤ cost_beside grid p m s (get_or c.other s 0) → next ≡ sum + min one other
-    → IsBelow grid p m part s base sum → IsBelow grid p m part (s + 1) base next
-one_more_second grid c p m s part base sum one other next chosen is_one is_other is_next below =
-    omega (arith, below, is_next, by_choice chosen, sum_below_more s (λ x. cost_beside grid p m x (given_up_set grid.station part x)))
+      by_half : (k s : ℕ) → ((get_or low s 0 ≡ get_or told s 0) × (get_or high s 0 ≡ 0)) ⊎ ((get_or low s 0 ≡ 0) × (get_or high s 0 ≡ get_or told s 0))
+          → cost_in grid k (get_or told s 0) ≡ cost_in grid k (get_or low s 0) + cost_in grid k (get_or high s 0)
+      by_half k s (inl is) = omega (arith, ap (cost_in grid k) is.0, ap (cost_in grid k) is.1, none_chosen grid.station (cost_at grid.rows k))
+      by_half k s (inr is) = omega (arith, ap (cost_in grid k) is.0, ap (cost_in grid k) is.1, none_chosen grid.station (cost_at grid.rows k))
+
+      slot : (k s : ℕ) (here gives : Bool)
+          → (gives ≡ true → ((get_or low s 0 ≡ get_or told s 0) × (get_or high s 0 ≡ 0)) ⊎ ((get_or low s 0 ≡ 0) × (get_or high s 0 ≡ get_or told s 0)))
+          → (if here then 0 else cost_in grid k (if gives then get_or told s 0 else 0))
+          ≡ (if here then 0 else cost_in grid k (if gives then get_or low s 0 else 0)) + (if here then 0 else cost_in grid k (if gives then get_or high s 0 else 0))
+      slot k s true gives is = refl
+      slot k s false true is = by_half k s (is refl)
+      slot k s false false is = omega (arith, none_chosen grid.station (cost_at grid.rows k))
+
+-- a kind that is the same as another is of the same walks
+pub same_kind : (parts : PartTable) (station : Station) (across announced : Bool) (i : ℕ) (kind other : Kind) → AreSame other kind
+    → IsKindOf parts station across announced i kind → IsKindOf parts station across announced i other
+same_kind parts station across announced i kind other same is = record {
+  told = λ s within lt gives. let call = in_call station s gives in same.told s call.0 call.1 ∙ is.told s within lt gives;
+  last = λ within. same.last ∙ is.last within;
+}
+
+-- one kind more
+pub one_more_kind : (parts : PartTable) (station : Station) (across : Bool) (all new : List Kind) (places more : List ℕ) (kind : Kind) (n : ℕ)
+    → AreKindsOf parts station across all places n → HasPlace all new places more kind → IsKindOf parts station across (n % 2 == 1) (n / 2) kind
+    → AreKindsOf parts station across new more (n + 1)
+one_more_kind parts station across all new places more kind n are has is =
+    subst (λ (xs : List ℕ). AreKindsOf parts station across new xs (n + 1)) (sym has.added)
+    (record {
+      count = omega (arith, length_push places has.place, are.count);
+      within = λ q lt. elim (cases_lt q n) [
+        | inl early ↦ omega (arith, ap (λ (j : ℕ). j) (before q early), are.within q early, has.placed.longer)
+        | inr late ↦ omega (arith, last q lt late, has.placed.within)
+      ];
+      each = λ q lt. elim (cases_lt q n) [
+        | inl early ↦ subst (λ (j : ℕ). IsKindOf parts station across (q % 2 == 1) (q / 2) (kind_at new j)) (sym (before q early))
+            (subst (λ (k : Kind). IsKindOf parts station across (q % 2 == 1) (q / 2) k) (sym (has.placed.kept (get_or places q 0) (are.within q early))) (are.each q early))
+        | inr late ↦ (
+            let here : n ≡ q = omega (arith, lt, late) in
+            subst (λ (j : ℕ). IsKindOf parts station across (q % 2 == 1) (q / 2) (kind_at new j)) (sym (last q lt late))
+            (subst (λ (m : ℕ). IsKindOf parts station across (m % 2 == 1) (m / 2) (kind_at new has.place)) here
+            (same_kind parts station across (n % 2 == 1) (n / 2) kind (kind_at new has.place) has.placed.same is)))
+      ];
+    })
   where
-    by_choice : IsChosen c s (given_up_set grid.station part s) → min one other ≤ cost_beside grid p m s (given_up_set grid.station part s)
-    by_choice (inl e) = omega (arith, is_one, ap (cost_beside grid p m s) e)
-    by_choice (inr (inl e)) = omega (arith, is_other, ap (cost_beside grid p m s) e)
-    by_choice (inr (inr e)) = omega (arith, is_one, ap (cost_beside grid p m s) e, free_beside grid p m s)
+    before : (q : ℕ) → q < n → get_or (places ++ has.place ∷ []) q 0 ≡ get_or places q 0
+    before q early = get_or-append places (has.place ∷ []) 0 q (omega (arith, early, are.count))
 
--- and of all of the call sign
-pub all_seconds : (grid : Grid) (p m s : ℕ) (part : List ℕ) (base sum : ℕ) → s ≤ 60 → IsBelow grid p m part s base sum → sum ≤ base + given_beside grid p m part
-all_seconds grid p m s part base sum le below =
-    omega (arith, below, sum_of_fewer s 60 (λ x. cost_beside grid p m x (given_up_set grid.station part x)) le)
+    last : (q : ℕ) → q < n + 1 → n ≤ q → get_or (places ++ has.place ∷ []) q 0 ≡ has.place
+    last q lt late = get_or_push places has.place 0 q (omega (arith, lt, late, are.count))
 
--- the least of all walks, by groups of runs
-pub are_least : (grid : Grid) (parts : PartTable) (walks : List (List ℕ)) (announced : Bool) (groups : List Choices) (table : LeastTable) → length grid.rows ≤ 1200
-    → AreWalkCosts walks grid parts.times → 0 < length groups
-    → ((i : ℕ) → i < length parts.runs → AreChosen (choices_at groups (group_of (length groups) i)) grid.station (part_where announced (run_at parts.runs i)))
-    → AreGroups 0 (IsLeastOf grid walks groups) (length groups) table.costs.items 60 → table.groups ≡ length groups
-    → AreLeast parts grid announced table
-are_least grid parts walks announced groups table short priced some chosen are count = record {
-  sums = record { some = omega (arith, some, count); count = omega (arith, are.count, ap (λ n. 60 * n) count) };
-  each = λ i p u is_run second day.
-      let g : ℕ = group_of (length groups) i in
-      let part = part_where announced (run_at parts.runs i) in
-      let is_group : g < length groups = omega (arith, some) in
+-- the halves of one kind more
+pub one_more_split : (kinds all new : List Kind) (splits more : List Split) (split : Split) (n : ℕ) → AreHalves kinds all splits n → IsSplitTo all new (kind_at kinds n).told split
+    → more ≡ splits ++ split ∷ [] → AreHalves kinds new more (n + 1)
+one_more_split kinds all new splits more split n are is added =
+    subst (λ (xs : List Split). AreHalves kinds new xs (n + 1)) (sym added)
+    (record {
+      count = omega (arith, length_push splits split, are.count);
+      low = λ k lt. elim (cases_lt k n) [
+        | inl early ↦ omega (arith, ap (λ (x : Split). x.low) (before k early), are.low k early, is.longer)
+        | inr late ↦ omega (arith, ap (λ (x : Split). x.low) (last k lt late), is.low)
+      ];
+      high = λ k lt. elim (cases_lt k n) [
+        | inl early ↦ omega (arith, ap (λ (x : Split). x.high) (before k early), are.high k early, is.longer)
+        | inr late ↦ omega (arith, ap (λ (x : Split). x.high) (last k lt late), is.high)
+      ];
+      each = λ k lt. elim (cases_lt k n) [
+        | inl early ↦ subst (λ (x : Split). IsSplit (kind_at kinds k).told (kind_at new x.low).told (kind_at new x.high).told) (sym (before k early))
+            (subst (λ (h : Kind). IsSplit (kind_at kinds k).told h.told (kind_at new (split_at splits k).high).told) (sym (is.kept (split_at splits k).low (are.low k early)))
+            (subst (λ (h : Kind). IsSplit (kind_at kinds k).told (kind_at all (split_at splits k).low).told h.told) (sym (is.kept (split_at splits k).high (are.high k early)))
+            (are.each k early)))
+        | inr late ↦ (
+            let here : n ≡ k = omega (arith, lt, late) in
+            subst (λ (x : Split). IsSplit (kind_at kinds k).told (kind_at new x.low).told (kind_at new x.high).told) (sym (last k lt late))
+            (subst (λ (j : ℕ). IsSplit (kind_at kinds j).told (kind_at new split.low).told (kind_at new split.high).told) here is.each))
+      ];
+    })
+  where
+    before : (k : ℕ) → k < n → split_at (splits ++ split ∷ []) k ≡ split_at splits k
+    before k early = get_or-append splits (split ∷ []) no_split k (omega (arith, early, are.count))
+
+    last : (k : ℕ) → k < n + 1 → n ≤ k → split_at (splits ++ split ∷ []) k ≡ split
+    last k lt late = get_or_push splits split no_split k (omega (arith, lt, late, are.count))
+
+-- the least of each kind by its halves is that by what its dates tell
+pub by_halves : (grid : Grid) (walks : List (List ℕ)) (kinds all : List Kind) (splits : List Split) (rows : List (List ℕ)) (across : Bool) (p n : ℕ) (old new : List ℕ)
+    → AreHalves kinds all splits (length kinds) → AreHalfCosts grid p all rows (length all) → n ≡ begin_count (length grid.rows) across p
+    → AreAdded 0 (IsLeastBy walks kinds splits rows p n) old new (length kinds) → AreAdded 0 (IsLeastOf grid walks kinds across p) old new (length kinds)
+by_halves grid walks kinds all splits rows across p n old new halves costs count added = record {
+  count = added.count;
+  kept = added.kept;
+  each = λ k lt u begin.
+      let m : ℕ = minutes_to_call u in
+      let few : m < 30 = omega arith in
+      let split = split_at splits k in
       omega (
         arith,
-        ap (λ n. get_or table.costs.items (p * n + group_of n i) 0) count,
-        are.each p g second is_group u part day (chosen i is_run),
-        priced.each p u second day,
-        date_by_second grid p (minutes_to_call u) part second short,
+        added.each k lt u (subst (λ (c : ℕ). IsBegin c (kind_at kinds k).last u) (sym count) begin),
+        costs.each split.low m (halves.low k lt) few,
+        costs.each split.high m (halves.high k lt) few,
+        halves_together grid p m (kind_at kinds k).told (kind_at all split.low).told (kind_at all split.high).told (halves.each k lt),
       );
 }
 
-module _ (w : PricedParts) (costs : List (List ℕ)) (more : List ℕ) (priced : ArePriced w.parts w.grid costs more) (announced : Bool) (p i : ℕ)
-    (second : p < 60) (is_run : i < length w.parts.runs) where
-  abbrev slots : ℕ
-  slots = length w.grid.rows
+-- the places of a run
+pub place_is : (announced : Bool) (i : ℕ) → ((place_of_run announced i % 2 == 1) ≡ announced) × (place_of_run announced i / 2 ≡ i)
+place_is true i = (eq-eqb ((2 * i + 1) % 2) 1 (omega arith), omega arith)
+place_is false i = (ne_eqb (2 * i % 2) 1 (λ e. omega (arith, e)), omega arith)
 
-  abbrev part : List ℕ
-  part = part_where announced (run_at w.parts.runs i)
+pub place_lt : (announced : Bool) (i n : ℕ) → i < n → place_of_run announced i < 2 * n
+place_lt true i n lt = omega arith
+place_lt false i n lt = omega arith
 
-  -- what the walk from minute u of a day costs with the date
-  abbrev pub with_date : ℕ → ℕ
-  with_date u =
-      walk_cost w.grid.station (cost_at w.grid.rows) (length w.grid.rows) p w.parts.times u
-      + date_cost w.grid p (minutes_to_call u) (part_where announced (run_at w.parts.runs i))
+pub begins_before : (across : Bool) (i n : ℕ) → end_in across i < n → i < n
+begins_before true i n lt = omega (arith, lt)
+begins_before false i n lt = lt
 
-  abbrev time_in : ℕ → ℕ → ℕ
-  time_in u k = get_or (times_at w.parts ((u + (p + k) / 60) % 1440)) ((p + k) % 60) 0
-
-  abbrev date_in : ℕ → ℕ
-  date_in k = get_or part ((p + k) % 60) 0
-
-  in_slot : (u k : ℕ) → u < 1440 → k < slots
-      → cost_in w.grid k (overlay (time_in u k) (date_in k)) + lost w.grid p (minutes_to_call u) part k
-      ≡ cost_in w.grid k (walk_set w.parts.times u p k) + cost_in w.grid k (date_in k)
-  in_slot u k day within =
-      let st = w.parts.station in
-      let table = priced.table in
-      let j : ℕ = (p + k) / 60 in
-      let s : ℕ = (p + k) % 60 in
-      let v : ℕ = (u + j) % 1440 in
-      let in_day : v < 1440 = omega arith in
-      let of_minute : s < 60 = omega arith in
-      let few : j < 30 = omega (arith, second, priced.short) in
-      let told = λ (e : (is_time_second st s || (calls st v && is_given_up st s)) ≡ true). table.time_told v s in_day of_minute (tells_by st v s ∙ e) in
-      let untold = λ (e : (is_time_second st s || (calls st v && is_given_up st s)) ≡ false). table.time_alone v s in_day of_minute (tells_by st v s ∙ e) in
-      let alone = λ (e : is_time_second st s ≡ true). table.date_alone announced i s is_run of_minute e in
-      let called = λ (e : is_given_up st s ≡ true). call_minute st u j s few e in
-      ap (λ (x : Station). cost_in w.grid k (overlay (time_in u k) (date_in k))
-      + (if j == minutes_to_call u then cost_in w.grid k (if is_given_up x s then date_in k else 0) else 0)) (sym priced.station)
-      ∙ parts_of_second (cost_in w.grid k) (time_in u k) (date_in k) (is_time_second st s) (calls st v) (is_given_up st s) (j == minutes_to_call u)
-      (none_chosen w.grid.station (cost_at w.grid.rows k)) told untold alone called
-
-  -- that is no more than the slots can cost
-  pub day_bound : (u : ℕ) → u < 1440 → with_date u ≤ most_cost w.grid
-  day_bound u day =
-      let m : ℕ = minutes_to_call u in
-      let told = λ (k : ℕ). cost_in w.grid k (overlay (time_in u k) (date_in k)) in
-      let sums = sums_of_two slots told (lost w.grid p m part) (λ k. cost_in w.grid k (walk_set w.parts.times u p k)) (λ k. cost_in w.grid k (date_in k))
-      (λ k within. in_slot u k day within) in
-      let bound = sum_below_bound slots (w.grid.receivers * RECEIVER_COST) told (λ k within. priced.small k (overlay (time_in u k) (date_in k)) within) in
-      omega (arith, sums, bound, lost_sum w.grid p m part, lost_le w.grid p m part, part_by_second w.grid p part)
-
-  -- and a sequence costs no less
-  pub no_less : (t0 : ℕ) → IsRegularIn w announced p t0 i → with_date ((t0 + (run_at w.parts.runs i).shift) % 1440) ≤ cost_of w announced p t0
-  no_less t0 regular = by_test (last_minute w p t0 / 1440 == t0 / 1440) refl
-    where
-      total : (added : ℕ) → ((last_minute w p t0 / 1440 == t0 / 1440) ≡ true → IsAdded w.grid p added)
-          → ((last_minute w p t0 / 1440 == t0 / 1440) ≡ false → added ≡ 0) → with_date ((t0 + (run_at w.parts.runs i).shift) % 1440) ≤ cost_of w announced p t0
-      total added one two =
-          let all = total_at w costs more priced announced p t0 i regular ((t0 + (run_at w.parts.runs i).shift) % 1440)
-          (minutes_to_call ((t0 + (run_at w.parts.runs i).shift) % 1440))
-          (walk_cost w.grid.station (cost_at w.grid.rows) (length w.grid.rows) p w.parts.times ((t0 + (run_at w.parts.runs i).shift) % 1440))
-          (date_cost w.grid p (minutes_to_call ((t0 + (run_at w.parts.runs i).shift) % 1440)) part) added refl refl refl refl one two in
-          omega (arith, all.cost)
-
-      by_test : (t : Bool) → (last_minute w p t0 / 1440 == t0 / 1440) ≡ t
-          → with_date ((t0 + (run_at w.parts.runs i).shift) % 1440) ≤ cost_of w announced p t0
-      by_test true e = total (get_or more p 0) (λ same. priced.added p second) (λ other. absurd cc)
-      by_test false e = total 0 (λ same. absurd cc) (λ other. refl)
+-- the least of all walks, by kinds
+pub are_least : (grid : Grid) (parts : PartTable) (walks : List (List ℕ)) (across : Bool) (kinds : List Kind) (table : LeastTable) → AreWalkCosts walks grid parts.times
+    → AreKindsOf parts grid.station across kinds table.places.items (2 * length parts.runs)
+    → AreGroups 0 (IsLeastOf grid walks kinds across) (length kinds) table.costs.items 60 → table.kinds ≡ length kinds → AreLeast parts grid across table
+are_least grid parts walks across kinds table priced of are count = record {
+  sums = record {
+    costs = omega (arith, are.count, ap (λ n. 60 * n) count);
+    places = of.count;
+    within = λ q lt. omega (arith, of.within q lt, count);
+  };
+  each = λ announced i p u is_end second day begin.
+      let q : ℕ = place_of_run announced i in
+      let lt = place_lt announced i (length parts.runs) (begins_before across i (length parts.runs) is_end) in
+      let place : ℕ = get_or table.places.items (place_of_run announced i) 0 in
+      let kind = kind_at kinds place in
+      let is_place = place_is announced i in
+      let is = subst (λ (j : ℕ). IsKindOf parts grid.station across announced j (kind_at kinds place)) is_place.1
+      (subst (λ (b : Bool). IsKindOf parts grid.station across b (place_of_run announced i / 2) (kind_at kinds place)) is_place.0 (of.each (place_of_run announced i) lt)) in
+      let begin_too = subst (λ (last : ℕ). IsBegin (begin_count (length grid.rows) across p) last u) (sym (is.last is_end)) begin in
+      omega (
+        arith,
+        ap (λ n. get_or table.costs.items (p * n + place) 0) count,
+        are.each p place second (of.within (place_of_run announced i) lt) u begin_too,
+        same_given grid p (minutes_to_call u) kind.told (told_of parts across announced i) (λ s of_minute gives. is.told s is_end of_minute gives),
+        priced.each p u second day,
+      );
+}

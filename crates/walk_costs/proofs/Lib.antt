@@ -15,3 +15,4 @@ pub mod PairLaws
 pub mod ScoredLaws
 pub mod NeighbourLaws
 pub mod LeastLaws
+pub mod FloorLaws

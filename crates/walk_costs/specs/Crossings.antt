@@ -1,10 +1,10 @@
 -- Walks with 60 seconds in each minute that begin in one run of a station's minutes and end in the next.
 use Rattle.std.specs.Prelude.{ℕ, ◌≡◌, ◌+◌, ◌<◌, ◌≤◌, Bool, nat_lt, if◌then◌else◌, length, slice_index}
-use Rattle.definitions.specs.time.Calendar.{minute_length, minutes_per_day}
+use Rattle.definitions.specs.time.Calendar.{minute_length}
 use Rattle.symbol_cost.specs.Grid.{cost_at}
-use Rattle.minute_parts.specs.Parts.{IsInRun, local_time, part_where}
+use Rattle.minute_parts.specs.Parts.{IsInRun, part_where}
 use Rattle.minute_parts.specs.Runs.{end_of_run, run_at}
-use Rattle.slot_columns.specs.Parts.{split_cost, walk_cost}
+use Rattle.slot_columns.specs.Parts.{split_cost}
 use Rattle.slot_columns.specs.declared.limits.TheConstants.{SECONDS_PER_MINUTE}
 use Rattle.slot_columns.specs.declared.split.TheConstants.{SPLITS}
 use Rattle.walk_costs.specs.declared.crossing.Crossing.{Crossing}
@@ -21,12 +21,6 @@ pub record IsAcross (w : PricedParts) (announced : Bool) (p t0 i : ℕ) : Type 0
 -- the run in which walk minute m lies, where the first b minutes lie in the run i
 abbrev pub run_across : ℕ → ℕ → ℕ → ℕ
 run_across i b m = if nat_lt m b then i else i + 1
-
--- what the times of day cost at the least in the walks from second p that begin in the run i and end after it
-pub record IsTimeAcross (w : PricedParts) (p i least : ℕ) : Type 0 where
-  pub each : (t0 : ℕ) → t0 < end_of_run w.parts.runs w.parts.end i → end_of_run w.parts.runs w.parts.end i ≤ last_minute w p t0
-      → least ≤ walk_cost w.grid.station (cost_at w.grid.rows) (length w.grid.rows) p w.parts.times (local_time (run_at w.parts.runs i) t0)
-  pub some : (u : ℕ) × (u < minutes_per_day) × (least ≡ walk_cost w.grid.station (cost_at w.grid.rows) (length w.grid.rows) p w.parts.times u)
 
 -- where the next run begins, and what the dates of both cost, by how many minutes of a walk lie in the first
 pub record IsCrossing (w : PricedParts) (c : Crossing) : Type 0 where

@@ -1,18 +1,18 @@
 -- What a walk of 60 seconds in each minute costs by the two parts of its telegrams, and what DUT1 adds to it.
-use Rattle.std.specs.Prelude.{ℕ, ◌≡◌, ◌+◌, ◌-◌, ◌%◌, ◌<◌, ◌≤◌, true, false, if◌then◌else◌, List, length, map, slice_index, unwrap_or, ℤ}
+use Rattle.std.specs.Prelude.{ℕ, ◌≡◌, ◌+◌, ◌-◌, ◌*◌, ◌%◌, ◌<◌, ◌≤◌, true, false, if◌then◌else◌, List, length, map, slice_index, unwrap_or, ℤ}
 use Rattle.std.specs.List.{range_with_len}
+use Rattle.signal_base.specs.declared.limits.TheConstants.{MOST_RECEIVERS}
 use Rattle.signal_base.specs.declared.station.Station.{Station}
 use Rattle.definitions.specs.codes.Vocabulary.{free, only}
 use Rattle.definitions.specs.time.Calendar.{minutes_per_hour}
 use Rattle.definitions.specs.heard.Costs.{least}
 use Rattle.definitions.specs.heard.Dut1.{dut1_symbol, dut1_values, has_dut1, is_dut1_second}
 use Rattle.symbol_cost.specs.Grid.{Grid, cost_at}
+use Rattle.symbol_cost.specs.declared.limits.TheConstants.{RECEIVER_COST}
 use Rattle.slot_columns.specs.Parts.{layered_cost, minute_cost}
 use Rattle.slot_columns.specs.declared.limits.TheConstants.{SECONDS_PER_MINUTE}
 use Rattle.minute_parts.specs.declared.call.TheConstants.{CALL_BEGIN, CALL_END, CALL_MINUTE, CALL_MINUTES}
 use Rattle.minute_parts.specs.Overlay.{is_given_up}
-use Rattle.walk_costs.specs.declared.date.ByCall.{ByCall}
-use Rattle.walk_costs.specs.declared.date.ByCall.TheVariants.{Never, Each}
 
 -- what a part costs over the slots of a grid where each minute of the walk carries it
 abbrev pub part_cost : Grid → ℕ → List ℕ → ℕ
@@ -46,10 +46,18 @@ abbrev pub date_cost : Grid → ℕ → ℕ → List ℕ → ℕ
 date_cost grid p m part =
     part_cost grid p part - minute_cost grid.station (cost_at grid.rows) (length grid.rows) p m (given_up grid.station part)
 
--- what is told of a date's cost, where the call sign comes after so many minutes
-abbrev pub cost_at_call : ByCall → ℕ → ℕ
-cost_at_call (Never cost) m = cost
-cost_at_call (Each costs) m = slice_index costs m
+-- and this in the seconds that are given up alone
+abbrev pub given_cost : Grid → ℕ → ℕ → List ℕ → ℕ
+given_cost grid p m part =
+    part_cost grid p (given_up grid.station part)
+    - minute_cost grid.station (cost_at grid.rows) (length grid.rows) p m (given_up grid.station part)
+
+-- which is no more than this, in at most 21 minutes
+abbrev pub most_in_call : ℕ
+most_in_call = (CALL_END - CALL_BEGIN) * (MOST_RECEIVERS * RECEIVER_COST)
+
+abbrev pub most_given : ℕ
+most_given = 21 * most_in_call
 
 -- In the seconds that tell DUT1 each minute has the set of both symbols, or, where d tenths are told, one of them.
 abbrev pub free_set : Station → ℕ → ℕ

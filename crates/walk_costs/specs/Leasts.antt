@@ -1,91 +1,91 @@
--- What the walks cost at the least that lie in one run, at any time of day and whatever the date tells in the seconds that
--- are given up for the call sign.
-use Rattle.std.specs.Prelude.{ℕ, ◌≡◌, ◌⊎◌, ◌+◌, ◌-◌, ◌*◌, ◌/◌, ◌<◌, ◌≤◌, ◌==◌, Bool, if◌then◌else◌, List, [], length, min, slice_index, slice_index_or}
-use Rattle.signal_base.specs.declared.limits.TheConstants.{MOST_RECEIVERS}
-use Rattle.signal_base.specs.declared.station.Station.{Station}
+-- What walks cost at the least, at any time of day at which they may begin.
+use Rattle.std.specs.Prelude.{ℕ, ◌≡◌, ◌⊎◌, ◌+◌, ◌*◌, ◌<◌, ◌≤◌, Bool, if◌then◌else◌, List, length, max, slice_index, slice_index_or}
+use Rattle.signal_base.specs.declared.limits.TheConstants.{GREATEST_COST}
 use Rattle.definitions.specs.time.Calendar.{minutes_per_day}
-use Rattle.definitions.specs.codes.Vocabulary.{only}
-use Rattle.definitions.specs.heard.Costs.{sum_below}
 use Rattle.symbol_cost.specs.Grid.{Grid, cost_at}
-use Rattle.symbol_cost.specs.declared.limits.TheConstants.{RECEIVER_COST}
 use Rattle.minute_parts.specs.declared.call.TheConstants.{CALL_BEGIN, CALL_END, CALL_MINUTES}
-use Rattle.minute_parts.specs.Parts.{PartTable, part_where}
-use Rattle.minute_parts.specs.Runs.{run_at}
+use Rattle.minute_parts.specs.Parts.{PartTable}
+use Rattle.minute_parts.specs.Walks.{later_minutes}
 use Rattle.slot_columns.specs.Parts.{entry, walk_cost}
-use Rattle.slot_columns.specs.Tables.{at_place}
 use Rattle.slot_columns.specs.declared.limits.TheConstants.{SECONDS_PER_MINUTE}
-use Rattle.walk_costs.specs.declared.least_in.BitCosts.{BitCosts}
-use Rattle.walk_costs.specs.declared.least_in.Choices.{Choices}
-use Rattle.walk_costs.specs.declared.least_in.LeastTable.{LeastTable}
-use Rattle.walk_costs.specs.declared.least_in.LeastWalks.{LeastWalks}
-use Rattle.walk_costs.specs.declared.least_in.TheConstants.{GROUP, WALK_MINUTES}
-use Rattle.walk_costs.specs.Dates.{date_cost, given_up_set, kept, minutes_to_call, part_cost}
+use Rattle.walk_costs.specs.declared.halves.Split.{Split}
+use Rattle.walk_costs.specs.declared.kinds.Kind.{Kind}
+use Rattle.walk_costs.specs.declared.least.Begins.{Begins}
+use Rattle.walk_costs.specs.declared.least.LeastTable.{LeastTable}
+use Rattle.walk_costs.specs.Dates.{given_cost, minutes_to_call, most_given}
+use Rattle.walk_costs.specs.Kinds.{IsBegin, end_in, kind_at, last_begin, told_of}
 
--- what a set costs in second s of a walk from second p, in all minutes but walk minute m
-abbrev pub cost_beside : Grid → ℕ → ℕ → ℕ → ℕ → ℕ
-cost_beside grid p m s set = sum_below WALK_MINUTES (λ j. if j == m then 0 else at_place grid p set (SECONDS_PER_MINUTE * j + s))
+-- in how many minutes a walk may begin: in any of a day, or in those from which it goes over the end of a run
+abbrev pub begin_count : ℕ → Bool → ℕ → ℕ
+begin_count slots across p = if across then max (later_minutes slots p) 1 else minutes_per_day
 
-abbrev pub most_beside : ℕ
-most_beside = WALK_MINUTES * (MOST_RECEIVERS * RECEIVER_COST)
+-- a second of the call sign is told in one of two halves
+abbrev pub IsSplit : List ℕ → List ℕ → List ℕ → Type 0
+IsSplit told low high =
+    (s : ℕ) → CALL_BEGIN ≤ s → s < CALL_END
+    → ((slice_index low s ≡ slice_index told s) × (slice_index high s ≡ 0)) ⊎ ((slice_index low s ≡ 0) × (slice_index high s ≡ slice_index told s))
 
--- and what a part costs there in the seconds that are given up
-abbrev pub given_beside : Grid → ℕ → ℕ → List ℕ → ℕ
-given_beside grid p m part = sum_below SECONDS_PER_MINUTE (λ s. cost_beside grid p m s (given_up_set grid.station part s))
+abbrev pub no_split : Split
+no_split = record { low = 0; high = 0 }
 
--- the set is one of the two of a second, or one of these costs nothing
-abbrev pub IsChosen : Choices → ℕ → ℕ → Type 0
-IsChosen c s set = (set ≡ slice_index c.one s) ⊎ ((set ≡ slice_index c.other s) ⊎ (slice_index c.one s ≡ 0))
+abbrev pub split_at : List Split → ℕ → Split
+split_at splits k = slice_index_or splits k no_split
 
--- and so is what a part tells in each second that is given up
-abbrev pub AreChosen : Choices → Station → List ℕ → Type 0
-AreChosen c station part = (s : ℕ) → CALL_BEGIN ≤ s → s < CALL_END → IsChosen c s (given_up_set station part s)
+-- where the halves of what is told stand in the new list, which goes on where the old one ends
+pub record IsSplitTo (old new : List Kind) (told : List ℕ) (split : Split) : Type 0 where
+  pub low : split.low < length new
+  pub high : split.high < length new
+  pub each : IsSplit told (kind_at new split.low).told (kind_at new split.high).told
+  pub longer : length old ≤ length new
+  pub kept : (k : ℕ) → k < length old → kind_at new k ≡ kind_at old k
 
--- a group's two sets
-abbrev pub no_sets : Choices
-no_sets = record { one = []; other = [] }
+-- where the halves of the first n kinds stand
+pub record AreHalves (kinds all : List Kind) (splits : List Split) (n : ℕ) : Type 0 where
+  pub count : length splits ≡ n
+  pub low : (k : ℕ) → k < n → (split_at splits k).low < length all
+  pub high : (k : ℕ) → k < n → (split_at splits k).high < length all
+  pub each : (k : ℕ) → k < n → IsSplit (kind_at kinds k).told (kind_at all (split_at splits k).low).told (kind_at all (split_at splits k).high).told
 
-abbrev pub choices_at : List Choices → ℕ → Choices
-choices_at groups g = slice_index_or groups g no_sets
+-- what the first n halves cost in the seconds that are given up
+pub record AreHalfCosts (grid : Grid) (p : ℕ) (halves : List Kind) (rows : List (List ℕ)) (n : ℕ) : Type 0 where
+  pub count : length rows ≡ n
+  pub each : (h m : ℕ) → h < n → m < CALL_MINUTES → entry rows h m ≡ given_cost grid p m (kind_at halves h).told
+  pub small : (h m : ℕ) → h < n → m < CALL_MINUTES → entry rows h m ≤ most_given
 
--- no more than what each bit costs in the seconds of the call sign
-pub record AreBitCosts (grid : Grid) (p : ℕ) (bits : BitCosts) : Type 0 where
-  pub zeros : (i m : ℕ) → i < CALL_END - CALL_BEGIN → m < CALL_MINUTES → entry bits.zeros i m ≡ cost_beside grid p m (CALL_BEGIN + i) (only 0)
-  pub ones : (i m : ℕ) → i < CALL_END - CALL_BEGIN → m < CALL_MINUTES → entry bits.ones i m ≡ cost_beside grid p m (CALL_BEGIN + i) (only 1)
-  pub nothing : (m : ℕ) → m < CALL_MINUTES → slice_index bits.nothing m ≡ 0
+-- what the times of day cost at the least in the walks from second p that begin in the last n minutes up to one
+pub record AreBegins (walks : List (List ℕ)) (p n : ℕ) (begins : Begins) : Type 0 where
+  pub least : (u : ℕ) → IsBegin n begins.last u → slice_index begins.costs (minutes_to_call u) ≤ entry walks p u
+  pub small : (m : ℕ) → m < CALL_MINUTES → slice_index begins.costs m ≤ GREATEST_COST
 
-pub record AreSmallBits (bits : BitCosts) : Type 0 where
-  pub zeros : (i m : ℕ) → i < CALL_END - CALL_BEGIN → m < CALL_MINUTES → entry bits.zeros i m ≤ most_beside
-  pub ones : (i m : ℕ) → i < CALL_END - CALL_BEGIN → m < CALL_MINUTES → entry bits.ones i m ≤ most_beside
-  pub nothing : (m : ℕ) → m < CALL_MINUTES → slice_index bits.nothing m ≡ 0
+-- no walk of kind k costs less, by the costs of its halves
+abbrev pub IsLeastBy : List (List ℕ) → List Kind → List Split → List (List ℕ) → ℕ → ℕ → ℕ → ℕ → Type 0
+IsLeastBy walks kinds splits rows p n k least =
+    (u : ℕ) → IsBegin n (kind_at kinds k).last u
+    → least ≤ entry walks p u + entry rows (split_at splits k).low (minutes_to_call u) + entry rows (split_at splits k).high (minutes_to_call u)
 
--- Where the dates of group g tell one of its two sets in the seconds that are given up, no walk from second p costs less
--- with what they tell there.
-abbrev pub IsLeastOf : Grid → List (List ℕ) → List Choices → ℕ → ℕ → ℕ → Type 0
-IsLeastOf grid walks groups p g least =
-    (u : ℕ) (part : List ℕ) → u < minutes_per_day → AreChosen (choices_at groups g) grid.station part
-    → least ≤ entry walks p u + given_beside grid p (minutes_to_call u) part
+-- and by what its dates tell
+abbrev pub IsLeastOf : Grid → List (List ℕ) → List Kind → Bool → ℕ → ℕ → ℕ → Type 0
+IsLeastOf grid walks kinds across p k least =
+    (u : ℕ) → IsBegin (begin_count (length grid.rows) across p) (kind_at kinds k).last u
+    → least ≤ entry walks p u + given_cost grid p (minutes_to_call u) (kind_at kinds k).told
 
--- there is one for each run
-pub record AreLeastSums (table : LeastTable) : Type 0 where
-  pub some : 0 < table.groups
-  pub count : length table.costs.items ≡ SECONDS_PER_MINUTE * table.groups
+-- there is a cost for each run
+pub record AreLeastSums (table : LeastTable) (runs : ℕ) : Type 0 where
+  pub costs : length table.costs.items ≡ SECONDS_PER_MINUTE * table.kinds
+  pub places : length table.places.items ≡ 2 * runs
+  pub within : (q : ℕ) → q < 2 * runs → slice_index table.places.items q < table.kinds
 
--- the group of run i, where there are n groups
-abbrev pub group_of : ℕ → ℕ → ℕ
-group_of n i = min (i / GROUP) (n - 1)
+-- that of the run i
+abbrev pub place_of_run : Bool → ℕ → ℕ
+place_of_run announced i = if announced then 2 * i + 1 else 2 * i
 
-abbrev pub least_at : LeastTable → ℕ → ℕ → ℕ
-least_at table p i = slice_index table.costs.items (p * table.groups + group_of table.groups i)
+abbrev pub least_at : LeastTable → Bool → ℕ → ℕ → ℕ
+least_at table announced p i = slice_index table.costs.items (p * table.kinds + slice_index table.places.items (place_of_run announced i))
 
--- With what the date of a run costs in the seconds that aren't given up, no walk from second p costs less that lies in it,
--- at any time of day.
-pub record AreLeast (parts : PartTable) (grid : Grid) (announced : Bool) (table : LeastTable) : Type 0 where
-  pub sums : AreLeastSums table
-  pub each : (i p u : ℕ) → i < length parts.runs → p < SECONDS_PER_MINUTE → u < minutes_per_day
-      → part_cost grid p (kept grid.station (part_where announced (run_at parts.runs i))) + least_at table p i
-      ≤ walk_cost grid.station (cost_at grid.rows) (length grid.rows) p parts.times u
-      + date_cost grid p (minutes_to_call u) (part_where announced (run_at parts.runs i))
-
--- where a leap second is announced, or where none is
-abbrev pub least_where : Bool → LeastWalks → LeastTable
-least_where announced least = if announced then least.announced else least.unannounced
+-- no walk from second p costs less that begins in the run, with what its dates tell in the seconds that are given up
+pub record AreLeast (parts : PartTable) (grid : Grid) (across : Bool) (table : LeastTable) : Type 0 where
+  pub sums : AreLeastSums table (length parts.runs)
+  pub each : (announced : Bool) (i p u : ℕ) → end_in across i < length parts.runs → p < SECONDS_PER_MINUTE → u < minutes_per_day
+      → IsBegin (begin_count (length grid.rows) across p) (last_begin parts across i) u
+      → least_at table announced p i
+      ≤ walk_cost grid.station (cost_at grid.rows) (length grid.rows) p parts.times u + given_cost grid p (minutes_to_call u) (told_of parts across announced i)

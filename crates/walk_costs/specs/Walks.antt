@@ -1,5 +1,5 @@
 -- Walks with 60 seconds in each minute that lie in one run of a station's minutes, and what they cost.
-use Rattle.std.specs.Prelude.{ℕ, ◌≡◌, ◌≢◌, ◌+◌, ◌*◌, ◌<◌, ◌≤◌, Bool, true, if◌then◌else◌, List, length, slice_index}
+use Rattle.std.specs.Prelude.{ℕ, ◌≡◌, ◌≢◌, ◌+◌, ◌*◌, ◌<◌, ◌≤◌, Bool, false, true, if◌then◌else◌, List, length, slice_index}
 use Rattle.signal_base.specs.declared.limits.TheConstants.{MOST_RECEIVERS, MOST_SECONDS}
 use Rattle.signal_base.specs.declared.station.Station.{Station}
 use Rattle.definitions.specs.declared.sequence.Sequence.{Sequence}
@@ -15,12 +15,11 @@ use Rattle.minute_parts.specs.Walks.{later_minutes}
 use Rattle.slot_columns.specs.Layered.{LayerSums, cost_of_both, layer_cost, part_at, together}
 use Rattle.slot_columns.specs.Parts.{AreWalkCosts}
 use Rattle.slot_columns.specs.declared.limits.TheConstants.{SECONDS_PER_MINUTE}
-use Rattle.walk_costs.specs.declared.date.DateCost.{DateCost}
 use Rattle.walk_costs.specs.declared.shown.Shown.{Shown}
 use Rattle.walk_costs.specs.declared.shown.Shown.TheVariants.{Never, Always, Sometimes}
-use Rattle.walk_costs.specs.Dates.{AreAdded, cost_at_call, date_cost, kept, part_cost}
-use Rattle.walk_costs.specs.declared.least_in.LeastWalks.{LeastWalks}
-use Rattle.walk_costs.specs.Leasts.{AreLeast, least_where}
+use Rattle.walk_costs.specs.Dates.{AreAdded, kept, part_cost}
+use Rattle.walk_costs.specs.declared.least.LeastWalks.{LeastWalks}
+use Rattle.walk_costs.specs.Leasts.{AreLeast}
 
 -- the parts of a station's telegrams, and what its symbols cost in the slots of a window
 pub record PricedParts : Type 0 where
@@ -87,7 +86,8 @@ pub record AreDateCosts (parts : PartTable) (grid : Grid) (dates : LayerSums) (p
 pub record AreKept (parts : PartTable) (grid : Grid) (costs : List (List ℕ)) (more : List ℕ) (by_date : LayerSums) (places : List ℕ) (floors : LeastWalks) : Type 0 where
   pub priced : ArePriced parts grid costs more
   pub dates : AreDateCosts parts grid by_date places
-  pub least : (announced : Bool) → AreLeast parts grid announced (least_where announced floors)
+  pub inside : AreLeast parts grid false floors.inside
+  pub across : AreLeast parts grid true floors.across
 
 -- in some slot the station may carry another set than without the announcement
 abbrev pub ShowsAnnouncement : PricedParts → Sequence → Type 0
@@ -101,9 +101,3 @@ IsShown w announced p i Never =
 IsShown w announced p i Always =
     (t0 : ℕ) → IsRegularIn w announced p t0 i → ShowsAnnouncement w (record { first = t0; second = p; announced = announced })
 IsShown w announced p i Sometimes = Unit {0}
-
--- what the date of a run costs where a walk begins in this second, for each walk minute that the call sign may take
-pub record IsDateCost (w : PricedParts) (date : DateCost) : Type 0 where
-  pub shift : date.shift ≡ (run_at w.parts.runs date.run).shift
-  pub by_call : (m : ℕ) → m < 30
-      → cost_at_call date.by_call m ≡ date_cost w.grid date.second m (part_where date.announced (run_at w.parts.runs date.run))

@@ -1,9 +1,9 @@
 //! The seconds that JJY gives up for its call sign, and what the date tells in them.
 
-ghost use Rattle.std.specs.Prelude.{◌≡◌, ◌<◌, length};
+ghost use Rattle.std.specs.Prelude.{◌≡◌, ◌<◌, ◌≤◌, length};
 ghost use Rattle.symbol_cost.specs.Grid.{cost_at};
 ghost use Rattle.slot_columns.specs.Parts.{minute_cost};
-ghost use Rattle.walk_costs.specs.Dates.{given_up, given_up_set};
+ghost use Rattle.walk_costs.specs.Dates.{given_up, given_up_set, most_in_call};
 
 use minute_parts::{CALL_BEGIN, CALL_END, gives_up, is_given_up};
 use signal_base::Station;
@@ -13,7 +13,8 @@ use slot_columns::{Part, SECONDS_PER_MINUTE, SlotColumns};
 /// slots at most.
 pub fn call_cost(columns: &SlotColumns, p: u8, m: u8, part: &Part) -> u32
     requires { p < SECONDS_PER_MINUTE }
-    ensures { result ≡ minute_cost columns.now.station (cost_at columns.now.rows) (length columns.now.rows) p m (given_up columns.now.station part.now) }
+    ensures cost { result ≡ minute_cost columns.now.station (cost_at columns.now.rows) (length columns.now.rows) p m (given_up columns.now.station part.now) }
+    ensures small { result ≤ most_in_call }
 {
     let station = columns.station();
     if !gives_up(station) {

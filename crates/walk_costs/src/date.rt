@@ -1,8 +1,8 @@
-//! What the date of a run costs in a walk.
+//! What the date of a run costs in a walk, in the seconds that are given up for the call sign and in the others.
 
 ghost use Rattle.std.specs.Prelude.{◌≡◌, ◌+◌, ◌-◌, ◌^◌, ◌<◌, ◌≤◌, ℕ, length, slice_index};
 ghost use Rattle.minute_parts.specs.declared.call.TheConstants.{CALL_MINUTES};
-ghost use Rattle.walk_costs.specs.Dates.{cost_at_call, date_cost, kept, kept_set, part_cost};
+ghost use Rattle.walk_costs.specs.Dates.{given_cost, kept, kept_set, most_given};
 ghost use Rattle.minute_parts.specs.Walks.{later_minutes};
 
 use crate::call::call_cost;
@@ -14,62 +14,23 @@ use std::array;
 /// A cost for each minute up to the next call sign.
 pub type ByMinute = [u32; CALL_MINUTES];
 
-/// What a date costs in walks, by how many minutes after a walk's first one the call sign of JJY comes.
-#[derive(Clone, Copy, Debug, PartialEq, Eq)]
-pub enum ByCall {
-    /// It costs this in all of them, since the station sends no call sign.
-    Never(u32),
-    /// It costs less where the call sign takes some of its seconds.
-    Each(ByMinute),
-}
-
-impl ByCall {
-    /// What it costs in a walk whose call sign comes so many minutes after its first.
-    pub fn at(&self, minutes: u8) -> u32
-        requires { minutes < CALL_MINUTES }
-        ensures { result ≡ cost_at_call self.now minutes }
-    {
-        match self {
-            ByCall::Never(cost) => *cost,
-            ByCall::Each(costs) => costs[minutes as usize],
-        }
-    }
-}
-
-/// What the date of a run costs in the walks that lie in the run and begin in one second.
-#[derive(Clone, Copy, Debug, PartialEq, Eq)]
-pub struct DateCost {
-    /// Whether a leap second is announced.
-    pub announced: bool,
-    /// The second in which the walks begin.
-    pub second: u8,
-    /// The run's number.
-    pub run: usize,
-    /// By how many minutes the local time that is encoded is ahead of the sent minute in UTC.
-    pub shift: u16,
-    /// What the date costs.
-    pub by_call: ByCall,
-}
-
-/// What a part by the date costs in the walks from second `p`, for each walk minute that the call sign of JJY may take. It is
-/// known what its seconds cost that aren't given up. A walk has no minute after its 21st.
-pub fn by_call_with(columns: &SlotColumns, p: u8, part: &Part, rest: u32) -> ByCall
-    requires second { p < SECONDS_PER_MINUTE }
-    requires fits { part_cost columns.now p part.now < 2 ^ 32 }
-    requires rest { rest ≡ part_cost columns.now p (kept columns.now.station part.now) }
-    ensures { (m : ℕ) → m < CALL_MINUTES → cost_at_call result m ≡ date_cost columns.now p m part.now }
+/// What a part by the date costs in the seconds that are given up for the call sign of JJY, in the walks from second `p`, for
+/// each walk minute that the call sign may take. A walk has no minute after its 21st.
+pub fn given_costs(columns: &SlotColumns, p: u8, part: &Part) -> ByMinute
+    requires { p < SECONDS_PER_MINUTE }
+    ensures costs { (m : ℕ) → m < CALL_MINUTES → slice_index result m ≡ given_cost columns.now p m part.now }
+    ensures small { (m : ℕ) → m < CALL_MINUTES → slice_index result m ≤ most_given }
 {
-    let station = columns.station();
-    if !gives_up(station) {
-        return ByCall::Never(rest);
-    }
     let mut lost = no_losses();
-    let mut whole = rest;
+    if !gives_up(columns.station()) {
+        return lost;
+    }
+    let mut whole = 0;
     for m in 0..walk_minutes(columns, p) {
         lost[m] = call_cost(columns, p, m as u8, part);
         whole += lost[m];
     }
-    ByCall::Each(all_but(whole, &lost))
+    all_but(whole, &lost)
 }
 
 // How many minutes a walk goes through.

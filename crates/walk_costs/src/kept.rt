@@ -5,10 +5,10 @@ ghost use Rattle.minute_parts.specs.Parts.{part_where};
 ghost use Rattle.minute_parts.specs.Runs.{run_at};
 ghost use Rattle.minute_parts.specs.declared.call.TheConstants.{CALL_MINUTES};
 ghost use Rattle.slot_columns.specs.Layered.{together};
-ghost use Rattle.walk_costs.specs.Dates.{cost_at_call, date_cost, kept, part_cost};
+ghost use Rattle.walk_costs.specs.Dates.{date_cost, kept, part_cost};
 ghost use Rattle.walk_costs.specs.Walks.{AreDateCosts, ArePairsOf, kept_of, pair_of};
 
-use crate::date::{ByCall, by_call_with, kept};
+use crate::date::{given_costs, kept};
 use crate::shown::is_told_alike;
 use crate::walks::StationWalks;
 use minute_parts::{Part, Parts, Run};
@@ -44,19 +44,16 @@ impl StationWalks {
         )
     }
 
-    // What the date of a run costs, for each walk minute that the call sign may take.
-    pub(crate) fn by_call(&self, announced: bool, p: u8, run: usize) -> ByCall
+    // What the date of a run costs in the walks from second `p` of which the call sign takes minute `m`.
+    pub(crate) fn date_cost(&self, announced: bool, p: u8, run: usize, m: u8) -> u32
         requires second { p < SECONDS_PER_MINUTE }
         requires run { run < length self.now.parts.runs }
-        ensures { (m : ℕ) → m < CALL_MINUTES → cost_at_call result m ≡ date_cost self.now.grid p m (part_where announced (run_at self.now.parts.runs run)) }
+        requires minute { m < CALL_MINUTES }
+        ensures { result ≡ date_cost self.now.grid p m (part_where announced (run_at self.now.parts.runs run)) }
     {
         let part = self.unions.parts().run(run).date_part(announced);
-        by_call_with(
-            &self.columns,
-            p,
-            part,
-            self.kept_date_cost(announced, p, run),
-        )
+        let given = given_costs(&self.columns, p, part);
+        self.kept_date_cost(announced, p, run) + given[m as usize]
     }
 }
 

@@ -7,9 +7,10 @@ mod call;
 mod crossing;
 mod date;
 mod dut;
+mod halves;
 mod kept;
-mod least_across;
-mod least_in;
+mod kinds;
+mod least;
 mod set_costs;
 mod shown;
 #[cfg(test)]
@@ -17,6 +18,5 @@ mod tests;
 mod walks;
 
 pub use crossing::Crossing;
-pub use date::{ByCall, ByMinute, DateCost};
 pub use shown::Shown;
 pub use walks::StationWalks;

@@ -130,28 +130,8 @@ fn one_value_of_dut1_is_told_in_a_day(rt: HostRuntime) -> Result<(), Fail> {
             Some(cost),
             "at {minute}"
         );
-        assert_eq!(rt;
-            by_date(&walks, &civil, 8, minute),
-            Some(cost),
-            "at {minute}"
-        );
     }
     Ok(())
-}
-
-// The same by what the run's date costs.
-fn by_date(walks: &StationWalks, civil: &Civil, p: u8, t0: u32) -> Option<u32> {
-    match walks.run_of_walk(civil, false, p, t0) {
-        Some(run) => Some(cost_in_run(walks, p, t0, run)),
-        None => None,
-    }
-}
-
-fn cost_in_run(walks: &StationWalks, p: u8, t0: u32, run: usize) -> u32
-    requires { IsRegularIn walks.now false p t0 run }
-{
-    let date = walks.date_cost(false, p, run);
-    walks.cost_by(&date, t0)
 }
 
 // JJY tells of a leap second in the seconds 53 and 54, but not in the minutes of its call sign. Of 62 slots from second 55

@@ -9,12 +9,11 @@ ghost use Rattle.minute_parts.specs.declared.call.TheConstants.{CALL_MINUTES};
 ghost use Rattle.slot_columns.specs.Parts.{AreWalkCosts, most_cost};
 ghost use Rattle.walk_costs.specs.Dates.{AreAdded, IsAdded, minutes_to_call};
 ghost use Rattle.minute_parts.specs.Walks.{later_minutes};
-ghost use Rattle.walk_costs.specs.Walks.{AreSmall, IsDateCost, IsRegularIn, IsShown, ShowsAnnouncement, cost_of, last_minute};
+ghost use Rattle.walk_costs.specs.Walks.{AreSmall, IsRegularIn, IsShown, ShowsAnnouncement, cost_of, last_minute};
 
-use crate::date::DateCost;
 use crate::dut::added;
 use crate::kept::{DateTable, dates_of};
-use crate::least_in::LeastWalks;
+use crate::least::LeastWalks;
 use crate::set_costs::look_at_all;
 use crate::shown::{Shown, TWO_MINUTES, differs_elsewhere, is_told_alike, some_slot_shows};
 use civil::Civil;
@@ -134,31 +133,18 @@ impl StationWalks {
         }
     }
 
-    // What the sequence costs, whose walk lies in the run of this number.
-    fn cost_in(&self, announced: bool, p: u8, t0: u32, number: usize) -> u32
-        requires { IsRegularIn self.now announced p t0 number }
+    /// What a sequence costs the station that begins in second `p` of the minute `t0`, where its walk has 60 seconds in each
+    /// minute and lies in the run.
+    pub fn cost_in(&self, announced: bool, p: u8, t0: u32, run: usize) -> u32
+        requires { IsRegularIn self.now announced p t0 run }
         ensures cost { result ≡ cost_of self.now announced p t0 }
         ensures bound { result ≤ most_cost self.now.grid }
     {
-        let date = self.date_cost(announced, p, number);
-        self.cost_by(&date, t0)
-    }
-
-    /// What the date of a run costs in the walks that begin in second `p`, below 60.
-    pub fn date_cost(&self, announced: bool, p: u8, run: usize) -> DateCost
-        requires second { p < SECONDS_PER_MINUTE }
-        requires run { run < length self.now.parts.runs }
-        ensures walks { (result.announced ≡ announced) × (result.second ≡ p) × (result.run ≡ run) }
-        ensures cost { IsDateCost self.now result }
-    {
-        let at = self.parts().run(run);
-        DateCost {
-            announced,
-            second: p,
-            run,
-            shift: at.shift,
-            by_call: self.by_call(announced, p, run),
-        }
+        let walks = &self.walks;
+        let u = local_time(self.unions.parts().run(run).shift, t0);
+        let date = self.date_cost(announced, p, run, minutes_to_call(u));
+        let added = self.added_from(p, t0);
+        walks.cost(p, u) + date + added
     }
 
     // Whether the walks show an announcement that lie in the run and begin in second `p`.
@@ -204,21 +190,6 @@ impl StationWalks {
         let at = parts.run(run);
         let u = local_time(at.shift, t0);
         some_slot_shows(parts, at, u, p, 0, self.columns.seconds())
-    }
-
-    /// What a sequence costs the station that begins in the minute `t0`, where its walk has 60 seconds in each minute and
-    /// lies in the run.
-    pub fn cost_by(&self, date: &DateCost, t0: u32) -> u32
-        requires date { IsDateCost self.now date.now }
-        requires walk { IsRegularIn self.now date.now.announced date.now.second t0 date.now.run }
-        ensures cost { result ≡ cost_of self.now date.now.announced date.now.second t0 }
-        ensures bound { result ≤ most_cost self.now.grid }
-    {
-        let walks = &self.walks;
-        let u = local_time(date.shift, t0);
-        let p = date.second;
-        let added = self.added_from(p, t0);
-        walks.cost(p, u) + date.by_call.at(minutes_to_call(u)) + added
     }
 
     /// How many minutes a walk from second `p` goes on after its first.

@@ -13,7 +13,7 @@ use Rattle.walk_costs.proofs.call.call_cost.Goals as goal
 pub returns-then-not-gives_up : goal.returns-then-not-gives_up
 returns-then-not-gives_up c =
     let keeps = λ (s : ℕ). ap (λ (t : Station). is_given_up t s) (sym c.station-station.ensures) ∙ c.gives_up.ensures c.if-not-gives_up.true s in
-    sym (none_lost c.args.columns.now c.args.p c.args.m c.args.part.now keeps)
+    record { cost = sym (none_lost c.args.columns.now c.args.p c.args.m c.args.part.now keeps); small = omega arith }
 
 pub loop-k-init : goal.loop-k-init
 loop-k-init c =
@@ -46,7 +46,10 @@ returns c =
     let grid = c.args.columns.now in
     let lost = given_up grid.station c.args.part.now in
     let n : ℕ = length grid.rows in
-    c.loop-k.invariant.cost
-    ∙ same_sum c.loop-k.k n (in_minute grid c.args.p c.args.m lost)
-    (λ i le within. beside_call grid c.args.p c.args.m lost i (tells_of_call grid.station c.args.part.now) (inr (omega arith)))
-    (λ i le lt. beside_call grid c.args.p c.args.m lost i (tells_of_call grid.station c.args.part.now) (inl (omega arith)))
+    record {
+      cost = c.loop-k.invariant.cost
+          ∙ same_sum c.loop-k.k n (in_minute grid c.args.p c.args.m lost)
+          (λ i le within. beside_call grid c.args.p c.args.m lost i (tells_of_call grid.station c.args.part.now) (inr (omega arith)))
+          (λ i le lt. beside_call grid c.args.p c.args.m lost i (tells_of_call grid.station c.args.part.now) (inl (omega arith)));
+      small = omega (arith, c.loop-k.invariant.bound, c.loop-k.invariant.reached);
+    }

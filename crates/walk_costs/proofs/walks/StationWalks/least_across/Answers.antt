@@ -1,47 +1,67 @@
-use Rattle.std.proofs.Common.{◌+◌, ◌≤◌, refl, subst, arith}
+use Rattle.std.proofs.Common.{◌≡◌, ℕ, ◌+◌, ◌-◌, ◌%◌, ◌<◌, ◌≤◌, ◌⊎◌, Bool, true, false, nat_lt, if◌then◌else◌, refl, inl, inr, subst, arith}
 use Rattle.slot_columns.specs.Parts.{most_cost}
+use Rattle.minute_parts.specs.Runs.{end_of_run, run_at}
+use Rattle.walk_costs.specs.Crossings.{run_across}
+use Rattle.walk_costs.specs.Leasts.{AreLeast}
 use Rattle.walk_costs.specs.Walks.{ArePriced, PricedParts}
-use Rattle.walk_costs.proofs.CrossingLaws.{next_begins}
-use Rattle.walk_costs.proofs.NeighbourLaws.{bound, floor}
+use Rattle.walk_costs.proofs.CrossingLaws.{begun, front, front_few, two_runs}
+use Rattle.walk_costs.proofs.FloorLaws.{fits, no_more}
+use Rattle.walk_costs.proofs.NeighbourLaws.{floor}
 use Rattle.walk_costs.proofs.WalkLaws.{most_fits}
 use Rattle.walk_costs.proofs.walks.StationWalks.least_across.Goals as goal
-use Rattle.walk_costs.proofs.walks.StationWalks.least_across.Goals.{After-kept_cost_of_both}
+use Rattle.walk_costs.proofs.walks.StationWalks.least_across.Goals.{After-at}
 
-priced : (c : After-kept_cost_of_both) → ArePriced c.args.self.now.parts c.args.self.now.grid c.self.inside.walks c.self.inside.added
+priced : (c : After-at) → ArePriced c.args.self.now.parts c.args.self.now.grid c.self.inside.walks c.self.inside.added
 priced c = subst (λ (v : PricedParts). ArePriced v.parts v.grid c.self.inside.walks c.self.inside.added) c.self.view_is c.self.invariant.priced
 
--- both parts of the sum, which are of other seconds
-sum_bound : (c : After-kept_cost_of_both) → c.least_time_across.result + c.kept_cost_of_both.result ≤ most_cost c.args.self.now.grid
-sum_bound c =
+least : (c : After-at) → AreLeast c.args.self.now.parts c.args.self.now.grid true c.self.inside.least.across
+least c = subst (λ (v : PricedParts). AreLeast v.parts v.grid true c.self.inside.least.across) c.self.view_is c.self.invariant.across
+
+bound : (c : After-at) → c.kept_cost_of_both.result + c.at.result ≤ most_cost c.args.self.now.grid
+bound c =
     let own = c.self.inside in
-    let time = c.least_time_across.ensures.some in
     omega (
       arith,
-      time.2,
       c.kept_cost_of_both.ensures,
-      bound c.args.self.now own.walks own.added (priced c) c.args.announced c.args.p c.args.run (omega (arith, c.requires.next)) c.requires.next time.0,
+      c.at.ensures,
+      fits c.args.self.now own.walks own.added (priced c) true c.args.announced c.args.p c.args.run c.requires.second (omega (arith, c.requires.next)) c.requires.next own.least.across
+          (least c),
     )
+
+-- a walk minute lies in the run or in the next
+in_either : (i m : ℕ) (first : Bool) → ((if first then i else i + 1) ≡ i) ⊎ ((if first then i else i + 1) ≡ i + 1)
+in_either i m true = inl refl
+in_either i m false = inr refl
 
 pub overflow_add-result : goal.overflow_add-result
 overflow_add-result c =
-    let known = (goal.at.overflow_add-result c).After-kept_cost_of_both in
-    let own = known.self.inside in
-    omega (arith, sum_bound known, most_fits c.args.self.now own.walks own.added (priced known))
+    let known = (goal.at.overflow_add-result c).After-at in
+    omega (arith, bound known, most_fits c.args.self.now known.self.inside.walks known.self.inside.added (priced known))
 
 pub returns-clause-floor : goal.returns-clause-floor
-returns-clause-floor c = λ t0 across.
-    let known = (goal.at.returns-clause-floor c).After-kept_cost_of_both in
+returns-clause-floor c =
+    let known = (goal.at.returns-clause-floor c).After-at in
     let w = c.args.self.now in
     let own = known.self.inside in
     let p = c.args.p in
     let i = c.args.run in
-    let reached = next_begins w own.walks own.added (priced known) c.args.announced p t0 i _ refl across in
-    let time = c.least_time_across.ensures.each t0 across.begins.not_over (omega (arith, reached, across.ends.begun)) in
+    λ t0 across.
+    let shift : ℕ = (run_at w.parts.runs i).shift in
+    let end : ℕ = end_of_run w.parts.runs w.parts.end i in
+    let u : ℕ = (t0 + shift) % 1440 in
+    let before = begun w own.walks own.added (priced known) c.args.announced p t0 i (end_of_run w.parts.runs w.parts.end i) refl across in
+    let few = front_few w own.walks own.added (priced known) c.args.announced p t0 i (end_of_run w.parts.runs w.parts.end i) refl across in
     omega (
       arith,
-      c.kept_cost_of_both.ensures,
-      floor w own.walks own.added (priced known) c.args.announced p i across.begins.is_run across.ends.is_run t0 _ refl across c.least_time_across.result time,
+      known.kept_cost_of_both.ensures,
+      known.at.ensures,
+      no_more w own.walks own.added (priced known) true c.args.announced p i c.requires.second across.begins.is_run across.ends.is_run own.least.across (least known) u (omega arith)
+          (end - 1 - t0, omega (arith, before, few), omega (arith, before, few, (priced known).short, c.requires.second)),
+      floor w own.walks own.added (priced known) c.args.announced p i (i + 1) c.requires.second across.begins.is_run across.ends.is_run t0 shift
+          (run_across i (front w own.walks own.added (priced known) c.args.announced p t0 i (end_of_run w.parts.runs w.parts.end i) refl across))
+          (two_runs w own.walks own.added (priced known) c.args.announced p t0 i (end_of_run w.parts.runs w.parts.end i) refl across)
+          (λ m. in_either i m (nat_lt m (front w own.walks own.added (priced known) c.args.announced p t0 i (end_of_run w.parts.runs w.parts.end i) refl across))),
     )
 
 pub returns-clause-bound : goal.returns-clause-bound
-returns-clause-bound c = sum_bound (goal.at.returns-clause-bound c).After-kept_cost_of_both
+returns-clause-bound c = bound (goal.at.returns-clause-bound c).After-at

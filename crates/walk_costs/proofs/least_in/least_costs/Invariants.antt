@@ -1,7 +1,0 @@
-use Rattle.std.proofs.Common.{length}
-use Rattle.slot_columns.specs.Layered.{AreGroups}
-use Rattle.walk_costs.specs.Leasts.{IsLeastOf}
-use Rattle.walk_costs.proofs.least_in.least_costs.Given as goal
-
-abbrev pub invariant-loop-p : goal.invariant-loop-p
-invariant-loop-p l = record { costs : AreGroups 0 (IsLeastOf l.columns l.walks l.groups) (length l.groups) l.costs.items l.p }

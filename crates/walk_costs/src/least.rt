@@ -1,0 +1,269 @@
+//! What no walk costs less than, at any time of day at which it may begin.
+//!
+//! It is what the date costs and the least that any time of day does. Where JJY sends its call sign it gives up seconds of
+//! the date, and which minute of a walk that is depends on the time of day. So what dates tell in those seconds is counted
+//! with the time of day.
+
+ghost use Rattle.std.specs.Prelude.{◌≡◌, ◌+◌, ◌*◌, ◌^◌, ◌<◌, ◌≤◌, ℕ, IfOk, OnOk, false, length, slice_index, true};
+ghost use Rattle.definitions.specs.time.Calendar.{minutes_per_day};
+ghost use Rattle.minute_parts.specs.Parts.{IsPartTable};
+ghost use Rattle.slot_columns.specs.Layered.{AreAdded, AreGroups};
+ghost use Rattle.slot_columns.specs.Parts.{AreWalkCosts, entry, most_cost};
+ghost use Rattle.walk_costs.specs.Crossings.{IsAcross};
+ghost use Rattle.walk_costs.specs.Dates.{most_given};
+ghost use Rattle.walk_costs.specs.Leasts.{AreBegins, AreHalfCosts, AreLeast, AreLeastSums, IsLeastBy, IsLeastOf, begin_count, least_at, place_of_run, split_at};
+ghost use Rattle.walk_costs.specs.Walks.{IsRegularIn, cost_of};
+
+use crate::date::{ByMinute, given_costs};
+use crate::halves::{Split, halves_of};
+use crate::kinds::{Kind, kinds_of};
+use crate::walks::{StationWalks, minutes_to_call};
+use definitions::MINUTES_PER_DAY;
+use minute_parts::{CALL_MINUTES, Parts, later_minutes};
+use signal_base::GREATEST_COST;
+use slot_columns::{SECONDS_PER_MINUTE, SlotColumns, WalkTable};
+use std::alloc::{AllocError, Global};
+
+/// What walks cost at the least, besides what the date costs in the seconds that the station doesn't give up.
+#[derive(Drop)]
+pub struct LeastWalks {
+    /// Those that lie in one run.
+    pub inside: LeastTable,
+    /// Those that go on to the next.
+    pub across: LeastTable,
+}
+
+impl LeastWalks {
+    /// Looks at all times of day and the dates of all runs.
+    pub fn make(
+        alloc: Global,
+        parts: &Parts,
+        columns: &SlotColumns,
+        walks: &WalkTable,
+    ) -> Result<LeastWalks, AllocError>
+        requires table { IsPartTable parts.now }
+        requires costs { AreWalkCosts walks.now columns.now parts.now.times }
+        ensures inside { IfOk result (λ least. AreLeast parts.now columns.now false least.inside) }
+        ensures across { IfOk result (λ least. AreLeast parts.now columns.now true least.across) }
+    {
+        Ok(LeastWalks {
+            inside: LeastTable::make(alloc, parts, columns, walks, false)?,
+            across: LeastTable::make(alloc, parts, columns, walks, true)?,
+        })
+    }
+}
+
+/// The same by kinds of walks.
+#[derive(Drop)]
+pub struct LeastTable {
+    /// How many kinds there are.
+    pub kinds: usize,
+    /// For each second in which a walk may begin a cost for each kind.
+    pub costs: Vec<u32>,
+    /// Two kinds for each run: where no leap second is announced, and where one is.
+    pub places: Vec<usize>,
+}
+
+impl LeastTable {
+    fn make(
+        alloc: Global,
+        parts: &Parts,
+        columns: &SlotColumns,
+        walks: &WalkTable,
+        across: bool,
+    ) -> Result<LeastTable, AllocError>
+        requires table { IsPartTable parts.now }
+        requires costs { AreWalkCosts walks.now columns.now parts.now.times }
+        ensures { IfOk result (λ table. AreLeast parts.now columns.now across table) }
+    {
+        // The slots are few.
+        columns.seconds();
+        let kinds = kinds_of(alloc, parts, columns.station(), across)?;
+        let costs = least_costs(alloc, columns, walks, &kinds.all, across)?;
+        Ok(LeastTable {
+            kinds: kinds.all.len(),
+            costs,
+            places: kinds.places,
+        })
+    }
+
+    // That of the walks from second `p` which begin in a run.
+    fn at(&self, announced: bool, p: u8, run: usize) -> u32
+        requires second { p < SECONDS_PER_MINUTE }
+        requires run { (runs : ℕ) × (run < runs) × AreLeastSums self.now runs }
+        ensures { result ≡ least_at self.now announced p run }
+    {
+        // The places are so many that their numbers fit.
+        let kind = self.places[place_of_run(announced, run)];
+        self.costs[p as usize * self.kinds + kind]
+    }
+}
+
+// Where the place of a run stands.
+fn place_of_run(announced: bool, run: usize) -> usize
+    requires { 2 * run + 1 < 2 ^ 64 }
+    ensures { result ≡ place_of_run announced run }
+{
+    if announced { 2 * run + 1 } else { 2 * run }
+}
+
+impl StationWalks {
+    /// What no sequence costs the station less than, whose walk from second `p` has 60 seconds in each minute and lies in the
+    /// run.
+    pub fn least_in(&self, announced: bool, p: u8, run: usize) -> u32
+        requires second { p < SECONDS_PER_MINUTE }
+        requires run { run < length self.now.parts.runs }
+        ensures floor { (t0 : ℕ) → IsRegularIn self.now announced p t0 run → result ≤ cost_of self.now announced p t0 }
+        ensures bound { result ≤ most_cost self.now.grid }
+    {
+        self.kept_cost_of_both(announced, p, run, run) + self.least.inside.at(announced, p, run)
+    }
+
+    /// What no sequence costs the station less than, whose walk from second `p` has 60 seconds in each minute and goes from
+    /// the run to the next, which encodes the local time alike.
+    pub fn least_across(&self, announced: bool, p: u8, run: usize) -> u32
+        requires second { p < SECONDS_PER_MINUTE }
+        requires next { run + 1 < length self.now.parts.runs }
+        ensures floor { (t0 : ℕ) → IsAcross self.now announced p t0 run → result ≤ cost_of self.now announced p t0 }
+        ensures bound { result ≤ most_cost self.now.grid }
+    {
+        // The next run's number fits, as the count of runs does.
+        self.unions.parts().runs();
+        self.kept_cost_of_both(announced, p, run, run + 1) + self.least.across.at(announced, p, run)
+    }
+}
+
+// For each second in which a walk may begin the least of each kind.
+fn least_costs(
+    alloc: Global,
+    columns: &SlotColumns,
+    walks: &WalkTable,
+    kinds: &[Kind],
+    across: bool,
+) -> Result<Vec<u32>, AllocError>
+    ensures { IfOk result (λ costs. AreGroups 0 (IsLeastOf columns.now walks.now kinds.now across) (length kinds.now) costs.items SECONDS_PER_MINUTE) }
+{
+    let halves = halves_of(alloc, kinds)?;
+    let mut costs = Vec::new(alloc);
+    for p in 0..SECONDS_PER_MINUTE {
+        let rows = half_costs(alloc, columns, &halves.all, p as u8)?;
+        let count = begin_count(columns, p as u8, across);
+        push_costs(
+            &mut costs,
+            walks,
+            kinds,
+            &halves.splits,
+            &rows,
+            p as u8,
+            count,
+        )?;
+    }
+    Ok(costs)
+}
+
+// What each half costs in the seconds that are given up.
+fn half_costs(
+    alloc: Global,
+    columns: &SlotColumns,
+    halves: &[Kind],
+    p: u8,
+) -> Result<Vec<ByMinute>, AllocError>
+    requires { p < SECONDS_PER_MINUTE }
+    ensures { IfOk result (λ rows. AreHalfCosts columns.now p halves.now rows.items (length halves.now)) }
+{
+    let mut rows = Vec::with_capacity(alloc, halves.len())?;
+    for i in 0..halves.len() {
+        rows.push(given_costs(columns, p, &halves[i].told))?;
+    }
+    Ok(rows)
+}
+
+// In how many minutes a walk may begin: in any of a day, or in the last ones from which it goes over the end of a run. Where
+// none does that, the last one stands for it.
+fn begin_count(columns: &SlotColumns, p: u8, across: bool) -> u32
+    requires { p < SECONDS_PER_MINUTE }
+    ensures count { result ≡ begin_count (length columns.now.rows) across p }
+    ensures bound { result ≤ minutes_per_day }
+{
+    if across {
+        later_minutes(columns.seconds(), p).max(1)
+    } else {
+        MINUTES_PER_DAY
+    }
+}
+
+// The least of each kind, of the walks from second `p` that begin in so many minutes.
+fn push_costs(
+    costs: &mut Vec<u32>,
+    walks: &WalkTable,
+    kinds: &[Kind],
+    splits: &[Split],
+    rows: &[ByMinute],
+    p: u8,
+    count: u32,
+) -> Result<(), AllocError>
+    requires second { p < SECONDS_PER_MINUTE }
+    requires count { count ≤ minutes_per_day }
+    requires splits { (k : ℕ) → k < length kinds.now → (k < length splits.now) × ((split_at splits.now k).low < length rows.now) × ((split_at splits.now k).high < length rows.now) }
+    requires small { (h m : ℕ) → h < length rows.now → m < CALL_MINUTES → entry rows.now h m ≤ most_given }
+    ensures { OnOk result (AreAdded 0 (IsLeastBy walks.now kinds.now splits.now rows.now p count) costs.old.items costs.new.items (length kinds.now)) }
+{
+    let mut begins = begins_of(walks, p, count, MINUTES_PER_DAY as u16 - 1);
+    for k in 0..kinds.len() {
+        change_last(&mut begins, walks, p, count, kinds[k].last);
+        let split = splits[k];
+        costs.push(least_of(&begins.costs, &rows[split.low], &rows[split.high]))?;
+    }
+    Ok(())
+}
+
+/// What walks cost at the least by the time of day, by how many minutes after their first one the call sign comes.
+#[derive(Clone, Copy)]
+pub struct Begins {
+    /// The last minute of the local day in which they begin.
+    pub last: u16,
+    /// The costs.
+    pub costs: ByMinute,
+}
+
+// Those of the walks from second `p` that begin in the last minutes up to this one, so many of them.
+fn begins_of(walks: &WalkTable, p: u8, count: u32, last: u16) -> Begins
+    requires second { p < SECONDS_PER_MINUTE }
+    requires count { count ≤ minutes_per_day }
+    ensures last { result.last ≡ last }
+    ensures costs { AreBegins walks.now p count result }
+{
+    let row = walks.row(p);
+    let mut costs = [GREATEST_COST; CALL_MINUTES];
+    for j in 0..count {
+        let u = (MINUTES_PER_DAY + last as u32 - j) % MINUTES_PER_DAY;
+        let m = minutes_to_call(u as u16) as usize;
+        costs[m] = costs[m].min(row[u as usize]);
+    }
+    Begins { last, costs }
+}
+
+// Makes them those up to another minute.
+fn change_last(begins: &mut Begins, walks: &WalkTable, p: u8, count: u32, last: u16)
+    requires second { p < SECONDS_PER_MINUTE }
+    requires count { count ≤ minutes_per_day }
+    requires begins { AreBegins walks.now p count begins.old }
+    ensures last { begins.new.last ≡ last }
+    ensures costs { AreBegins walks.now p count begins.new }
+{
+    if begins.last != last {
+        *begins = begins_of(walks, p, count, last);
+    }
+}
+
+// The least of three costs together.
+fn least_of(begins: &ByMinute, low: &ByMinute, high: &ByMinute) -> u32
+    requires room { (m : ℕ) → m < CALL_MINUTES → slice_index begins.now m + slice_index low.now m + slice_index high.now m < 2 ^ 32 }
+    ensures { (m : ℕ) → m < CALL_MINUTES → result ≤ slice_index begins.now m + slice_index low.now m + slice_index high.now m }
+{
+    let mut least = u32::MAX;
+    for m in 0..CALL_MINUTES {
+        least = least.min(begins[m] + low[m] + high[m]);
+    }
+    least
+}
