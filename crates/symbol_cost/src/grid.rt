@@ -2,20 +2,22 @@
 
 ghost use Rattle.std.specs.Prelude.{◌≡◌, ◌+◌, ◌*◌, ◌<◌, ◌≤◌, ℕ, IfOk, filter, length, map, slice_index, unwrap_or};
 ghost use Rattle.std.specs.List.{All};
+ghost use Rattle.signal_base.specs.declared.station.Station.{Station};
 ghost use Rattle.signal_base.specs.Limits.{IsPriced, IsTuned};
 ghost use Rattle.signal_base.specs.Mask.{has_bit};
 ghost use Rattle.definitions.specs.heard.Receivers.{receptions};
 ghost use Rattle.definitions.specs.heard.Costs.{least, set_cost, slot_cost, symbols_of};
-ghost use Rattle.symbol_cost.specs.Grid.{AreRows, HasCosts, cost_at};
+ghost use Rattle.symbol_cost.specs.Grid.{HasCosts, cost_at};
 
 use crate::RECEIVER_COST;
 use crate::limits::SECOND;
-use crate::receivers::{Row, add_receiver};
+use crate::receivers::Row;
+use crate::rows::{move_on, rows_of};
 use pulse_log::Log;
 use signal_base::{
     CostTable, MOST_RECEIVERS, MOST_SECONDS, START_LIMIT, Station, Tuning, UNSCORED, symbols,
 };
-use std::alloc::{AllocError, AllocFailed, Global};
+use std::alloc::{AllocFailed, Global};
 use std::marker::Model;
 
 /// Why a grid can't be made.
@@ -86,6 +88,36 @@ impl CostGrid {
         }
     }
 
+    /// Moves the grid to the window that starts `by` seconds later, with the same phase and as many slots. It is told the
+    /// start and the phase that it was made for, or moved to, and the tunings, the cost table and the logs that it was made
+    /// from. The later start is below 10^12 too. The slots that both windows have are moved to the front, and only the others
+    /// are scored.
+    pub fn advance(
+        &mut self,
+        tunings: &[Tuning],
+        table: &CostTable,
+        logs: &[Log],
+        start: u64,
+        phase: u16,
+        by: u16,
+    )
+        requires receivers { self.old.receivers ≡ length tunings.now }
+        requires logs { length logs.now ≡ length tunings.now }
+        requires tuned { All IsTuned tunings.now }
+        requires priced { IsPriced table.now }
+        requires start { start + SECOND * by < START_LIMIT }
+        requires phase { phase < SECOND }
+        ensures costs { (station : Station) (n : ℕ) → HasCosts self.old station n (slot_cost table.now (receptions tunings.now logs.now) station (start + phase))
+            → HasCosts self.new station n (slot_cost table.now (receptions tunings.now logs.now) station (start + SECOND * by + phase)) }
+        ensures station { self.new.station ≡ self.old.station }
+        ensures seconds { length self.new.rows ≡ length self.old.rows }
+        ensures receivers { self.new.receivers ≡ self.old.receivers }
+    {
+        let begin = start + phase as u64;
+        let rows = self.rows.as_mut_slice();
+        move_on(rows, self.station, tunings, table, logs, begin, by);
+    }
+
     /// Whose symbols are scored.
     pub fn station(&self) -> Station
         ensures { result ≡ self.now.station }
@@ -122,38 +154,6 @@ impl CostGrid {
         }
         cheapest(&self.rows[slot as usize], self.station, self.receivers, set)
     }
-}
-
-// A row for each slot.
-fn rows_of(
-    alloc: Global,
-    station: Station,
-    tunings: &[Tuning],
-    table: &CostTable,
-    logs: &[Log],
-    begin: u64,
-    seconds: u16,
-) -> Result<Vec<Row>, AllocError>
-    requires few { length tunings.now ≤ MOST_RECEIVERS }
-    requires logs { length logs.now ≡ length tunings.now }
-    requires tuned { All IsTuned tunings.now }
-    requires priced { IsPriced table.now }
-    requires begin { begin < START_LIMIT + SECOND }
-    requires seconds { seconds ≤ MOST_SECONDS }
-    ensures { IfOk result (λ rows. AreRows rows.items station seconds (length tunings.now) (slot_cost table.now (receptions tunings.now logs.now) station begin)) }
-{
-    let mut rows = vec![in alloc; [0; 5]; seconds as usize]?;
-    for i in 0..tunings.len() {
-        add_receiver(
-            rows.as_mut_slice(),
-            station,
-            table,
-            &tunings[i],
-            &logs[i],
-            begin,
-        );
-    }
-    Ok(rows)
 }
 
 // What the cheapest symbol of a set costs.

@@ -4,6 +4,7 @@
 mod grid;
 mod limits;
 mod receivers;
+mod rows;
 #[cfg(test)]
 mod tests;
 

@@ -32,7 +32,7 @@ pub fn add_receiver(
 )
     requires tuned { IsTuned tuning.now }
     requires priced { IsPriced table.now }
-    requires begin { begin < START_LIMIT + SECOND }
+    requires begin { begin < START_LIMIT + (MOST_SECONDS + 1) * SECOND }
     requires slots { length rows.old ≤ MOST_SECONDS }
     requires room { (k x : ℕ) → cost_at rows.old k x ≤ (MOST_RECEIVERS - 1) * RECEIVER_COST }
     ensures { AddsToRows station rows.old rows.new (λ k x. second_cost table.now (heard tuning.now log.now) (begin + tuning.now.delay + 1000 * k) (waveform station x)) }
@@ -47,7 +47,7 @@ pub fn add_receiver(
 fn add_second(row: &mut Row, station: Station, table: &CostTable, weight: u8, tenths: &mut Tenths)
     requires weight { weight ≤ MOST_WEIGHT }
     requires priced { IsPriced table.now }
-    requires at { tenths.old.at < START_LIMIT + (MOST_SECONDS + 2) * SECOND }
+    requires at { tenths.old.at < START_LIMIT + (2 * MOST_SECONDS + 2) * SECOND }
     requires room { (x : ℕ) → slice_index row.old x ≤ (MOST_RECEIVERS - 1) * RECEIVER_COST }
     ensures adds { Adds station row.old row.new (λ x. sum_below 10 (λ j. tenth_cost table.now weight (slice_index_or (waveform station x) j false) (low_count tenths.old.log (tenths.old.at + 100 * j) 100))) }
     ensures bound { (x : ℕ) → slice_index row.new x ≤ slice_index row.old x + RECEIVER_COST }

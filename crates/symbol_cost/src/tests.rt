@@ -1,5 +1,7 @@
 //! Costs that were worked out by hand, and grids of the largest logs.
 
+ghost use Rattle.std.specs.Prelude.{◌≡◌, length};
+
 use crate::CostGrid;
 use formats::LOG_LIMIT;
 use pulse_log::{Log, LogFault, read_log};
@@ -70,6 +72,84 @@ fn one_symbol_for_all_receivers(rt: HostRuntime) -> Result<(), Fail> {
     assert_eq!(rt; grid.cost(0, 1), 100);
     assert_eq!(rt; grid.cost(0, 2), 300);
     assert_eq!(rt; grid.cost(0, 3), 100);
+    Ok(())
+}
+
+// A text of 200 seconds of which no two are alike.
+fn uneven_text(alloc: Global) -> Result<Vec<u8>, AllocError> {
+    let mut text = Vec::new(alloc);
+    for n in 0..200u32 {
+        let low = 1000 * n + 37 * n % 400;
+        let high = 1000 * n + 500 + 53 * n % 400;
+        let line = format!(in alloc; "{low} L\n{high} H\n")?;
+        text.extend_from_slice(line.as_str().as_bytes())?;
+    }
+    Ok(text)
+}
+
+// Whether two grids of 60 slots of JJY cost the same, symbol by symbol.
+fn cost_alike(one: &CostGrid, other: &CostGrid) -> bool
+    requires one { length one.now.rows ≡ 60 }
+    requires other { length other.now.rows ≡ 60 }
+{
+    for slot in 0..60u16 {
+        for set in [1, 2, 4] {
+            if one.cost(slot, set) != other.cost(slot, set) {
+                return false;
+            }
+        }
+    }
+    true
+}
+
+// Moved by one slot, by all but one, by all and by more; and then once more.
+#[test]
+fn moved_grids_cost_what_new_ones_do(rt: HostRuntime) -> Result<(), Fail> {
+    let text = uneven_text(rt.alloc())?;
+    let tunings = [
+        Tuning {
+            delay: 0,
+            weight: 1,
+        },
+        Tuning {
+            delay: 30,
+            weight: 3,
+        },
+    ];
+    let logs = [
+        read(&rt, text.as_slice())?,
+        read(&rt, b"0 L\n70 H\n90000 L\n")?,
+    ];
+    let table = CostTable::default();
+    let jjy = Station::Jjy;
+    for by in [1u16, 59, 60, 61] {
+        let step = 1000 * by as u64;
+        let mut grid = CostGrid::make(rt.alloc(), jjy, &tunings, &table, &logs, 1000, 237, 60)?;
+        grid.advance(&tunings, &table, &logs, 1000, 237, by);
+        let next = CostGrid::make(
+            rt.alloc(),
+            jjy,
+            &tunings,
+            &table,
+            &logs,
+            1000 + step,
+            237,
+            60,
+        )?;
+        assert!(rt; cost_alike(&grid, &next), "moved by {by}");
+        grid.advance(&tunings, &table, &logs, 1000 + step, 237, by);
+        let last = CostGrid::make(
+            rt.alloc(),
+            jjy,
+            &tunings,
+            &table,
+            &logs,
+            1000 + 2 * step,
+            237,
+            60,
+        )?;
+        assert!(rt; cost_alike(&grid, &last), "moved by {by} twice");
+    }
     Ok(())
 }
 

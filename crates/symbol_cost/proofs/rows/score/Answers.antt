@@ -1,34 +1,26 @@
-use Rattle.std.proofs.Common.{◌≡◌, ℕ, ◌+◌, ◌*◌, ◌<◌, ◌≤◌, ◌++◌, ◌∷◌, [], List, take, length, get_or, replicate, sym, ap, subst, ◌∙◌, arith}
-use Rattle.std.proofs.lemmas.List.{take_more, take_all, length-take-le, length-replicate, with_items_is}
-use Rattle.std.specs.List.{each_same}
-use Rattle.std.specs.Vec.{with_items}
+use Rattle.std.proofs.Common.{◌≡◌, ℕ, ◌+◌, ◌*◌, ◌<◌, ◌++◌, ◌∷◌, [], List, take, length, get_or, refl, sym, ap, ◌∙◌, arith}
+use Rattle.std.proofs.lemmas.List.{take_more, take_all, length-take-le}
 use Rattle.signal_base.specs.declared.tuning.Tuning.{Tuning}
 use Rattle.signal_base.specs.Waveform.{waveform}
 use Rattle.definitions.specs.heard.Logs.{Records}
 use Rattle.definitions.specs.heard.Receivers.{receptions}
 use Rattle.definitions.specs.heard.Costs.{second_cost, slot_cost}
-use Rattle.symbol_cost.specs.declared.limits.TheConstants.{RECEIVER_COST}
-use Rattle.symbol_cost.specs.Grid.{cost_at}
 use Rattle.symbol_cost.specs.Rows.{heard}
-use Rattle.symbol_cost.proofs.RowLaws.{free_rows, no_costs, slot_cost_more}
-use Rattle.symbol_cost.proofs.grid.rows_of.Goals as goal
+use Rattle.symbol_cost.proofs.RowLaws.{slot_cost_more}
+use Rattle.symbol_cost.proofs.rows.score.Goals as goal
 
 pub loop-i-init : goal.loop-i-init
-loop-i-init c =
-    let zeros : c.in_ok-rows.rows.items ≡ replicate c.args.seconds no_costs = c.in_ok-rows.ensures.items_if_clones_equal (λ y h. each_same no_costs y h.whole) in
-    rw zeros (record {
-      slots = length-replicate c.args.seconds no_costs;
-      each = λ k x h s. free_rows c.args.seconds k x;
-      small = λ k x. omega (arith, free_rows c.args.seconds k x);
-    })
+loop-i-init c = record {
+  slots = refl;
+  each = λ k x h s. c.requires.free k x;
+  small = λ k x. omega (arith, c.requires.free k x);
+}
 
 pub add_receiver-requires-clause-slots : goal.add_receiver-requires-clause-slots
-add_receiver-requires-clause-slots c = let slots = c.loop-i.invariant.slots in rw c.as_mut_slice.ensures.value (omega arith)
+add_receiver-requires-clause-slots c = let slots = c.loop-i.invariant.slots in omega arith
 
 pub add_receiver-requires-clause-room : goal.add_receiver-requires-clause-room
-add_receiver-requires-clause-room c k x =
-    let small = c.loop-i.invariant.small k x in
-    rw c.as_mut_slice.ensures.value (omega arith)
+add_receiver-requires-clause-room c k x = let small = c.loop-i.invariant.small k x in omega arith
 
 pub loop-i-preserved : goal.loop-i-preserved
 loop-i-preserved c =
@@ -36,8 +28,6 @@ loop-i-preserved c =
     let ts = c.args.tunings.now in
     let ls = c.args.logs.now in
     let before = c.loop-i.invariant in
-    let old = c.loop-i.rows.items in
-    let new = c.add_receiver.new.rows in
     let d : Tuning = record { delay = 0; weight = 0 } in
     let log = c.index-logs-i.result in
     let in_logs : i < length ls = omega arith in
@@ -45,20 +35,15 @@ loop-i-preserved c =
     let more_ls : take (i + 1) ls ≡ take i ls ++ log ∷ [] = take_more ls i log in_logs ∙ ap (λ (l : Records). take i ls ++ l ∷ []) (sym c.index-logs-i.is) in
     let cost = λ (us : List Tuning) (ms : List Records) (k x : ℕ). slot_cost c.args.table.now (receptions us ms) c.args.station c.args.begin k x in
     let adds = c.add_receiver.ensures in
-    let written : (with_items c.loop-i.rows new).items ≡ new = with_items_is c.loop-i.rows new (adds.slots ∙ c.as_mut_slice.ensures.len) in
-    let kept : c.as_mut_slice.result.now ≡ old = c.as_mut_slice.ensures.value in
-    rw written (record {
-      slots = adds.slots ∙ ap (λ (rows : List (List ℕ)). length rows) kept ∙ before.slots;
+    record {
+      slots = adds.slots ∙ before.slots;
       each = λ k x h s.
-          let within : k < length c.as_mut_slice.result.now = rw kept (let slots = before.slots in omega arith) in
           let grown = slot_cost_more c.args.table.now (take i ts) (take i ls) (get_or ts i d) log c.args.station c.args.begin k x same in
           let whole = ap (λ us. cost us (take (i + 1) ls) k x) (take_more ts i d c.loop-i-test.true) ∙ ap (λ ms. cost (take i ts ++ get_or ts i d ∷ []) ms k x) more_ls in
           let second = second_cost c.args.table.now (heard (get_or ts i d) log) (c.args.begin + (get_or ts i d).delay + 1000 * k) (waveform c.args.station x) in
-          adds.each k x within s ∙ ap (λ (rows : List (List ℕ)). cost_at rows k x + second) kept ∙ ap (λ n. n + second) (before.each k x h s) ∙ sym (whole ∙ grown);
-      small = λ k x.
-          let bound : cost_at new k x ≤ cost_at old k x + RECEIVER_COST = subst (λ (rows : List (List ℕ)). cost_at new k x ≤ cost_at rows k x + RECEIVER_COST) kept (adds.bound k x) in
-          omega (arith, bound, before.small k x);
-    })
+          adds.each k x (let slots = before.slots in omega arith) s ∙ ap (λ n. n + second) (before.each k x h s) ∙ sym (whole ∙ grown);
+      small = λ k x. omega (arith, adds.bound k x, before.small k x);
+    }
 
 pub returns : goal.returns
 returns c =
