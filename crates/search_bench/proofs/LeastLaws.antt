@@ -1,5 +1,6 @@
 -- The least that the legal sequences of a block cost, minute by minute.
 use Rattle.std.proofs.Common.{◌≡◌, ℕ, ◌+◌, ◌<◌, ◌≤◌, ◌⊎◌, inl, inr, min, Option, Some, None, refl, sym, ap, ◌∙◌, subst, arith}
+use Rattle.std.proofs.Math.Nat.{min-eq_left, min-eq_right, min-le_left, min-le_right}
 use Rattle.std.proofs.lemmas.Bool.{cases_lt}
 use Rattle.signal_base.specs.declared.window.Window.{Window}
 use Rattle.definitions.specs.declared.block.Block.{Block}
@@ -12,17 +13,11 @@ use Rattle.plain_costs.specs.Unions.{sequence_from}
 use Rattle.field_tables.specs.Floors.{IsFloor}
 use Rattle.search_bench.specs.Floors.{IsLeast, IsLegalCost, SomeCosts, lesser}
 
--- the lesser of two numbers is no more than either, and one of them
-min_left : (m n : ℕ) → min m n ≤ m
-min_left m n = omega arith
-
-min_right : (m n : ℕ) → min m n ≤ n
-min_right m n = omega arith
-
+-- the lesser of two numbers is one of them
 min_either : (m n : ℕ) → (min m n ≡ m) ⊎ (min m n ≡ n)
 min_either m n = elim (cases_lt m n) [
-  | inl less ↦ inl (omega (arith, less))
-  | inr not_less ↦ inr (omega (arith, not_less))
+  | inl less ↦ inl (min-eq_left (omega (arith, less)))
+  | inr not_less ↦ inr (min-eq_right (omega (arith, not_less)))
 ]
 
 module _ (costs : Costs) (window : Window) (b : Block) where
@@ -82,8 +77,8 @@ module _ (costs : Costs) (window : Window) (b : Block) where
   )
   least_with t (Some m) (Some n) lo hi cost before = (
     (λ q is legal. elim (last_or_earlier t q is) [
-      | inl earlier ↦ let old = before.0 q earlier legal in omega (arith, old, min_left m n)
-      | inr last ↦ let new = cost.1 ∙ sym (ap (sequence_cost costs window) last) in omega (arith, new, min_right m n)
+      | inl earlier ↦ let old = before.0 q earlier legal in omega (arith, old, min-le_left m n)
+      | inr last ↦ let new = cost.1 ∙ sym (ap (sequence_cost costs window) last) in omega (arith, new, min-le_right m n)
     ]),
     (elim (min_either m n) [
       | inl old ↦ subst (SomeCosts costs window b) (sym old) before.1

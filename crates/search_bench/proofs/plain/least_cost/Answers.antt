@@ -17,7 +17,7 @@ loop-first-preserved c =
     let t = c.loop-first.first in
     let next = c.legal_cost.result in
     let cost = subst (λ (q : Sequence). IsLegalCost costs case.window q next) c.sequence_from-q.ensures c.legal_cost.ensures in
-    subst (IsLeastBefore costs case.window b (t + 1)) (sym c.lesser.ensures)
+    subst (IsLeastBefore costs case.window b (t + 1)) (sym c.lesser-least.ensures)
     (least_with costs case.window b t c.loop-first.least next (omega arith) (omega arith) cost c.loop-first.invariant)
 
 pub returns : goal.returns
