@@ -1,1 +1,2 @@
+mod LeastLaws
 mod OrderLaws

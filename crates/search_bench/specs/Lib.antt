@@ -1,3 +1,4 @@
 pub mod Receivers
 pub mod Counting
+pub mod Floors
 pub mod Stations

@@ -3,6 +3,7 @@
 //! | Words | What it does |
 //! |---|---|
 //! | `compare [SEED]` | compares the bounds of blocks, floors of days, and the legality and costs of sequences, over windows of noise |
+//! | `floors [SEED]` | compares floors of days, and tells how near they come |
 //! | `costs STATION` | works out ten million costs of an empty log |
 //! | `measure SECONDS FROM TO STATION=LOG..` | counts and times what a search of the logs visits |
 #![tactic(auto)]
@@ -13,6 +14,8 @@ mod compare;
 mod counts;
 mod draw;
 mod fault;
+mod floor_tally;
+mod floors;
 mod load;
 mod measure;
 mod noise;
@@ -28,8 +31,9 @@ mod tally;
 #[cfg(test)]
 mod tests;
 mod times;
+mod windows;
 
-use compare::compare;
+use compare::{compare, measure_floors};
 use fault::Fault;
 use load::station_of;
 use measure::measure;
@@ -62,6 +66,7 @@ fn run<R: Threads + Sync + Clock + Env + Files + Print + AllocGlobal>(rt: &R) ->
     };
     match mode.as_str() {
         "compare" => compare(rt, seed_of(rest)?),
+        "floors" => measure_floors(rt, seed_of(rest)?),
         "costs" => time_silence(rt, rest),
         "measure" => measure(rt, rest),
         _ => Err(Fault::Words),

@@ -1,9 +1,12 @@
-//! Bounds and unions as their definitions say them: by a walk through each slot of each sequence.
+//! Bounds, unions and least costs as their definitions say them: by a walk through each slot of each sequence.
 
 ghost use Rattle.std.specs.Prelude.{◌≡◌, ◌<◌, true};
 ghost use Rattle.definitions.specs.answers.Blocks.{IsBlock, IsBound, IsMinuteBound, first_of};
 ghost use Rattle.definitions.specs.codes.Allowed.{has_station};
+ghost use Rattle.definitions.specs.sequences.Walks.{IsSequence};
+ghost use Rattle.plain_costs.specs.Unions.{sequence_from};
 ghost use Rattle.field_tables.specs.Grids.{grid_costs};
+ghost use Rattle.search_bench.specs.Floors.{IsLeast, IsLegalCost, lesser};
 
 use crate::case::Case;
 use definitions::{Block, Sequence, Span};
@@ -27,26 +30,44 @@ fn minute_bound(case: &Case, block: &Block) -> Option<u32>
     requires { IsBlock case.now.window block.now }
     ensures { IsMinuteBound (grid_costs case.now.grids.now) case.now.window block.now result }
 {
-    let q = first_of(block);
-    if !legal(case.civil, &case.window, &q) {
-        return None;
-    }
-    Some(plain_cost(case.grids, case.civil, &case.window, &q))
+    legal_cost(case, &first_of(block))
 }
 
-/// What the legal sequence of a block costs that costs least, by walks. None where none is legal.
+/// The least that a legal sequence of a block costs, by walks. None where none is legal.
 pub fn least_cost(case: &Case, block: &Block) -> Option<u32>
     requires { IsBlock case.now.window block.now }
+    ensures { IsLeast (grid_costs case.now.grids.now) case.now.window block.now result }
 {
     let mut least = None;
     for first in block.lo..block.hi {
         let q = sequence_from(block, first);
-        if legal(case.civil, &case.window, &q) {
-            let cost = plain_cost(case.grids, case.civil, &case.window, &q);
-            least = Some(cost.min(least.unwrap_or(cost)));
-        }
+        least = lesser(least, legal_cost(case, &q));
     }
     least
+}
+
+// What a sequence costs, where it is legal.
+fn legal_cost(case: &Case, q: &Sequence) -> Option<u32>
+    requires { IsSequence q.now }
+    ensures { IsLegalCost (grid_costs case.now.grids.now) case.now.window q.now result }
+{
+    if !legal(case.civil, &case.window, q) {
+        return None;
+    }
+    Some(plain_cost(case.grids, case.civil, &case.window, q))
+}
+
+// The lesser of two costs, as far as there are any.
+fn lesser(one: Option<u32>, other: Option<u32>) -> Option<u32>
+    ensures { result ≡ lesser one other }
+{
+    let Some(m) = one else {
+        return other;
+    };
+    let Some(n) = other else {
+        return one;
+    };
+    Some(m.min(n))
 }
 
 /// The union of the sets that the block's walkable sequences allow the station in a slot of the window, by walks. None where
@@ -69,7 +90,7 @@ pub fn plain_union(case: &Case, station: Station, block: &Block, slot: u16) -> O
 
 // The block's sequence from minute `first` on.
 fn sequence_from(block: &Block, first: u32) -> Sequence
-    ensures { (result.first ≡ first) × (result.second ≡ block.now.second) }
+    ensures { result ≡ sequence_from block.now first }
 {
     Sequence {
         first,

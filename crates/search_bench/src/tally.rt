@@ -1,5 +1,6 @@
 //! What was compared, counted by kind.
 
+use crate::floor_tally::{FloorTally, count_if};
 use definitions::{Block, Span};
 use std::fmt;
 
@@ -19,11 +20,8 @@ pub struct Tally {
     sequences: u32,
     walkable: u32,
     legal: u32,
-    floors: u32,
-    exact_floors: u32,
-    zero_floors: u32,
-    days_not_legal: u32,
-    days_without_floor: u32,
+    /// The floors of days.
+    pub floors: FloorTally,
 }
 
 impl Tally {
@@ -43,11 +41,7 @@ impl Tally {
             sequences: 0,
             walkable: 0,
             legal: 0,
-            floors: 0,
-            exact_floors: 0,
-            zero_floors: 0,
-            days_not_legal: 0,
-            days_without_floor: 0,
+            floors: FloorTally::new(),
         }
     }
 
@@ -81,15 +75,6 @@ impl Tally {
         count_if(&mut self.walkable, is_walkable);
         count_if(&mut self.legal, is_legal);
     }
-
-    /// Counts the floor of a day with the least cost of its legal sequences.
-    pub fn count_floor(&mut self, floor: Option<u32>, least: Option<u32>) {
-        count_if(&mut self.floors, true);
-        count_if(&mut self.days_without_floor, floor.is_none());
-        count_if(&mut self.days_not_legal, least.is_none());
-        count_if(&mut self.exact_floors, least.is_some() && floor == least);
-        count_if(&mut self.zero_floors, least.is_some() && floor == Some(0));
-    }
 }
 
 // The second that is inserted.
@@ -97,12 +82,6 @@ const LEAP_SECOND: u8 = 60;
 
 // The set of a second that isn't scored: all eight bits.
 const UNSCORED: u8 = u8::MAX;
-
-fn count_if(count: &mut u32, counts: bool) {
-    if counts {
-        *count = count.saturating_add(1);
-    }
-}
 
 impl fmt::Display for Tally {
     fn fmt<W: fmt::Write>(&self, f: &mut fmt::Formatter<W>) -> fmt::Result {
@@ -120,11 +99,7 @@ impl fmt::Display for Tally {
             sequences,
             walkable,
             legal,
-            floors,
-            exact_floors,
-            zero_floors,
-            days_not_legal,
-            days_without_floor,
+            ..
         } = *self;
         write!(f, "{windows} windows")?;
         write!(
@@ -139,10 +114,6 @@ impl fmt::Display for Tally {
         write!(
             f,
             "; {sequences} sequences, {walkable} walkable, {legal} legal"
-        )?;
-        write!(
-            f,
-            "; {floors} floors, {exact_floors} exact, {zero_floors} of 0; of {days_not_legal} days without a legal sequence {days_without_floor} told"
         )
     }
 }
