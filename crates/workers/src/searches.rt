@@ -9,7 +9,7 @@ ghost use Rattle.workers.specs.Searches.{AreItemsOf, HasSearched};
 
 use crate::crew::Crew;
 use crate::gate::Gate;
-use crate::laws::blocks_share_the_sequences;
+use block_visits::blocks_share_the_sequences;
 use crate::recorder::{NoRecord, Recorder};
 use crate::sharing::share_out;
 use crate::visitor::Visitor;

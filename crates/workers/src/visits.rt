@@ -6,7 +6,7 @@ ghost use Rattle.field_tables.specs.Scored.{costs_of};
 ghost use Rattle.signal_base.specs.declared.limits.TheConstants.{GREATEST_COST};
 ghost use Rattle.workers.specs.Searches.{HasVisited};
 
-use crate::laws::blocks_share_the_sequences;
+use block_visits::blocks_share_the_sequences;
 use crate::recorder::NoRecord;
 use crate::visitor::Visitor;
 use definitions::Block;
