@@ -42,17 +42,22 @@ steps_lead part steps (l ∷ ls) es all few lead =
 parts_lead : (part steps : ℕ) (parts : List (List Line)) → AllByRecursion IsLine (joined parts) → steps + length (joined parts) ≤ MOST_STEPS
     → part + length parts < MOST_PARTS → Lead (AtStep part steps) (part_entries (part + 1) parts) AtEnd
 parts_lead part steps [] all few small = (tt, tt, refl)
-parts_lead part steps (p ∷ ps) all few small =
-    ((refl, omega (arith, small)), tt,
-    steps_lead (part + 1) steps p (part_entries (part + 1 + 1) ps) (all_first IsLine p (joined ps) all) (omega (arith, few, length-append p (joined ps)))
-    (parts_lead (part + 1) (steps + length p) ps (all_last IsLine p (joined ps) all) (omega (arith, few, length-append p (joined ps))) (omega (arith, small))))
+parts_lead part steps (p ∷ ps) all few small = (
+  (refl, omega (arith, small)),
+  tt,
+  steps_lead (part + 1) steps p (part_entries (part + 1 + 1) ps) (all_first IsLine p (joined ps) all) (omega (arith, few, length-append p (joined ps)))
+      (parts_lead (part + 1) (steps + length p) ps (all_last IsLine p (joined ps) all) (omega (arith, few, length-append p (joined ps))) (omega (arith, small))),
+)
 
 all_lead : (parts : List (List Line)) → AllByRecursion IsLine (joined parts) → length (joined parts) ≤ MOST_STEPS → 1 ≤ length parts → length parts ≤ MOST_PARTS
     → Lead AtParts (part_entries 0 parts) AtEnd
 all_lead [] all few some most = absurd (omega (arith, some))
-all_lead (p ∷ ps) all few some most =
-    (refl, tt, steps_lead 0 0 p (part_entries 1 ps) (all_first IsLine p (joined ps) all) (omega (arith, few, length-append p (joined ps)))
-    (parts_lead 0 (0 + length p) ps (all_last IsLine p (joined ps) all) (omega (arith, few, length-append p (joined ps))) (omega (arith, most))))
+all_lead (p ∷ ps) all few some most = (
+  refl,
+  tt,
+  steps_lead 0 0 p (part_entries 1 ps) (all_first IsLine p (joined ps) all) (omega (arith, few, length-append p (joined ps)))
+      (parts_lead 0 (0 + length p) ps (all_last IsLine p (joined ps) all) (omega (arith, few, length-append p (joined ps))) (omega (arith, most))),
+)
 
 version_fits : (stations : Stations) → IsWithin ONE_STATION (SEVERAL_STATIONS + 1) (Some (version_of stations))
 version_fits stations = by_test (nat_lt 1 (length (stations_of stations)))
@@ -63,18 +68,47 @@ version_fits stations = by_test (nat_lt 1 (length (stations_of stations)))
 
 pub certificate_leads : (c : Certificate) → IsSpelled c → length (lines_of c) ≤ MOST_STEPS → Lead first_line (entries_of c) AtEnd
 certificate_leads c is few =
-    let w = is.window in
-    ((refl, version_fits c.head.window.stations), tt,
-    ((refl, ((w.some_station, omega (arith, w.stations)), refl)), tt,
-    ((refl, (omega arith, w.start)), tt,
-    ((refl, (omega arith, w.phase)), tt,
-    ((refl, (w.not_short, omega (arith, w.not_long))), tt,
-    ((refl, (omega arith, omega (arith, w.not_empty, w.century))), tt,
-    ((refl, (omega (arith, w.not_empty), omega (arith, w.century))), tt,
-    ((refl, (omega arith, omega (arith, is.ceiling))), tt,
-    ((refl, is.first), tt,
-    ((refl, is.second), tt,
-    all_lead c.parts is.lines few is.some_part is.few_parts))))))))))
+    let w = is.window in (
+      (refl, version_fits c.head.window.stations),
+      tt,
+      (
+        (refl, ((w.some_station, omega (arith, w.stations)), refl)),
+        tt,
+        (
+          (refl, (omega arith, w.start)),
+          tt,
+          (
+            (refl, (omega arith, w.phase)),
+            tt,
+            (
+              (refl, (w.not_short, omega (arith, w.not_long))),
+              tt,
+              (
+                (refl, (omega arith, omega (arith, w.not_empty, w.century))),
+                tt,
+                (
+                  (refl, (omega (arith, w.not_empty), omega (arith, w.century))),
+                  tt,
+                  (
+                    (refl, (omega arith, omega (arith, is.ceiling))),
+                    tt,
+                    (
+                      (refl, is.first),
+                      tt,
+                      (
+                        (refl, is.second),
+                        tt,
+                        all_lead c.parts is.lines few is.some_part is.few_parts,
+                      ),
+                    ),
+                  ),
+                ),
+              ),
+            ),
+          ),
+        ),
+      ),
+    )
 
 -- the other way round: the parts that lines make
 record AreParts (part steps : ℕ) (es : List Entry) : Type 0 where
@@ -227,15 +261,15 @@ leads_certificate es lead =
       },
       all.few,
       tells_more Version version.value _ es version.rest _ version.same versions
-      (tells_more Heard heard.value _ version.rest heard.rest _ heard.same mask.1
-      (tells_more Start start.value _ heard.rest start.rest _ start.same begin.1
-      (tells_more Phase phase.value _ start.rest phase.rest _ phase.same offset.1
-      (tells_more Seconds seconds.value _ phase.rest seconds.rest _ seconds.same long.1
-      (tells_more From from.value _ seconds.rest from.rest _ from.same low.1
-      (tells_more To to.value _ from.rest to.rest _ to.same high.1
-      (tells_more Ceiling ceiling.value _ to.rest ceiling.rest _ ceiling.same cost.1
-      (tells_more First first.value _ ceiling.rest first.rest _ first.same refl
-      (tells_more Second second.value _ first.rest second.rest _ second.same refl all.same))))))))),
+          (tells_more Heard heard.value _ version.rest heard.rest _ heard.same mask.1
+          (tells_more Start start.value _ heard.rest start.rest _ start.same begin.1
+          (tells_more Phase phase.value _ start.rest phase.rest _ phase.same offset.1
+          (tells_more Seconds seconds.value _ phase.rest seconds.rest _ seconds.same long.1
+          (tells_more From from.value _ seconds.rest from.rest _ from.same low.1
+          (tells_more To to.value _ from.rest to.rest _ to.same high.1
+          (tells_more Ceiling ceiling.value _ to.rest ceiling.rest _ ceiling.same cost.1
+          (tells_more First first.value _ ceiling.rest first.rest _ first.same refl
+          (tells_more Second second.value _ first.rest second.rest _ second.same refl all.same))))))))),
     )
 
 -- certificates of the same lines are the same: what the n-th line tells, and the parts

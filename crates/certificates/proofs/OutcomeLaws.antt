@@ -107,14 +107,17 @@ stops_here next text fault bad = inr (fault, record { read = []; last = next; re
 module _ (next : Next) (e : Entry) (tail : List ℕ) (can : CanStand next e) (room : HasRoom next e) where
   goes_on : Goes (after next e) tail → Goes next (entry_line e ++ tail)
   goes_on (inl h) = inl (e ∷ h.0, (can, room, h.1), ap (λ l. entry_line e ++ l) h.2)
-  goes_on (inr h) = inr (h.0, record {
-    read = e ∷ h.1.read;
-    last = h.1.last;
-    rest = h.1.rest;
-    lead = (can, room, h.1.lead);
-    parts = ap (λ l. entry_line e ++ l) h.1.parts ∙ sym (entries_apart e h.1.read h.1.rest);
-    bad = h.1.bad;
-  })
+  goes_on (inr h) = inr (
+    h.0,
+    record {
+      read = e ∷ h.1.read;
+      last = h.1.last;
+      rest = h.1.rest;
+      lead = (can, room, h.1.lead);
+      parts = ap (λ l. entry_line e ++ l) h.1.parts ∙ sym (entries_apart e h.1.read h.1.rest);
+      bad = h.1.bad;
+    },
+  )
 
 -- a line has a byte at least
 line_some : (e : Entry) (tail : List ℕ) → length tail < length (entry_line e ++ tail)
@@ -150,12 +153,16 @@ text_has_outcome text = put (goes (suc (length text)) first_line text (omega ari
     put (inl h) =
         let c = leads_certificate h.0 h.1 in
         inl (c.0, record { spelled = c.1; few = c.2; same = h.2 ∙ ap entries_text c.3 })
-    put (inr h) = inr (length h.1.read + 1, h.0, record {
-      read = h.1.read;
-      next = h.1.last;
-      rest = h.1.rest;
-      lead = h.1.lead;
-      parts = h.1.parts;
-      is_due = refl;
-      bad = h.1.bad;
-    })
+    put (inr h) = inr (
+      length h.1.read + 1,
+      h.0,
+      record {
+        read = h.1.read;
+        next = h.1.last;
+        rest = h.1.rest;
+        lead = h.1.lead;
+        parts = h.1.parts;
+        is_due = refl;
+        bad = h.1.bad;
+      },
+    )

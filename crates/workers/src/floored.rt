@@ -11,9 +11,9 @@ ghost use Rattle.block_visits.specs.Visits.{limit_at};
 ghost use Rattle.workers.specs.Steps.{HasStopped, HasWalked, HaveStopped, HaveWalked, NeedsNone};
 ghost use Rattle.workers.specs.Passing.{CountsAs, HasLooked, HasPassed, is_above};
 
-use block_visits::blocks_share_the_sequences;
 use crate::recorder::Recorder;
 use crate::visitor::{Visitor, limit_at};
+use block_visits::blocks_share_the_sequences;
 use bounds::{Bounded, block_key, bound, bounded_children};
 use definitions::{Block, Span, children_share_the_sequences};
 use race_words::{Often, Seat};
