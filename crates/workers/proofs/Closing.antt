@@ -17,13 +17,14 @@ use Rattle.definitions.specs.answers.FirstTwo.{AreLeastTwo, IsWindowKey}
 use Rattle.race_words.specs.declared.view.View.{View}
 use Rattle.race_words.specs.Keys.{no_key, two_least}
 use Rattle.race_words.specs.Sound.{times, HasEachOnce}
-use Rattle.workers.specs.Facts.{Facts}
-use Rattle.workers.specs.Visits.{items_at}
-use Rattle.workers.specs.Searches.{AreApart, AreNotBelow, HasSearched, key_if_any}
-use Rattle.workers.proofs.Covering.{all_weaker, legal_is_sequence, offers_admitted}
-use Rattle.workers.proofs.Counting.{one_in, count_in, in_one_counts, no_times, offers_no_more}
+use Rattle.block_visits.specs.Facts.{Facts}
+use Rattle.block_visits.specs.Visits.{items_at}
+use Rattle.workers.specs.Searches.{AreNotBelow, HasSearched}
+use Rattle.block_visits.specs.Apart.{AreApart, key_if_any}
+use Rattle.block_visits.proofs.Covering.{all_weaker, legal_is_sequence, offers_admitted}
+use Rattle.block_visits.proofs.Counting.{one_in, count_in, in_one_counts, no_times, offers_no_more}
 use Rattle.workers.proofs.Drawing.{drawn_le, drawn_all, place_of, at_most_once, below_is_drawn}
-use Rattle.workers.proofs.TwoLeast.{least_two}
+use Rattle.block_visits.proofs.TwoLeast.{least_two}
 
 second_of : (s : ℕ) (announced ends : Bool) → s < (if announced && ends then 61 else 60) → s < (if announced then 61 else 60)
 second_of s true true lt = lt

@@ -1,13 +1,14 @@
 -- The items with the numbers drawn, where no number was drawn twice.
-use Rattle.std.proofs.Common.{◌≡◌, ℕ, zero, suc, ◌+◌, ◌*◌, ◌<◌, ◌≤◌, Bool, true, false, ◌==◌, nat_lt, if◌then◌else◌, List, [], ◌∷◌, length, get_or, slice_get, Option, Some, None, refl, sym, ap, ◌∙◌, subst, ⊎_elim, arith}
+use Rattle.std.proofs.Common.{◌≡◌, ℕ, zero, suc, ◌+◌, ◌*◌, ◌<◌, ◌≤◌, Bool, true, false, ◌==◌, nat_lt, if◌then◌else◌, List, [], ◌∷◌, length, slice_get, Option, Some, None, refl, sym, ap, ◌∙◌, subst, ⊎_elim, arith}
 use Rattle.std.specs.List.{AllByRecursion, Contains, sum_by, filter_map, cons_option}
 use Rattle.std.proofs.lemmas.Bool.{cases_Bool, cases_eq, eq-eqb, ne_eqb, lt-ltb, ltb-true}
-use Rattle.std.proofs.lemmas.List.Sums.{sum_by-cons, get_or-le-sum_by}
+use Rattle.std.proofs.lemmas.List.Sums.{sum_by-cons}
 use Rattle.definitions.specs.declared.sequence.Sequence.{Sequence}
 use Rattle.definitions.specs.declared.block.Block.{Block}
 use Rattle.definitions.specs.answers.Blocks.{IsIn}
 use Rattle.race_words.specs.Sound.{times, HasEachOnce}
-use Rattle.workers.proofs.Counting.{is_in, true_is_in, one_if, one_in, count_in}
+use Rattle.block_visits.proofs.TwoLeast.{stands}
+use Rattle.block_visits.proofs.Counting.{is_in, true_is_in, one_if, one_in, count_in}
 
 -- the numbers above 0, each less by one
 lowered : List ℕ → List ℕ
@@ -101,12 +102,6 @@ place_of q (b ∷ bs) some =
     let rest = place_of q bs (omega (arith, some, none, sum_by-cons (one_in q) b bs)) in
     (suc rest.0, rest.1, rest.2, rest.3, omega (arith, rest.4)))
     (cases_Bool (is_in q b))
-
--- what a list has stands in it at least once
-pub stands : (ns : List ℕ) (n : ℕ) → Contains ns n → 0 < times n ns
-stands ns n has =
-    let one : one_if (get_or ns has.0 n == n) ≡ 1 = ap one_if (eq-eqb (get_or ns has.0 n) n has.2) in
-    omega (arith, one, get_or-le-sum_by (λ y. one_if (y == n)) ns has.0 n has.1)
 
 -- a list that has each number below its length once
 module _ (ns : List ℕ) (each : HasEachOnce ns) where

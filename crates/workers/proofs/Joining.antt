@@ -9,7 +9,7 @@ use Rattle.race_words.specs.declared.view.View.{View}
 use Rattle.race_words.specs.Held.{RaceSeen, SeatSeen}
 use Rattle.race_words.specs.Keys.{no_key}
 use Rattle.race_words.specs.Views.{after_join}
-use Rattle.workers.specs.Visits.{limit_at, items_at, offered_under, opened_under, AreVisits}
+use Rattle.block_visits.specs.Visits.{limit_at, items_at, offered_under, opened_under, AreVisits}
 use Rattle.workers.specs.Steps.{Step, keys_of, reads_of}
 use Rattle.workers.specs.Workers.{AreUsedUp, HasShared, HasWorked, IsIdle, but_drawn}
 use Rattle.workers.proofs.Taking.{floors_steps, gained_steps, steps_visit}

@@ -1,7 +1,4 @@
-pub mod Covering
-pub mod Counting
 pub mod Drawing
-pub mod TwoLeast
 pub mod Closing
 pub mod Walking
 pub mod Passing

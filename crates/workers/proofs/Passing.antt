@@ -16,11 +16,11 @@ use Rattle.definitions.proofs.BoundExistLaws.{a_bound}
 use Rattle.field_tables.specs.Floors.{IsFloor}
 use Rattle.race_words.specs.declared.view.View.{View}
 use Rattle.race_words.specs.Views.{after_limit, after_limits}
-use Rattle.workers.specs.Facts.{Facts}
-use Rattle.workers.specs.Visits.{limit_at, offered_by, offered_under, opened_under}
+use Rattle.block_visits.specs.Facts.{Facts}
+use Rattle.block_visits.specs.Visits.{limit_at, offered_by, offered_under, opened_under}
 use Rattle.workers.specs.Steps.{Step, AreSteps, HasWalked, NeedsNone, Offers, Takes, depth, keys_of, offered_at}
 use Rattle.workers.specs.Passing.{ArePassing, CountsAs, HasLooked, HasPassed, is_above}
-use Rattle.workers.proofs.Covering.{all_then, all_weaker, first_is_in, minute_bound, minute_key, opened_all}
+use Rattle.block_visits.proofs.Covering.{all_then, all_weaker, first_is_in, minute_bound, minute_key, opened_all}
 use Rattle.workers.proofs.Walking.{steps_then}
 
 all_both : {X : Type 0} (P Q : X → Type 0) (xs : List X) → AllByRecursion P xs → AllByRecursion Q xs → AllByRecursion (λ x. P x × Q x) xs

@@ -9,11 +9,11 @@ use Rattle.definitions.specs.heard.Costs.{Costs}
 use Rattle.race_words.specs.declared.view.View.{View}
 use Rattle.race_words.specs.Held.{RaceSeen, SeatSeen}
 use Rattle.race_words.specs.Views.{after_join}
-use Rattle.workers.specs.Visits.{items_at}
+use Rattle.block_visits.specs.Visits.{items_at}
 use Rattle.workers.specs.Steps.{Step, keys_of, offered_at, reads_of, AreSteps}
 use Rattle.workers.specs.Workers.{HasWorked, IsIdle, but_drawn}
 use Rattle.workers.specs.Recorded.{alone, halves, lists_of, steps_of, AreTaken, HaveShared}
-use Rattle.workers.proofs.Covering.{all_then}
+use Rattle.block_visits.proofs.Covering.{all_then}
 use Rattle.workers.proofs.Joining.{both_shared, one_shared}
 use Rattle.workers.proofs.Taking.{gained_steps}
 use Rattle.workers.proofs.Walking.{steps_then}

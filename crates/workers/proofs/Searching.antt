@@ -12,13 +12,13 @@ use Rattle.definitions.specs.heard.Costs.{Costs}
 use Rattle.definitions.specs.answers.Blocks.{block_from, blocks, items, span_end, IsBlock, IsIn}
 use Rattle.race_words.specs.Held.{RaceSeen, SeatSeen}
 use Rattle.race_words.specs.Keys.{no_key}
-use Rattle.workers.specs.Facts.{Facts}
-use Rattle.workers.specs.Visits.{items_at}
+use Rattle.block_visits.specs.Facts.{Facts}
+use Rattle.block_visits.specs.Visits.{items_at}
 use Rattle.workers.specs.Searches.{AreItemsOf, HasSearched}
 use Rattle.workers.specs.Workers.{AreItems, HasShared}
-use Rattle.workers.proofs.Covering.{IsInSome, IsMet, covers}
+use Rattle.block_visits.proofs.Covering.{IsInSome, IsMet, covers}
 use Rattle.workers.proofs.Drawing.{drawn_all}
-use Rattle.workers.proofs.TwoLeast.{contains_cases}
+use Rattle.block_visits.proofs.TwoLeast.{contains_cases}
 
 -- a window has few items
 few_blocks : (announced : Bool) (second : ℕ) (span : Span) (n lo hi : ℕ) → length (blocks announced second span n lo hi) ≤ n

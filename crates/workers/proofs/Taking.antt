@@ -9,11 +9,11 @@ use Rattle.definitions.specs.heard.Costs.{Costs}
 use Rattle.definitions.specs.answers.Blocks.{IsBlock}
 use Rattle.race_words.specs.declared.view.View.{View}
 use Rattle.race_words.specs.Views.{after_limit, after_offer}
-use Rattle.workers.specs.Facts.{Facts}
-use Rattle.workers.specs.Visits.{limit_at, offered_under, opened_under, AreVisits, IsCovered}
+use Rattle.block_visits.specs.Facts.{Facts}
+use Rattle.block_visits.specs.Visits.{limit_at, offered_under, opened_under, AreVisits, IsCovered}
 use Rattle.workers.specs.Searches.{HasVisited}
-use Rattle.workers.proofs.Covering.{all_weaker, visit_covers, visit_admitted}
-use Rattle.workers.proofs.Counting.{visit_once}
+use Rattle.block_visits.proofs.Covering.{all_weaker, visit_covers, visit_admitted}
+use Rattle.block_visits.proofs.Counting.{visit_once}
 use Rattle.workers.specs.Steps.{Step, keys_of, offered_at, reads_of, AreSteps, HasWalked, Offers, Takes}
 
 -- a view that read and offered these, behind what it had, and is otherwise as it was but that the two keys known may have fallen

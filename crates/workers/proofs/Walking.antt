@@ -11,7 +11,7 @@ use Rattle.definitions.specs.heard.Costs.{Costs}
 use Rattle.definitions.specs.answers.Blocks.{block_key, children, children_by, IsBound}
 use Rattle.race_words.specs.declared.view.View.{View}
 use Rattle.race_words.specs.Views.{after_limit, after_offer}
-use Rattle.workers.specs.Visits.{limit_at, offered_by, offered_under, opened_under}
+use Rattle.block_visits.specs.Visits.{limit_at, offered_by, offered_under, opened_under}
 use Rattle.workers.specs.Steps.{Step, AreFirstSteps, AreSteps, HasOpened, HasStopped, HasWalked, HaveStopped, HaveWalked, Offers, Takes}
 use Rattle.workers.proofs.Taking.{gained_steps}
 

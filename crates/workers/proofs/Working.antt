@@ -9,7 +9,7 @@ use Rattle.definitions.specs.declared.block.Block.{Block}
 use Rattle.definitions.specs.heard.Costs.{Costs}
 use Rattle.race_words.specs.declared.view.View.{View}
 use Rattle.race_words.specs.Views.{after_draw, after_limit, after_offer}
-use Rattle.workers.specs.Visits.{items_at}
+use Rattle.block_visits.specs.Visits.{items_at}
 use Rattle.workers.specs.Steps.{Step, offered_at, AreSteps, HasWalked, Offers, Takes}
 use Rattle.workers.specs.Workers.{HasWorked, IsIdle, but_drawn}
 use Rattle.workers.proofs.Walking.{folds_then, steps_then}

@@ -7,7 +7,7 @@ use Rattle.definitions.specs.heard.Costs.{Costs}
 use Rattle.definitions.specs.answers.Blocks.{block_key}
 use Rattle.race_words.specs.declared.view.View.{View}
 use Rattle.race_words.specs.Views.{after_limit}
-use Rattle.workers.specs.Visits.{limit_at}
+use Rattle.block_visits.specs.Visits.{limit_at}
 use Rattle.workers.specs.Steps.{Step, AreSteps, Takes, keys_of}
 
 -- whether the key of a block's floor is above the limit; a block of which no sequence is legal has none

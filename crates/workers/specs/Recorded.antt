@@ -6,7 +6,7 @@ use Rattle.definitions.specs.declared.block.Block.{Block}
 use Rattle.definitions.specs.heard.Costs.{Costs}
 use Rattle.race_words.specs.declared.view.View.{View}
 use Rattle.race_words.specs.Held.{RaceSeen, SeatSeen}
-use Rattle.workers.specs.Visits.{items_at}
+use Rattle.block_visits.specs.Visits.{items_at}
 use Rattle.workers.specs.Steps.{Step, AreSteps, Takes, keys_of, reads_of}
 use Rattle.workers.specs.Workers.{HasShared, IsIdle}
 

@@ -1,18 +1,14 @@
 -- What a visit and a whole search do to the view of a seat.
-use Rattle.std.specs.Prelude.{ℕ, ◌≡◌, ◌≤◌, ◌==◌, if◌then◌else◌, List, ◌++◌, slice_get, All, Contains, IsPermutation, Option, Some, None, MatchOption}
+use Rattle.std.specs.Prelude.{ℕ, ◌≡◌, ◌≤◌, List, ◌++◌, slice_get, All, Contains, IsPermutation, Option, Some, None, MatchOption}
 use Rattle.signal_base.specs.declared.window.Window.{Window}
 use Rattle.definitions.specs.declared.block.Block.{Block}
 use Rattle.definitions.specs.heard.Costs.{Costs}
 use Rattle.definitions.specs.answers.Blocks.{items}
 use Rattle.race_words.specs.declared.view.View.{View}
 use Rattle.race_words.specs.Keys.{no_key}
-use Rattle.race_words.specs.Sound.{times}
 use Rattle.workers.specs.Workers.{AreUsedUp}
-use Rattle.workers.specs.Visits.{AreDriven, IsBlockKey, IsCovered, IsVisit}
-
--- no key stands twice in the list
-abbrev pub AreApart : List ℕ → Type 0
-AreApart keys = (key : ℕ) → times key keys ≤ 1
+use Rattle.block_visits.specs.Apart.{AreApart}
+use Rattle.block_visits.specs.Visits.{AreDriven, IsBlockKey, IsCovered, IsVisit}
 
 -- the view v became w by one visit of the block
 pub record HasVisited (costs : Costs) (window : Window) (ceiling : ℕ) (b : Block) (v w : View) : Type 0 where
@@ -44,10 +40,6 @@ pub record HasSearched (costs : Costs) (window : Window) (ceiling : ℕ) (items 
   -- what was read is a key, or none
   pub known : All (λ seen. seen ≤ no_key) v.reads
   pub used_up : AreUsedUp items v.drawn
-
--- a key of a race, where the greatest u64 stands for none
-abbrev pub key_if_any : ℕ → Option ℕ
-key_if_any key = if key == no_key then None else Some key
 
 -- none of the reads is below the second key, and where there is none they read none
 abbrev pub AreNotBelow : Option ℕ → List ℕ → Type 0

@@ -9,7 +9,7 @@ use Rattle.definitions.specs.heard.Costs.{Costs}
 use Rattle.definitions.specs.answers.Blocks.{IsBound, block_key}
 use Rattle.race_words.specs.declared.view.View.{View}
 use Rattle.race_words.specs.Views.{after_limit, after_offer}
-use Rattle.workers.specs.Visits.{limit_at, offered_under, opened_under}
+use Rattle.block_visits.specs.Visits.{limit_at, offered_under, opened_under}
 
 -- a block, its bound, and what was read there
 pub record Step : Type 0 where

@@ -8,7 +8,7 @@ use Rattle.definitions.specs.answers.Blocks.{IsBlock}
 use Rattle.race_words.specs.declared.view.View.{View}
 use Rattle.race_words.specs.Held.{RaceSeen, SeatSeen}
 use Rattle.race_words.specs.Keys.{no_key}
-use Rattle.workers.specs.Visits.{AreDriven, items_at}
+use Rattle.block_visits.specs.Visits.{AreDriven, items_at}
 use Rattle.workers.specs.Steps.{Step, AreSteps, Takes}
 
 -- the view of a seat that did nothing yet

@@ -5,7 +5,8 @@ ghost use Rattle.definitions.specs.answers.FirstTwo.{AreLeastTwo, IsWindowKey};
 ghost use Rattle.field_tables.specs.Scored.{costs_of};
 ghost use Rattle.signal_base.specs.declared.limits.TheConstants.{GREATEST_COST};
 ghost use Rattle.race_words.specs.Sound.{times};
-ghost use Rattle.workers.specs.Searches.{AreItemsOf, AreNotBelow, HasSearched, key_if_any};
+ghost use Rattle.workers.specs.Searches.{AreItemsOf, AreNotBelow, HasSearched};
+ghost use Rattle.block_visits.specs.Apart.{key_if_any};
 
 use crate::laws::first_two_are_found;
 use definitions::Block;

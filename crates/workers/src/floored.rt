@@ -7,13 +7,13 @@ ghost use Rattle.definitions.specs.declared.block.Span.TheVariants.{Year, Day, M
 ghost use Rattle.definitions.specs.answers.Blocks.{IsBlock, children};
 ghost use Rattle.field_tables.specs.Scored.{costs_of};
 ghost use Rattle.race_words.specs.Views.{after_limit};
-ghost use Rattle.workers.specs.Visits.{limit_at};
+ghost use Rattle.block_visits.specs.Visits.{limit_at};
 ghost use Rattle.workers.specs.Steps.{HasStopped, HasWalked, HaveStopped, HaveWalked, NeedsNone};
 ghost use Rattle.workers.specs.Passing.{CountsAs, HasLooked, HasPassed, is_above};
 
-use crate::laws::blocks_share_the_sequences;
 use crate::recorder::Recorder;
 use crate::visitor::{Visitor, limit_at};
+use block_visits::blocks_share_the_sequences;
 use bounds::{Bounded, block_key, bound, bounded_children};
 use definitions::{Block, Span, children_share_the_sequences};
 use race_words::{Often, Seat};

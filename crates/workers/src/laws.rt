@@ -1,6 +1,6 @@
 //! The laws on visits and searches, as plain data.
 
-ghost use Rattle.std.specs.Prelude.{ℕ, ◌≡◌, ◌<◌, ◌≤◌, IsTrue, List, Option, length, All, IsPermutation};
+ghost use Rattle.std.specs.Prelude.{ℕ, ◌≡◌, ◌<◌, ◌≤◌, IsTrue, List, Option, length, IsPermutation};
 ghost use Rattle.signal_base.specs.declared.window.Window.{Window};
 ghost use Rattle.signal_base.specs.declared.limits.TheConstants.{GREATEST_COST};
 ghost use Rattle.definitions.specs.declared.block.Block.{Block};
@@ -12,49 +12,13 @@ ghost use Rattle.field_tables.specs.Floors.{IsFloor};
 ghost use Rattle.race_words.specs.declared.view.View.{View};
 ghost use Rattle.race_words.specs.Keys.{two_least};
 ghost use Rattle.race_words.specs.Sound.{times, HasEachOnce};
-ghost use Rattle.workers.specs.Facts.{Facts};
-ghost use Rattle.workers.specs.Visits.{AreVisits, IsBlockKey, IsCovered, IsVisit, limit_at};
+ghost use Rattle.block_visits.specs.Apart.{key_if_any};
+ghost use Rattle.block_visits.specs.Visits.{limit_at};
 ghost use Rattle.workers.specs.Steps.{Step};
 ghost use Rattle.workers.specs.Passing.{ArePassing, is_above};
-ghost use Rattle.workers.specs.Searches.{AreApart, HasSearched, key_if_any};
+ghost use Rattle.workers.specs.Searches.{HasSearched};
 
-use definitions::{
-    bound_is_not_above, bound_is_one, children_share_the_sequences, items_share_the_sequences,
-    keys_differ,
-};
-
-/// Visits by the same reads offer the same keys.
-pub fn visit_is_one()
-    ensures { (costs : Costs) (window : Window) (ceiling : ℕ) (bs : List Block) (reads keys others : List ℕ)
-        → AreVisits costs window ceiling bs reads keys → AreVisits costs window ceiling bs reads others → keys ≡ others }
-{
-    bound_is_one();
-}
-
-// The laws of the definitions, for the costs and the window of a search.
-pub(crate) fn blocks_share_the_sequences()
-    ensures { (costs : Costs) (window : Window) (ceiling : ℕ) → window.to ≤ century_minutes → Facts costs window ceiling }
-{
-    bound_is_not_above();
-    children_share_the_sequences();
-    items_share_the_sequences();
-    keys_differ();
-}
-
-/// A visit covers its block, by the keys that it offers and any floor that none of its reads is below. It offers keys of
-/// admitted sequences of the block, each once.
-pub fn visits_cover_their_blocks()
-    ensures covered { (costs : Costs) (window : Window) (ceiling : ℕ) (b : Block) (reads keys : List ℕ) (floor : ℕ)
-        → window.to ≤ century_minutes → IsBlock window b → IsVisit costs window ceiling b reads keys → All (λ seen. floor ≤ seen) reads
-        → IsCovered costs window ceiling b keys floor }
-    ensures admitted { (costs : Costs) (window : Window) (ceiling : ℕ) (b : Block) (reads keys : List ℕ)
-        → window.to ≤ century_minutes → IsBlock window b → IsVisit costs window ceiling b reads keys
-        → All (IsBlockKey costs window ceiling b) keys }
-    ensures once { (costs : Costs) (window : Window) (ceiling : ℕ) (b : Block) (reads keys : List ℕ)
-        → window.to ≤ century_minutes → IsBlock window b → IsVisit costs window ceiling b reads keys → AreApart keys }
-{
-    blocks_share_the_sequences();
-}
+use block_visits::blocks_share_the_sequences;
 
 /// Where a block's floor is above what is read, a visit of the block by reads that are all the same offers nothing.
 pub fn floors_pass_over()

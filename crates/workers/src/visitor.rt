@@ -10,7 +10,7 @@ ghost use Rattle.signal_base.specs.declared.limits.TheConstants.{GREATEST_COST};
 ghost use Rattle.race_words.specs.declared.view.View.{View};
 ghost use Rattle.race_words.specs.Keys.{no_key};
 ghost use Rattle.race_words.specs.Views.{after_limit};
-ghost use Rattle.workers.specs.Visits.{limit_at};
+ghost use Rattle.block_visits.specs.Visits.{limit_at};
 ghost use Rattle.workers.specs.Steps.{HasOpened, HasStopped, HasWalked, HaveStopped, HaveWalked};
 
 use crate::recorder::Recorder;

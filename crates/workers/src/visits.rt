@@ -6,9 +6,9 @@ ghost use Rattle.field_tables.specs.Scored.{costs_of};
 ghost use Rattle.signal_base.specs.declared.limits.TheConstants.{GREATEST_COST};
 ghost use Rattle.workers.specs.Searches.{HasVisited};
 
-use crate::laws::blocks_share_the_sequences;
 use crate::recorder::NoRecord;
 use crate::visitor::Visitor;
+use block_visits::blocks_share_the_sequences;
 use definitions::Block;
 use field_tables::Tables;
 use race_words::{Race, Seat};

@@ -1,6 +1,6 @@
 -- Each item was drawn once.
 use Rattle.field_tables.specs.Scored.{costs_of}
-use Rattle.workers.proofs.Covering.{in_century}
+use Rattle.block_visits.proofs.Covering.{in_century}
 use Rattle.workers.proofs.ending.finish.Goals as goal
 
 pub returns-clause-drawn : goal.returns-clause-drawn

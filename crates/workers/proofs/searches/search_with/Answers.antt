@@ -3,7 +3,7 @@ use Rattle.std.proofs.Common.{rules}
 use Rattle.std.proofs.lemmas.Result.{on_ok_weaker}
 use Rattle.field_tables.specs.Scored.{costs_of}
 use Rattle.workers.specs.Recorded.{HaveShared}
-use Rattle.workers.proofs.Covering.{in_century}
+use Rattle.block_visits.proofs.Covering.{in_century}
 use Rattle.workers.proofs.Searching.{are_items, searched}
 use Rattle.workers.proofs.searches.search_with.Goals as goal
 

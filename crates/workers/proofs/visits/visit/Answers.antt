@@ -1,6 +1,6 @@
 -- What was walked was visited.
 use Rattle.field_tables.specs.Scored.{costs_of}
-use Rattle.workers.proofs.Covering.{in_century}
+use Rattle.block_visits.proofs.Covering.{in_century}
 use Rattle.workers.proofs.Taking.{visited}
 use Rattle.workers.proofs.visits.visit.Goals as goal
 

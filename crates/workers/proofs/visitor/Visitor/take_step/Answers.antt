@@ -2,7 +2,7 @@
 use Rattle.std.proofs.Common.{◌<◌, refl, arith}
 use Rattle.definitions.specs.answers.Blocks.{block_key}
 use Rattle.race_words.specs.Views.{after_limit}
-use Rattle.workers.specs.Visits.{limit_at}
+use Rattle.block_visits.specs.Visits.{limit_at}
 use Rattle.workers.proofs.Walking.{passed_none, passed_above}
 use Rattle.workers.proofs.visitor.Visitor.take_step.Goals as goal
 

@@ -15,8 +15,8 @@ use Rattle.definitions.specs.sequences.Walks.{IsLegal, IsSequence, IsWalkable}
 use Rattle.definitions.specs.heard.Costs.{Costs, sequence_cost}
 use Rattle.definitions.specs.answers.Answers.{IsAdmitted}
 use Rattle.definitions.specs.answers.Blocks.{children, first_of, span_end, IsBlock, IsBound, IsBoundBy, IsIn, IsInOne, block_key}
-use Rattle.workers.specs.Facts.{Facts}
-use Rattle.workers.specs.Visits.{limit_at, offered_by, offered_under, opened_under, AreVisits, IsBlockKey, IsCovered, IsVisit}
+use Rattle.block_visits.specs.Facts.{Facts}
+use Rattle.block_visits.specs.Visits.{limit_at, offered_by, offered_under, opened_under, AreVisits, IsBlockKey, IsCovered, IsVisit}
 
 -- what is told of a window holds of one that is equal to it
 pub in_century : (w v : Window) → w ≡ v → IsWindow w → v.to ≤ century_minutes

@@ -4,8 +4,8 @@ use Rattle.signal_base.specs.declared.window.Window.{Window}
 use Rattle.definitions.specs.declared.block.Block.{Block}
 use Rattle.definitions.specs.heard.Costs.{Costs}
 use Rattle.definitions.specs.answers.Blocks.{IsBound}
-use Rattle.workers.specs.Visits.{limit_at, offered_under, opened_under, AreVisits}
-use Rattle.workers.proofs.laws.visit_is_one.Goals as goal
+use Rattle.block_visits.specs.Visits.{limit_at, offered_under, opened_under, AreVisits}
+use Rattle.block_visits.proofs.laws.visit_is_one.Goals as goal
 
 same_keys : (costs : Costs) (window : Window) (ceiling : ℕ)
     → ((b : Block) (m n : Option ℕ) → IsBound costs window b m → IsBound costs window b n → m ≡ n)

@@ -3,19 +3,24 @@ use Rattle.std.proofs.Common.{◌≡◌, ℕ, zero, suc, ◌+◌, ◌<◌, ◌�
 use Rattle.std.specs.List.{AllByRecursion, Contains}
 use Rattle.std.proofs.lemmas.Bool.{cases_lt, eq-eqb, eqb-true, eqb-false}
 use Rattle.std.proofs.lemmas.List.Elements.{Contains-push, Contains-append_left, Contains-append_right, Contains-append_cases}
-use Rattle.std.proofs.lemmas.List.Sums.{sum_by-cons}
+use Rattle.std.proofs.lemmas.List.Sums.{sum_by-cons, get_or-le-sum_by}
 use Rattle.definitions.specs.answers.FirstTwo.{AreLeastTwo}
 use Rattle.race_words.specs.declared.ends.Ends.{Ends}
 use Rattle.race_words.specs.Keys.{no_key, with_key, two_least}
 use Rattle.race_words.specs.Sound.{times}
-use Rattle.workers.specs.Searches.{AreApart, key_if_any}
-use Rattle.workers.proofs.Counting.{one_if}
-use Rattle.workers.proofs.Drawing.{stands}
+use Rattle.block_visits.specs.Apart.{AreApart, key_if_any}
+use Rattle.block_visits.proofs.Counting.{one_if}
 
-contains_here : (k : ℕ) (ks : List ℕ) → Contains (k ∷ ks) k
+-- what a list has stands in it at least once
+pub stands : (ns : List ℕ) (n : ℕ) → Contains ns n → 0 < times n ns
+stands ns n has =
+    let one : one_if (get_or ns has.0 n == n) ≡ 1 = ap one_if (eq-eqb (get_or ns has.0 n) n has.2) in
+    omega (arith, one, get_or-le-sum_by (λ y. one_if (y == n)) ns has.0 n has.1)
+
+pub contains_here : (k : ℕ) (ks : List ℕ) → Contains (k ∷ ks) k
 contains_here k ks = Contains-append_left (k ∷ []) ks k (Contains-push [] k)
 
-contains_later : (k n : ℕ) (ks : List ℕ) → Contains ks n → Contains (k ∷ ks) n
+pub contains_later : (k n : ℕ) (ks : List ℕ) → Contains ks n → Contains (k ∷ ks) n
 contains_later k n ks has = Contains-append_right (k ∷ []) ks n has
 
 pub contains_cases : (k n : ℕ) (ks : List ℕ) → Contains (k ∷ ks) n → (k ≡ n) ⊎ Contains ks n
@@ -29,7 +34,7 @@ contains_cases k n ks has = ⊎_elim (λ first. inl (only k n first)) inr (Conta
         at (suc i) lt e = absurd (omega arith)
 
 -- how the two least of a list stand to it
-record AreEnds (ks : List ℕ) (e : Ends) : Type 0 where
+pub record AreEnds (ks : List ℕ) (e : Ends) : Type 0 where
   pub order : e.least ≤ e.second
   pub top : e.second ≤ no_key
   pub least : (e.least ≡ no_key) ⊎ Contains ks e.least
@@ -93,7 +98,7 @@ module _ (k : ℕ) (ks : List ℕ) (e : Ends) (below : k ≤ no_key) (are : AreE
       (λ le. subst (AreEnds (k ∷ ks)) (sym (with_one k e.least (omega (arith, le)) (omega (arith, le, are.order)))) (new_least le))
       (cases_lt e.least k)
 
-ends_are : (ks : List ℕ) → AllByRecursion (λ k. k ≤ no_key) ks → AreEnds ks (two_least ks)
+pub ends_are : (ks : List ℕ) → AllByRecursion (λ k. k ≤ no_key) ks → AreEnds ks (two_least ks)
 ends_are [] below = record {
   order = omega arith;
   top = omega arith;

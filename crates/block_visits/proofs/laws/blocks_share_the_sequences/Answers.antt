@@ -1,5 +1,5 @@
 -- The laws of the definitions, in one record.
-use Rattle.workers.proofs.laws.blocks_share_the_sequences.Goals as goal
+use Rattle.block_visits.proofs.laws.blocks_share_the_sequences.Goals as goal
 
 pub returns : goal.returns
 returns c costs window ceiling century =

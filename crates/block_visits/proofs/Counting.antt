@@ -14,10 +14,10 @@ use Rattle.definitions.specs.sequences.Walks.{IsSequence}
 use Rattle.definitions.specs.heard.Costs.{Costs, sequence_cost}
 use Rattle.definitions.specs.answers.Blocks.{children, children_by, first_of, IsBlock, IsBound, IsIn, IsInNone, IsInOne, block_key}
 use Rattle.race_words.specs.Sound.{times}
-use Rattle.workers.specs.Facts.{Facts}
-use Rattle.workers.specs.Visits.{limit_at, offered_by, offered_under, opened_under, AreVisits, IsBlockKey, IsVisit}
-use Rattle.workers.specs.Searches.{AreApart}
-use Rattle.workers.proofs.Covering.{all_then, opened_all, legal_is_sequence, minute_bound, first_is_in, visit_admitted}
+use Rattle.block_visits.specs.Facts.{Facts}
+use Rattle.block_visits.specs.Visits.{limit_at, offered_by, offered_under, opened_under, AreVisits, IsBlockKey, IsVisit}
+use Rattle.block_visits.specs.Apart.{AreApart}
+use Rattle.block_visits.proofs.Covering.{all_then, opened_all, legal_is_sequence, minute_bound, first_is_in, visit_admitted}
 
 -- whether two truth values are one
 abbrev same_bool : Bool → Bool → Bool

@@ -1,7 +1,7 @@
 -- A visit covers its block, and offers each admitted key once.
-use Rattle.workers.proofs.Covering.{visit_covers, visit_admitted}
-use Rattle.workers.proofs.Counting.{visit_once}
-use Rattle.workers.proofs.laws.visits_cover_their_blocks.Goals as goal
+use Rattle.block_visits.proofs.Covering.{visit_covers, visit_admitted}
+use Rattle.block_visits.proofs.Counting.{visit_once}
+use Rattle.block_visits.proofs.laws.visits_cover_their_blocks.Goals as goal
 
 pub returns-clause-covered : goal.returns-clause-covered
 returns-clause-covered c costs window ceiling b reads keys floor century =

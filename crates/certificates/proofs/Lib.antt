@@ -1,0 +1,12 @@
+pub mod FieldLaws
+pub mod StepLaws
+pub mod EntryLaws
+pub mod ChoiceLaws
+pub mod LeadLaws
+pub mod OutcomeLaws
+pub mod WalkLaws
+pub mod FoundLaws
+pub mod GoodLaws
+pub mod VerdictLaws
+pub mod ValidLaws
+pub mod TightLaws

@@ -1,0 +1,4 @@
+pub mod Certificates
+pub mod Texts
+pub mod Validity
+pub mod Verdicts
