@@ -9,7 +9,7 @@ ghost use Rattle.minute_parts.specs.declared.hour_layers.TheConstants.{HOUR_MINU
 use crate::kept::{Kept, YEAR_DAYS, is_kept, kept_days, kept_years};
 use crate::local_hours::{Hours, hours_of};
 use crate::walks::Walks;
-use definitions::MINUTES_PER_DAY;
+use definitions::{CENTURY_DAYS, MINUTES_PER_DAY};
 use minute_parts::HOUR_MINUTES;
 use std::alloc::{AllocError, Global};
 use std::marker::Model;
@@ -40,11 +40,17 @@ impl Model for StationBlocks {
 }
 
 impl StationBlocks {
-    /// Makes ready for the blocks of walks that cost this.
-    pub fn make(alloc: Global, walks: StationWalks) -> Result<StationBlocks, AllocError>
+    /// Makes ready for the blocks of walks that cost this. What whole days cost is kept where that is asked: it takes longer than
+    /// all else here, and a search that passes days over by their floors asks for few of them.
+    pub fn make(
+        alloc: Global,
+        walks: StationWalks,
+        keep_days: bool,
+    ) -> Result<StationBlocks, AllocError>
         ensures { IfOk result (λ blocks. blocks ≡ walks) }
     {
-        let days = kept_days(alloc, &walks)?;
+        let days = if keep_days { CENTURY_DAYS } else { 0 };
+        let days = kept_days(alloc, &walks, days)?;
         let years = kept_years(alloc, &walks)?;
         let hours = hours_of(alloc, &walks)?;
         Ok(StationBlocks {

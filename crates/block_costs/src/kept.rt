@@ -1,5 +1,4 @@
-//! Unions that are kept, since a search asks for them most: of whole days and years in UTC, where no leap second is
-//! announced.
+//! Unions that are kept, since some ask for them often: of whole days and years in UTC, where no leap second is announced.
 
 ghost use Rattle.std.specs.Prelude.{◌≡◌, ◌<◌, ◌≤◌, [], IfOk, OnOk, length, true};
 ghost use Rattle.block_costs.specs.Keeping.{AreGathered, AreKept, range_at};
@@ -40,12 +39,13 @@ pub const CENTURY_YEARS: u32 = 100;
 /// The fewest days of a year.
 pub const YEAR_DAYS: u32 = 365;
 
-/// The days of the century.
-pub fn kept_days(alloc: Global, walks: &StationWalks) -> Result<Kept, AllocError>
+/// The first days of the century, so many.
+pub fn kept_days(alloc: Global, walks: &StationWalks, days: u32) -> Result<Kept, AllocError>
+    requires { days ≤ CENTURY_DAYS }
     ensures { IfOk result (λ kept. AreKept walks.now kept.ranges.items kept.costs) }
 {
-    let mut gathered = room_for(alloc, CENTURY_DAYS as usize)?;
-    for day in 0..CENTURY_DAYS {
+    let mut gathered = room_for(alloc, days as usize)?;
+    for day in 0..days {
         let lo = day * MINUTES_PER_DAY;
         gather(&mut gathered, walks, lo, lo + MINUTES_PER_DAY)?;
     }

@@ -112,7 +112,7 @@ const YEAR: u32 = 12_623_040;
 // nothing in the minutes of the call sign.
 #[test]
 fn unions_of_known_seconds(rt: HostRuntime) -> Result<(), Fail> {
-    let blocks = StationBlocks::make(rt.alloc(), walks(rt.alloc(), 62)?)?;
+    let blocks = StationBlocks::make(rt.alloc(), walks(rt.alloc(), 62)?, true)?;
     for (second, lo, hi, expected) in [
         (0, MINUTE, MINUTE + 10, 180 + 120 + 180 + 150),
         (1, MINUTE, MINUTE + 10, 150 + 120 + 150 + 120),
@@ -137,7 +137,7 @@ fn unions_of_known_seconds(rt: HostRuntime) -> Result<(), Fail> {
 // the local day's number does, of which the last bit changes at 15:00Z.
 #[test]
 fn minutes_one_by_one(rt: HostRuntime) -> Result<(), Fail> {
-    let blocks = StationBlocks::make(rt.alloc(), walks(rt.alloc(), 62)?)?;
+    let blocks = StationBlocks::make(rt.alloc(), walks(rt.alloc(), 62)?, true)?;
     for (second, minute, expected) in [
         (1, MINUTE + 3, 150 + 120 + 150 + 120),
         (1, MINUTE + 4, 150 + 150 + 150 + 120),
@@ -218,7 +218,7 @@ fn made_in_time(rt: &HostRuntime, seconds: u16) -> Result<StationBlocks, Fail>
 {
     let walks = walks(rt.alloc(), seconds)?;
     let begin = Instant::now(rt)?;
-    let blocks = StationBlocks::make(rt.alloc(), walks)?;
+    let blocks = StationBlocks::make(rt.alloc(), walks, true)?;
     tell(rt, "all that is kept", begin, 1)?;
     Ok(blocks)
 }

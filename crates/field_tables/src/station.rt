@@ -54,8 +54,13 @@ impl Model for StationSums {
 }
 
 impl StationSums {
-    /// Makes the sums of a grid of 1 to 1,200 slots.
-    pub fn make(alloc: Global, civil: &Civil, grid: &CostGrid) -> Result<StationSums, AllocError>
+    /// Makes the sums of a grid of 1 to 1,200 slots, with what whole days cost where that is to be kept.
+    pub fn make(
+        alloc: Global,
+        civil: &Civil,
+        grid: &CostGrid,
+        keep_days: bool,
+    ) -> Result<StationSums, AllocError>
         requires some { 1 ≤ length grid.now.rows }
         requires few { length grid.now.rows ≤ MOST_SECONDS }
         ensures { IfOk result (IsOf grid.now) }
@@ -65,7 +70,7 @@ impl StationSums {
         let unions = Unions::make(alloc, parts)?;
         let leaps = LeapUnions::make(alloc, civil, station, &unions, grid.seconds())?;
         let walks = StationWalks::make(alloc, unions, grid)?;
-        let blocks = StationBlocks::make(alloc, walks)?;
+        let blocks = StationBlocks::make(alloc, walks, keep_days)?;
         Ok(StationSums { blocks, leaps })
     }
 

@@ -19,6 +19,7 @@ pub fn stations_of(
     civil: &Civil,
     grids: &[CostGrid],
     _window: &Window,
+    keep_days: bool,
 ) -> Result<Vec<StationSums>, AllocError>
     requires window { IsWindow _window.now }
     requires grids { AreGrids _window.now grids.now }
@@ -26,7 +27,7 @@ pub fn stations_of(
 {
     let mut stations = Vec::with_capacity(alloc, grids.len())?;
     for grid in grids {
-        let station = StationSums::make(alloc, civil, grid)?;
+        let station = StationSums::make(alloc, civil, grid, keep_days)?;
         add(&mut stations, station)?;
     }
     Ok(stations)

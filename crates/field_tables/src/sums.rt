@@ -48,13 +48,14 @@ impl WindowSums {
         civil: &Civil,
         grids: &[CostGrid],
         window: &Window,
+        keep_days: bool,
     ) -> Result<WindowSums, AllocError>
         requires window { IsWindow window.now }
         requires grids { AreGrids window.now grids.now }
         ensures window { IfOk result (λ sums. sums.window ≡ window.now) }
         ensures costs { IfOk result (λ sums. AgreeOn window.now (costs_by sums) (grid_costs grids.now)) }
     {
-        let stations = stations_of(alloc, civil, grids, window)?;
+        let stations = stations_of(alloc, civil, grids, window, keep_days)?;
         let end = end_of(&stations);
         Ok(WindowSums {
             window: *window,

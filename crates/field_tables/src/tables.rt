@@ -70,7 +70,37 @@ impl<'a> Tables<'a> {
         ensures window { IfOk result (λ tables. tables.window ≡ window.now) }
         ensures grids { IfOk result (λ tables. tables.grids ≡ grids.now) }
     {
-        let sums = WindowSums::make(alloc, civil, grids, window)?;
+        Tables::made(alloc, grids, civil, window, false)
+    }
+
+    /// The same for who asks for the bounds of many days: they are found by a few look-ups, for which tables of all days are made.
+    pub fn make_with_days(
+        alloc: Global,
+        grids: &'a [CostGrid],
+        civil: &'a Civil,
+        window: &Window,
+    ) -> Result<Tables<'a>, TablesFault>
+        requires window { IsWindow window.now }
+        requires grids { AreGrids window.now grids.now }
+        ensures window { IfOk result (λ tables. tables.window ≡ window.now) }
+        ensures grids { IfOk result (λ tables. tables.grids ≡ grids.now) }
+    {
+        Tables::made(alloc, grids, civil, window, true)
+    }
+
+    fn made(
+        alloc: Global,
+        grids: &'a [CostGrid],
+        civil: &'a Civil,
+        window: &Window,
+        keep_days: bool,
+    ) -> Result<Tables<'a>, TablesFault>
+        requires window { IsWindow window.now }
+        requires grids { AreGrids window.now grids.now }
+        ensures window { IfOk result (λ tables. tables.window ≡ window.now) }
+        ensures grids { IfOk result (λ tables. tables.grids ≡ grids.now) }
+    {
+        let sums = WindowSums::make(alloc, civil, grids, window, keep_days)?;
         let quiet = sums.quiet_days(alloc, civil)?;
         Ok(Tables {
             grids,

@@ -35,7 +35,7 @@ pub fn measure<R: Threads + Sync + Clock + Files + Print + AllocGlobal>(
     let window = window_of(&bank, &asked);
     let grids = grids_of(rt.alloc(), &bank, &window)?;
     let begin = Instant::now(rt)?;
-    let tables = Tables::make(rt.alloc(), &grids, &civil, &window)?;
+    let tables = Tables::make_with_days(rt.alloc(), &grids, &civil, &window)?;
     tell(rt, "tables_ns", nanoseconds(rt, begin)?)?;
     let begin = Instant::now(rt)?;
     let order = search_order(rt.alloc(), &civil, &tables, &window)?;

@@ -1,7 +1,7 @@
 use Rattle.std.proofs.Common.{subst}
 use Rattle.signal_base.specs.declared.window.Window.{Window}
 use Rattle.field_tables.specs.Quiet.{AreQuiet}
-use Rattle.field_tables.proofs.tables.Tables.make.Goals as goal
+use Rattle.field_tables.proofs.tables.Tables.made.Goals as goal
 
 pub invariant_of-result : goal.invariant_of-result
 invariant_of-result c = (
