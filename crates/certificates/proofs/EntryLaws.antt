@@ -84,7 +84,7 @@ kind_byte Pruned t r = omega arith
 kind_byte Empty t r = omega arith
 kind_byte Leaf t r = omega arith
 
-step_byte : (l : Line) (r : List ℕ) → first_byte (entry_line (Step l) ++ r) ≤ 80
+pub step_byte : (l : Line) (r : List ℕ) → first_byte (entry_line (Step l) ++ r) ≤ 80
 step_byte l r = kind_byte l.kind (space ∷ from_span l) r
 
 part_byte : (n : ℕ) (r : List ℕ) → first_byte (entry_line (Part n) ++ r) ≡ 119

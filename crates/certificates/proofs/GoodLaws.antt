@@ -119,7 +119,7 @@ module _ (costs : Costs) (window : Window) (limit : ℕ) where
       (each_weaker (IsOneOf blocks) (λ b. IsOneOf [] b ⊎ IsOneOf blocks b) (λ b is. inr is) (items window) each.all)
 
 -- the items of a window are its items, each once
-themselves : (cs bs : List Block) → ((b : Block) → IsOneOf bs b → IsOneOf cs b) → AllByRecursion (IsOneOf cs) bs
+pub themselves : (cs bs : List Block) → ((b : Block) → IsOneOf bs b → IsOneOf cs b) → AllByRecursion (IsOneOf cs) bs
 themselves cs [] to = tt
 themselves cs (b ∷ bs) to = (to b (inl refl), themselves cs bs (λ c is. to c (inr is)))
 

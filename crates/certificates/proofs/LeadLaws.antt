@@ -2,6 +2,7 @@
 use Rattle.std.proofs.Common.{◌≡◌, ℕ, zero, suc, ◌+◌, ◌<◌, ◌≤◌, Bool, true, false, nat_lt, if◌then◌else◌, List, [], ◌∷◌, ◌++◌, map, length, flat_map, Option, Some, None, refl, sym, ap, ◌∙◌, subst, arith, length-append, append_assoc}
 use Rattle.std.specs.List.{AllByRecursion}
 use Rattle.std.proofs.lemmas.List.{length-map}
+use Rattle.signal_base.specs.declared.limits.TheConstants.{GREATEST_COST}
 use Rattle.signal_base.specs.declared.station.Stations.{Stations}
 use Rattle.signal_base.specs.declared.window.Window.{Window}
 use Rattle.definitions.specs.codes.Allowed.{stations_of}
@@ -66,49 +67,25 @@ version_fits stations = by_test (nat_lt 1 (length (stations_of stations)))
     by_test true = (omega arith, omega arith)
     by_test false = (omega arith, omega arith)
 
+-- the lines of a head lead on to what comes behind them
+pub head_leads : (h : Head) → IsWindow h.window → h.ceiling ≤ GREATEST_COST → CanBeNamed h.first → CanBeNamed h.second → (es : List Entry) (last : Next)
+    → Lead AtParts es last → Lead first_line (head_entries h ++ es) last
+head_leads h w low first second es last lead =
+    ((refl, version_fits h.window.stations), tt,
+    ((refl, ((w.some_station, omega (arith, w.stations)), refl)), tt,
+    ((refl, (omega arith, w.start)), tt,
+    ((refl, (omega arith, w.phase)), tt,
+    ((refl, (w.not_short, omega (arith, w.not_long))), tt,
+    ((refl, (omega arith, omega (arith, w.not_empty, w.century))), tt,
+    ((refl, (omega (arith, w.not_empty), omega (arith, w.century))), tt,
+    ((refl, (omega arith, omega (arith, low))), tt,
+    ((refl, first), tt,
+    ((refl, second), tt, lead))))))))))
+
 pub certificate_leads : (c : Certificate) → IsSpelled c → length (lines_of c) ≤ MOST_STEPS → Lead first_line (entries_of c) AtEnd
 certificate_leads c is few =
-    let w = is.window in (
-      (refl, version_fits c.head.window.stations),
-      tt,
-      (
-        (refl, ((w.some_station, omega (arith, w.stations)), refl)),
-        tt,
-        (
-          (refl, (omega arith, w.start)),
-          tt,
-          (
-            (refl, (omega arith, w.phase)),
-            tt,
-            (
-              (refl, (w.not_short, omega (arith, w.not_long))),
-              tt,
-              (
-                (refl, (omega arith, omega (arith, w.not_empty, w.century))),
-                tt,
-                (
-                  (refl, (omega (arith, w.not_empty), omega (arith, w.century))),
-                  tt,
-                  (
-                    (refl, (omega arith, omega (arith, is.ceiling))),
-                    tt,
-                    (
-                      (refl, is.first),
-                      tt,
-                      (
-                        (refl, is.second),
-                        tt,
-                        all_lead c.parts is.lines few is.some_part is.few_parts,
-                      ),
-                    ),
-                  ),
-                ),
-              ),
-            ),
-          ),
-        ),
-      ),
-    )
+    head_leads c.head is.window is.ceiling is.first is.second (part_entries 0 c.parts) AtEnd
+    (all_lead c.parts is.lines few is.some_part is.few_parts)
 
 -- the other way round: the parts that lines make
 record AreParts (part steps : ℕ) (es : List Entry) : Type 0 where

@@ -10,3 +10,6 @@ pub mod GoodLaws
 pub mod VerdictLaws
 pub mod ValidLaws
 pub mod TightLaws
+pub mod BadLineLaws
+pub mod ExampleLaws
+pub mod HourLaws

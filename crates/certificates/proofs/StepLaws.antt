@@ -37,30 +37,34 @@ from_announced l = announced_text l.block.announced ++ space ∷ from_second l
 abbrev pub from_span : Line → List ℕ
 from_span l = span_text l.block.span ++ space ∷ from_announced l
 
-module _ (l : Line) (is : IsLine l) where
-  second_small : l.block.second < 2 ^ 64
-  second_small = omega (arith, is.second)
+-- a line whose numbers are small enough that their texts tell them
+pub record IsPlain (l : Line) : Type 0 where
+  pub second : l.block.second < 2 ^ 64
+  pub lo : l.block.lo < 2 ^ 64
+  pub hi : l.block.hi < 2 ^ 64
+  pub bound : IsSmall l.bound
 
-  hi_small : l.block.hi < 2 ^ 64
-  hi_small = omega (arith, is.century)
+pub plain_line : (l : Line) → IsLine l → IsPlain l
+plain_line l is = record {
+  second = omega (arith, is.second);
+  lo = omega (arith, is.not_empty, is.century);
+  hi = omega (arith, is.century);
+  bound = shape_small l.kind l.block.span l.bound is.shape;
+}
 
-  lo_small : l.block.lo < 2 ^ 64
-  lo_small = omega (arith, is.not_empty, is.century)
-
-  bound_small : IsSmall l.bound
-  bound_small = shape_small l.kind l.block.span l.bound is.shape
-
+module _ (l : Line) (is_line : IsLine l) where
   pub step_avoids : Avoids line_feed (step_text l)
   step_avoids =
+      let is = plain_line l is_line in
       let low : line_feed < 45 = omega arith in
       let lower : line_feed < 32 = omega arith in
       space_avoids line_feed low (kind_text l.kind) (from_span l) lower (kind_avoids line_feed low l.kind)
       (space_avoids line_feed low (span_text l.block.span) (from_announced l) lower (span_avoids line_feed low l.block.span)
       (space_avoids line_feed low (announced_text l.block.announced) (from_second l) lower (announced_avoids line_feed low l.block.announced)
-      (space_avoids line_feed low (decimal l.block.second) (from_lo l) lower (decimal_avoids line_feed low l.block.second second_small)
-      (space_avoids line_feed low (decimal l.block.lo) (from_hi l) lower (decimal_avoids line_feed low l.block.lo lo_small)
-      (space_avoids line_feed low (decimal l.block.hi) (named_key l.bound) lower (decimal_avoids line_feed low l.block.hi hi_small)
-      (named_avoids line_feed low l.bound bound_small))))))
+      (space_avoids line_feed low (decimal l.block.second) (from_lo l) lower (decimal_avoids line_feed low l.block.second is.second)
+      (space_avoids line_feed low (decimal l.block.lo) (from_hi l) lower (decimal_avoids line_feed low l.block.lo is.lo)
+      (space_avoids line_feed low (decimal l.block.hi) (named_key l.bound) lower (decimal_avoids line_feed low l.block.hi is.hi)
+      (named_avoids line_feed low l.bound is.bound))))))
 
 by_fields : (l m : Line) → l.kind ≡ m.kind → l.block.span ≡ m.block.span → l.block.announced ≡ m.block.announced → l.block.second ≡ m.block.second
     → l.block.lo ≡ m.block.lo → l.block.hi ≡ m.block.hi → l.bound ≡ m.bound → l ≡ m
@@ -70,8 +74,8 @@ by_fields l m k s a p lo hi n = λ i. record {
   bound = n i;
 }
 
-pub step_once : (l m : Line) → IsLine l → IsLine m → step_text l ≡ step_text m → l ≡ m
-step_once l m is also e =
+pub step_tells : (l m : Line) → IsPlain l → IsPlain m → step_text l ≡ step_text m → l ≡ m
+step_tells l m is also e =
     let low : space < 45 = omega arith in
     let kinds = split_once space (kind_text l.kind) (kind_text m.kind) (from_span l) (from_span m) (kind_avoids space low l.kind) (kind_avoids space low m.kind) e in
     let spans = split_once space (span_text l.block.span) (span_text m.block.span) (from_announced l) (from_announced m)
@@ -79,13 +83,16 @@ step_once l m is also e =
     let announced = split_once space (announced_text l.block.announced) (announced_text m.block.announced) (from_second l) (from_second m)
     (announced_avoids space low l.block.announced) (announced_avoids space low m.block.announced) spans.1 in
     let seconds = split_once space (decimal l.block.second) (decimal m.block.second) (from_lo l) (from_lo m)
-    (decimal_avoids space low l.block.second (second_small l is)) (decimal_avoids space low m.block.second (second_small m also)) announced.1 in
+    (decimal_avoids space low l.block.second is.second) (decimal_avoids space low m.block.second also.second) announced.1 in
     let firsts = split_once space (decimal l.block.lo) (decimal m.block.lo) (from_hi l) (from_hi m)
-    (decimal_avoids space low l.block.lo (lo_small l is)) (decimal_avoids space low m.block.lo (lo_small m also)) seconds.1 in
+    (decimal_avoids space low l.block.lo is.lo) (decimal_avoids space low m.block.lo also.lo) seconds.1 in
     let ends = split_once space (decimal l.block.hi) (decimal m.block.hi) (named_key l.bound) (named_key m.bound)
-    (decimal_avoids space low l.block.hi (hi_small l is)) (decimal_avoids space low m.block.hi (hi_small m also)) firsts.1 in
+    (decimal_avoids space low l.block.hi is.hi) (decimal_avoids space low m.block.hi also.hi) firsts.1 in
     by_fields l m (kind_once l.kind m.kind kinds.0) (span_once l.block.span m.block.span spans.0) (announced_once l.block.announced m.block.announced announced.0)
-    (decimal_injective l.block.second m.block.second (second_small l is) (second_small m also) seconds.0)
-    (decimal_injective l.block.lo m.block.lo (lo_small l is) (lo_small m also) firsts.0)
-    (decimal_injective l.block.hi m.block.hi (hi_small l is) (hi_small m also) ends.0)
-    (named_once l.bound m.bound (bound_small l is) (bound_small m also) ends.1)
+    (decimal_injective l.block.second m.block.second is.second also.second seconds.0)
+    (decimal_injective l.block.lo m.block.lo is.lo also.lo firsts.0)
+    (decimal_injective l.block.hi m.block.hi is.hi also.hi ends.0)
+    (named_once l.bound m.bound is.bound also.bound ends.1)
+
+pub step_once : (l m : Line) → IsLine l → IsLine m → step_text l ≡ step_text m → l ≡ m
+step_once l m is also e = step_tells l m (plain_line l is) (plain_line m also) e

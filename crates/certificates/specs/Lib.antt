@@ -2,3 +2,4 @@ pub mod Certificates
 pub mod Texts
 pub mod Validity
 pub mod Verdicts
+pub mod Examples

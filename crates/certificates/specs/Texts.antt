@@ -115,6 +115,10 @@ entry_line entry = line (entry_text entry)
 abbrev pub entries_text : List Entry → List ℕ
 entries_text entries = flat_map entry_line entries
 
+-- the lines of some steps
+abbrev pub steps_text : List Line → List ℕ
+steps_text ls = flat_map (λ l. entry_line (Step l)) ls
+
 -- the lines of a head
 abbrev pub head_entries : Head → List Entry
 head_entries h =

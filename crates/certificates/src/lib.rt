@@ -3,6 +3,7 @@
 #![tactic(auto)]
 
 mod certificate;
+pub mod examples;
 mod fault;
 mod laws;
 mod limits;
