@@ -4,7 +4,7 @@ ghost use Rattle.bank_words.specs.Seen.{texts_of};
 ghost use Rattle.due.specs.Plans.{run_plan};
 ghost use Rattle.bank.specs.Finding.{CanBeWritten};
 
-use crate::deliver::deliver;
+use crate::deliver::deliver_due;
 use crate::job::Job;
 use bank_files::{Failed, Files};
 use civil::Civil;
@@ -25,7 +25,7 @@ impl Job for Command<'_> {
     ghost can_be_written = { CanBeWritten };
 
     fn deliver<F: Files>(&self, files: &mut F, due: &Due) -> Result<(), Failed> {
-        deliver(files, self.civil, due)
+        deliver_due(files, self.civil, due)
     }
 
     fn status(&self, due: &Due) -> Status {

@@ -13,7 +13,7 @@ use due::Due;
 use texts::{write_feed, write_listing, write_refusal, write_report, write_trial};
 
 /// Writes all that a run writes where this is due: its text, to standard output.
-pub fn deliver<F: Files>(files: &mut F, civil: &Civil, due: &Due) -> Result<(), Failed>
+pub fn deliver_due<F: Files>(files: &mut F, civil: &Civil, due: &Due) -> Result<(), Failed>
     requires { CanBeWritten due.now }
     ensures { WritesAll (outputs_of due.now) (F.view files.old) (F.view files.new) result }
 {

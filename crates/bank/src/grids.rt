@@ -74,8 +74,9 @@ fn part<T>(items: &[T], from: usize, behind: usize) -> &[T]
     &items[from..behind]
 }
 
-// Where the receivers of a station stand in their order: the first place, and the one behind the last.
-fn places_of(stations: &[Station], station: Station) -> (usize, usize)
+/// Where the receivers of a station stand, or would stand, in the order of their stations: the first place, and the one behind
+/// the last.
+pub fn places_of(stations: &[Station], station: Station) -> (usize, usize)
     ensures first { result.0 ≡ count_before station stations.now }
     ensures behind { result.1 ≡ count_before station stations.now + count_of station stations.now }
     ensures within { result.1 ≤ length stations.now }

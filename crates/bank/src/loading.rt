@@ -10,7 +10,7 @@ ghost use Rattle.bank_config.specs.InRange.{IsInRange, IsReceiverInRange};
 ghost use Rattle.due.specs.Configurations.{IsBadConfiguration, IsConfiguration, fault_refusal, name_of, receiver_of};
 ghost use Rattle.due.specs.LogFiles.{IsBad, IsGood};
 ghost use Rattle.bank.specs.declared.loading.Unloaded.TheVariants as kinds;
-ghost use Rattle.bank.specs.Loading.{AreNotRead, AreRead, IsHalted, IsLoadedInOrder, IsNotLoaded, IsNotRead, IsReadAs, log_file};
+ghost use Rattle.bank.specs.Loading.{AreNotRead, AreRead, IsHalted, IsLoaded, IsLoadedInOrder, IsNotLoaded, IsNotRead, IsReadAs, log_file};
 
 use crate::order::in_station_order;
 use bank_config::{CONFIG_LIMIT, Config, ConfigFault, Key, Receiver, read_config};
@@ -73,9 +73,27 @@ pub fn load<F: Files>(alloc: Global, files: &mut F, config: &str) -> Result<Load
     ensures same_counts { OnOk result (SameCounts (F.view files.old) (F.view files.new)) }
     ensures only { OnlyReads (F.view files.old) (F.view files.new) }
 {
+    let read = load_as_configured(alloc, files, config)?;
+    Ok(in_station_order(alloc, read.0, read.1)?)
+}
+
+/// The same, with the receivers and their logs in the order in which the configuration has them.
+pub fn load_as_configured<F: Files>(
+    alloc: Global,
+    files: &mut F,
+    config: &str,
+) -> Result<(Config, Vec<Log>), Unloaded>
+    requires { config.now ≢ output_name }
+    ensures loaded { IfOk result (λ read. IsLoaded (F.view files.old) config.now (plain_config read.0) read.1.items) }
+    ensures in_range { IfOk result (λ read. IsInRange read.0) }
+    ensures one_each { IfOk result (λ read. length read.1.items ≡ length read.0.receivers.items) }
+    ensures not_loaded { IfErr result (IsNotLoaded (F.view files.old) (F.view files.new) config.now) }
+    ensures same_counts { OnOk result (SameCounts (F.view files.old) (F.view files.new)) }
+    ensures only { OnlyReads (F.view files.old) (F.view files.new) }
+{
     let config = read_configuration(alloc, files, config)?;
     let logs = read_logs(alloc, files, config.receivers.as_slice())?;
-    Ok(in_station_order(alloc, config, logs)?)
+    Ok((config, logs))
 }
 
 // Reads a configuration.

@@ -88,7 +88,7 @@ module _ (contents : Contents) where
       same_told o bank h.0 k.0 x y (bank_answer_is_one o.asked bank h.0 k.0 century h.1 k.1) h.2 k.2
 
   -- a bank is refused in one way, or it is loaded, and one bank is
-  one_refusal : (r s : Refusal) → IsBankRefused contents r → IsBankRefused contents s → r ≡ s
+  pub one_refusal : (r s : Refusal) → IsBankRefused contents r → IsBankRefused contents s → r ≡ s
   one_refusal r s (Bad_configuration h) (Bad_configuration k) = configurations.one_refusal (contents Configuration) r s h k
   one_refusal r s (Bad_configuration h) (Bad_log config is k) = absurd (configurations.not_both (contents Configuration) config r is h)
   one_refusal r s (Bad_log config is h) (Bad_configuration k) = absurd (configurations.not_both (contents Configuration) config s is k)
@@ -96,7 +96,7 @@ module _ (contents : Contents) where
       let same = configurations.one_configuration (contents Configuration) config other is also in
       first_bad_once contents (logs_of other) r s (subst (λ (c : PlainConfig). IsFirstBad contents (logs_of c) r) same h) k
 
-  not_both : (config : PlainConfig) (records : List Records) (refusal : Refusal) → IsBankLoaded contents config records → IsBankRefused contents refusal → ⊥
+  pub not_both : (config : PlainConfig) (records : List Records) (refusal : Refusal) → IsBankLoaded contents config records → IsBankRefused contents refusal → ⊥
   not_both config records refusal loaded (Bad_configuration bad) = configurations.not_both (contents Configuration) config refusal loaded.says bad
   not_both config records refusal loaded (Bad_log other is bad) =
       let same = configurations.one_configuration (contents Configuration) other config is loaded.says in

@@ -9,3 +9,7 @@ pub mod StationLaws
 pub mod StatusLaws
 pub mod ExampleLaws
 pub mod DutLaws
+pub mod HeardWordLaws
+pub mod HeardDueLaws
+pub mod HeardReadLaws
+pub mod HeardSumLaws

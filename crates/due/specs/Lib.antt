@@ -10,4 +10,5 @@ pub mod Dues
 pub mod Outputs
 pub mod Rules
 pub mod Plans
+pub mod HeardRuns
 pub mod Examples

@@ -1,4 +1,4 @@
-//! What a run of the program owes for its words and the contents of files: a text for standard output, and a status.
+//! What a run of a program owes for its words and the contents of files: a text for standard output, and a status.
 //! The rules stand in `specs/`; here are the plain types that they
 //! speak of, laws and worked examples.
 #![tactic(auto)]
@@ -8,6 +8,9 @@ mod bank_laws;
 mod due;
 mod duts;
 mod examples;
+mod heard_due;
+mod heard_examples;
+mod heard_laws;
 mod laws;
 mod status;
 
@@ -24,6 +27,11 @@ pub use examples::{
     trial_that_is_due, what_is_asked, what_is_reported, what_is_written, windows_of_a_bank,
     words_that_are_refused,
 };
+pub use heard_due::HeardDue;
+pub use heard_examples::{
+    statuses_of_what_is_shown, what_is_shown, words_of_a_hearing, words_that_are_no_hearing,
+};
+pub use heard_laws::{one_hearing_is_due, reads_decide_what_is_shown, what_a_decode_would_tell};
 pub use laws::{
     certificates_are_refused, configuration_has_one_outcome, configuration_is_read_first,
     due_is_one, logs_have_one_outcome, no_failure_is_due, reads_decide, something_is_due,

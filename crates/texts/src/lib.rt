@@ -3,6 +3,7 @@
 #![tactic(auto)]
 
 mod feed;
+mod heard;
 mod lines;
 mod listing;
 mod minutes;
@@ -16,6 +17,7 @@ mod trial;
 
 pub use feed::write_feed;
 pub use formats::Refusal;
+pub use heard::{MOST_SYMBOLS, write_slot_heard, write_sums_heard};
 pub use listing::write_listing;
 pub use refusal::write_refusal;
 pub use report::write_report;

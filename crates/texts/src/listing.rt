@@ -77,8 +77,8 @@ fn characters_line(civil: &Civil, station: Station, minute: u32, leap: bool) -> 
     text
 }
 
-// The character of a second that may carry this set.
-fn listed(station: Station, set: u8) -> u8
+/// The character of a second that may carry this set.
+pub fn listed(station: Station, set: u8) -> u8
     ensures character { result ≡ listed station set }
     ensures ascii { result < 128 }
 {

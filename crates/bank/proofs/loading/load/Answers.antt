@@ -1,46 +1,18 @@
 -- A configuration and its logs are loaded, or why not.
-use Rattle.std.proofs.Common.{List, length, map, ap, ◌∙◌, subst}
 use Rattle.std.proofs.lemmas.Result.{err_from_is_err_and}
-use Rattle.bank_config.specs.declared.config.Receiver.{Receiver}
-use Rattle.bank_config.specs.Configuration.{plain_config, plain_receiver}
-use Rattle.bank.specs.Loading.{AreNotRead, AreRead}
-use Rattle.bank.proofs.LoadLaws.{all_read, configuration_not_read, logs_not_read, read_length, same_counts}
-use Rattle.bank.proofs.LogListLaws.{length_map}
+use Rattle.bank_config.specs.Configuration.{plain_config}
 use Rattle.bank.proofs.loading.load.Goals as goal
 
-pub returns-in_err-config-clause-not_loaded : goal.returns-in_err-config-clause-not_loaded
-returns-in_err-config-clause-not_loaded g c =
+pub returns-in_err-read-clause-not_loaded : goal.returns-in_err-read-clause-not_loaded
+returns-in_err-read-clause-not_loaded g c =
     let p = err_from_is_err_and c.from_residual.result c.from_residual.ensures.1 in
-    rw (p.1, p.2) (configuration_not_read (g.F.Files.view c.args.files.now) (g.F.Files.view c.read_configuration.new.files) c.args.config.now c.in_err-config.field-0.0 c.in_err-config.ensures.not_read)
-
-pub returns-in_err-logs-clause-not_loaded : goal.returns-in_err-logs-clause-not_loaded
-returns-in_err-logs-clause-not_loaded g c =
-    let p = err_from_is_err_and c.from_residual-in_err-logs.result c.from_residual-in_err-logs.ensures.1 in
-    let mid = g.F.Files.view c.read_configuration.new.files in
-    let new = g.F.Files.view c.read_logs.new.files in
-    rw (p.1, p.2) (logs_not_read (g.F.Files.view c.args.files.now) mid c.args.config.now (plain_config c.in_ok-config.config) c.in_ok-config.ensures.only.told c.in_ok-config.ensures.read new c.in_err-logs.field-0.0
-    c.in_ok-config.ensures.same_counts
-    (subst (λ (rs : List Receiver). AreNotRead mid new 1 (map plain_receiver rs) c.in_err-logs.field-0.0) c.as_slice.ensures.value c.in_err-logs.ensures.not_read))
-
-pub in_station_order-requires-clause-one_each : goal.in_station_order-requires-clause-one_each
-in_station_order-requires-clause-one_each g c =
-    read_length (g.F.Files.view c.read_configuration.new.files) (map plain_receiver c.as_slice.result.now) c.in_ok-logs.logs.items c.in_ok-logs.ensures.read
-    ∙ length_map plain_receiver c.as_slice.result.now ∙ ap length c.as_slice.ensures.value
+    rw (p.1, p.2) c.in_err-read.ensures.not_loaded
 
 pub returns-in_err-in_station_order-clause-not_loaded : goal.returns-in_err-in_station_order-clause-not_loaded
 returns-in_err-in_station_order-clause-not_loaded g c =
     let p = err_from_is_err_and c.from_residual-in_err-in_station_order.result c.from_residual-in_err-in_station_order.ensures.1 in
-    rw (p.1, p.2) (same_counts (g.F.Files.view c.args.files.now) (g.F.Files.view c.read_configuration.new.files) (g.F.Files.view c.read_logs.new.files)
-    c.in_ok-config.ensures.same_counts c.in_ok-logs.ensures.same_counts)
+    rw (p.1, p.2) c.in_ok-read.ensures.same_counts
 
 pub returns-clause-loaded : goal.returns-clause-loaded
 returns-clause-loaded g c =
-    let mid = g.F.Files.view c.read_configuration.new.files in
-    let config = plain_config c.in_ok-config.config in
-    let logs = c.in_ok-logs.logs.items in (
-      config,
-      logs,
-      all_read (g.F.Files.view c.args.files.now) mid c.args.config.now config c.in_ok-config.ensures.only.told c.in_ok-config.ensures.read logs
-          (subst (λ (rs : List Receiver). AreRead mid (map plain_receiver rs) logs) c.as_slice.ensures.value c.in_ok-logs.ensures.read),
-      c.in_ok-in_station_order.ensures.order,
-    )
+    (plain_config c.in_ok-read.read.0, c.in_ok-read.read.1.items, c.in_ok-read.ensures.loaded, c.in_ok-in_station_order.ensures.order)
