@@ -1,11 +1,11 @@
-//! Floors of days: what no legal sequence of a day costs less than.
+//! Floors of blocks: what no legal sequence of a block costs less than.
 
 ghost use Rattle.std.specs.Prelude.{ℕ, ◌≡◌, ◌+◌, ◌<◌, ◌≤◌, IfSome, true};
 ghost use Rattle.signal_base.specs.declared.limits.TheConstants.{GREATEST_COST};
 ghost use Rattle.definitions.specs.answers.Blocks.{IsBlock};
-ghost use Rattle.definitions.specs.declared.block.Span.TheVariants.{Day};
+ghost use Rattle.definitions.specs.declared.sequence.Sequence.{Sequence};
 ghost use Rattle.definitions.specs.heard.Costs.{sequence_cost};
-ghost use Rattle.definitions.specs.sequences.Walks.{ShowsLeap};
+ghost use Rattle.definitions.specs.sequences.Walks.{IsLegal, ShowsLeap};
 ghost use Rattle.definitions.specs.time.Calendar.{minute_length};
 ghost use Rattle.minute_parts.specs.Walks.{reach};
 ghost use Rattle.field_tables.specs.Blocks.{AreMinutesOf, HasShortWalks};
@@ -23,18 +23,30 @@ use definitions::{Block, MINUTES_PER_DAY};
 use slot_columns::SECONDS_PER_MINUTE;
 
 impl<'a> Tables<'a> {
-    /// A floor of a day of the window: no legal sequence of it costs less. It is at most 1,920,000,000, and may be less than
-    /// what any of them costs. None where it is known that no sequence of the day is legal.
-    pub fn floor(&self, day: &Block) -> Option<u32>
-        requires block { IsBlock self.now.window day.now }
-        requires day { day.now.span ≡ Day }
-        ensures floor { IsFloor (costs_of self.now) self.now.window day.now result }
+    /// A floor of a block of the window: no legal sequence of it costs less. It is at most 1,920,000,000, and may be less than
+    /// what any of them costs. None where it is known that no sequence of the block is legal.
+    pub fn floor(&self, block: &Block) -> Option<u32>
+        requires { IsBlock self.now.window block.now }
+        ensures floor { IsFloor (costs_of self.now) self.now.window block.now result }
         ensures small { IfSome result (λ n. n ≤ GREATEST_COST) }
     {
-        if day.announced && self.is_quiet((day.lo / MINUTES_PER_DAY) as usize) {
+        if block.announced && self.is_in_quiet_day(block) {
             return None;
         }
-        self.sums.floor(self.civil, day)
+        self.sums.floor(self.civil, block)
+    }
+
+    // Whether all sequences of the block begin on one day, of which it is known that no announced one is legal.
+    #[inline(always)]
+    fn is_in_quiet_day(&self, block: &Block) -> bool
+        requires { block.now.lo < block.now.hi }
+        ensures { result ≡ true → (q : Sequence) → q.announced ≡ true → block.now.lo ≤ q.first → q.first < block.now.hi → ¬ (IsLegal self.now.window q) }
+    {
+        let day = block.lo / MINUTES_PER_DAY;
+        if (block.hi - 1) / MINUTES_PER_DAY != day {
+            return false;
+        }
+        self.is_quiet(day as usize)
     }
 
     // Whether it is known that no announced sequence is legal that begins on the day.

@@ -1,17 +1,17 @@
 //! What the sequences of a block cost a station at the least, by pieces of its minutes.
 
-ghost use Rattle.std.specs.Prelude.{◌+◌, ◌<◌, ◌≤◌, length};
+ghost use Rattle.std.specs.Prelude.{ℕ, ◌+◌, ◌<◌, ◌≤◌, length};
 ghost use Rattle.slot_columns.specs.Parts.{most_cost};
 ghost use Rattle.slot_columns.specs.declared.limits.TheConstants.{SECONDS_PER_MINUTE};
 ghost use Rattle.minute_parts.specs.Parts.{IsInRun};
 ghost use Rattle.minute_parts.specs.Runs.{end_of_run};
 ghost use Rattle.minute_parts.specs.Unions.{AreRegular};
 ghost use Rattle.minute_parts.specs.Walks.{later_minutes};
-ghost use Rattle.walk_costs.specs.Walks.{last_minute};
+ghost use Rattle.walk_costs.specs.Walks.{IsRegularIn, last_minute};
 ghost use Rattle.field_tables.specs.Floors.{CostAtLeast};
 
 use crate::station::StationSums;
-use definitions::Block;
+use definitions::{Block, MINUTES_PER_HOUR};
 use walk_costs::StationWalks;
 
 // What the sequences cost at the least that begin in a piece of a block's minutes.
@@ -68,10 +68,24 @@ fn piece_from(walks: &StationWalks, block: &Block, t: u32) -> Piece
     if left <= later {
         return piece_across(walks, block, t, run);
     }
+    let end = block.hi.min(t + (left - later));
     Piece {
-        end: block.hi.min(t + (left - later)),
-        floor: walks.least_in(block.announced, block.second, run),
+        end,
+        floor: floor_inside(walks, block, run, t, end),
     }
+}
+
+// The floor of the minutes from `t` on whose walks lie in the run. They are looked at one by one where they are few.
+fn floor_inside(walks: &StationWalks, block: &Block, run: usize, t: u32, end: u32) -> u32
+    requires some { t < end }
+    requires walks { (t0 : ℕ) → t ≤ t0 → t0 < end → IsRegularIn walks.now block.now.announced block.now.second t0 run }
+    ensures floor { CostAtLeast walks.now block.now t end result }
+    ensures small { result ≤ most_cost walks.now.grid }
+{
+    if end - t <= MINUTES_PER_HOUR {
+        return walks.least_among(block.announced, block.second, run, t, end);
+    }
+    walks.least_in(block.announced, block.second, run)
 }
 
 // The piece of the minutes from `t` on whose walks leave the run of `t`. Where all of them end in the next run, and the local

@@ -1,6 +1,6 @@
 //! What the dates of all runs cost, which is kept in a table.
 
-ghost use Rattle.std.specs.Prelude.{◌≡◌, ◌<◌, ◌≤◌, ℕ, [], IfOk, OnOk, false, length, slice_index_or, true, vec_len};
+ghost use Rattle.std.specs.Prelude.{◌≡◌, ◌<◌, ◌≤◌, ℕ, [], IfOk, OnOk, false, length, slice_index, slice_index_or, true, vec_len};
 ghost use Rattle.minute_parts.specs.Parts.{part_where};
 ghost use Rattle.minute_parts.specs.Runs.{run_at};
 ghost use Rattle.minute_parts.specs.declared.call.TheConstants.{CALL_MINUTES};
@@ -8,10 +8,10 @@ ghost use Rattle.slot_columns.specs.Layered.{together};
 ghost use Rattle.walk_costs.specs.Dates.{date_cost, kept, part_cost};
 ghost use Rattle.walk_costs.specs.Walks.{AreDateCosts, ArePairsOf, kept_of, pair_of};
 
-use crate::date::{given_costs, kept};
+use crate::date::{ByMinute, given_costs, kept};
 use crate::shown::is_told_alike;
 use crate::walks::StationWalks;
-use minute_parts::{Part, Parts, Run};
+use minute_parts::{CALL_MINUTES, Part, Parts, Run};
 use signal_base::Station;
 use slot_columns::{LayerTable, SECONDS_PER_MINUTE, SlotColumns};
 use std::alloc::{AllocError, Global};
@@ -44,16 +44,20 @@ impl StationWalks {
         )
     }
 
-    // What the date of a run costs in the walks from second `p` of which the call sign takes minute `m`.
-    pub(crate) fn date_cost(&self, announced: bool, p: u8, run: usize, m: u8) -> u32
+    // What the date of a run costs in the walks from second `p`, for each walk minute that the call sign may take.
+    pub(crate) fn date_costs(&self, announced: bool, p: u8, run: usize) -> ByMinute
         requires second { p < SECONDS_PER_MINUTE }
         requires run { run < length self.now.parts.runs }
-        requires minute { m < CALL_MINUTES }
-        ensures { result ≡ date_cost self.now.grid p m (part_where announced (run_at self.now.parts.runs run)) }
+        ensures { (m : ℕ) → m < CALL_MINUTES → slice_index result m ≡ date_cost self.now.grid p m (part_where announced (run_at self.now.parts.runs run)) }
     {
         let part = self.unions.parts().run(run).date_part(announced);
         let given = given_costs(&self.columns, p, part);
-        self.kept_date_cost(announced, p, run) + given[m as usize]
+        let kept = self.kept_date_cost(announced, p, run);
+        let mut costs = given;
+        for m in 0..CALL_MINUTES {
+            costs[m] = kept + given[m];
+        }
+        costs
     }
 }
 

@@ -1,9 +1,9 @@
-//! Visits of a year's days where no steps are kept: a day is passed over by its floor, with one read.
+//! Visits of a year's days and their hours where no steps are kept: each is passed over by its floor, with one read.
 
 ghost use Rattle.std.specs.Prelude.{ℕ, ◌≡◌, ◌≢◌, ◌≤◌, IfNone, IfSome, OnOk, OnErr};
 ghost use Rattle.std.specs.Option.{ForSome};
 ghost use Rattle.signal_base.specs.declared.limits.TheConstants.{GREATEST_COST};
-ghost use Rattle.definitions.specs.declared.block.Span.TheVariants.{Year, Day, Minute};
+ghost use Rattle.definitions.specs.declared.block.Span.TheVariants.{Year, Day, Hour, Minute};
 ghost use Rattle.definitions.specs.answers.Blocks.{IsBlock, children};
 ghost use Rattle.field_tables.specs.Scored.{costs_of};
 ghost use Rattle.race_words.specs.Views.{after_limit};
@@ -99,58 +99,113 @@ impl Visitor<'_> {
         let Some(_key) = opened else {
             return Ok(());
         };
-        self.visit_children(seat, day, recorder)
+        self.visit_hours(seat, day, recorder)
     }
 
-    // Reads the race's limit once. None where the day's floor passes it over, and else what was read, by which the day's own
-    // step is to be taken.
-    #[inline(always)]
-    fn pass_over(&self, seat: &mut Seat, day: &Block) -> Option<u64>
+    // Visits the hours of a day, one after the other.
+    fn visit_hours<K: Recorder>(
+        &self,
+        seat: &mut Seat,
+        day: &Block,
+        recorder: &mut K,
+    ) -> Result<(), K::Fault>
         requires race { seat.old.race ≡ self.now.race.now.id }
         requires block { IsBlock self.now.tables.now.window day.now }
         requires day { day.now.span ≡ Day }
+        requires needless { NeedsNone K.told }
+        ensures race { seat.new.race ≡ seat.old.race }
+        ensures walked { let t = self.now.tables.now in
+            OnOk result (HaveWalked K.told (costs_of t) t.window self.now.ceiling (children day.now) seat.old.view seat.new.view recorder.old recorder.new) }
+        ensures stopped { let t = self.now.tables.now in
+            OnErr result (HaveStopped K.told K.fails (costs_of t) t.window self.now.ceiling (children day.now) seat.old.view seat.new.view recorder.old recorder.new) }
+    {
+        children_share_the_sequences();
+        let mut hours = bounded_children(self.tables, day);
+        while let Some(hour) = hours.next_block() {
+            self.visit_hour(seat, &hour, recorder)?;
+        }
+        Ok(())
+    }
+
+    // Visits an hour, which is passed over by its floor where that can be.
+    fn visit_hour<K: Recorder>(
+        &self,
+        seat: &mut Seat,
+        hour: &Block,
+        recorder: &mut K,
+    ) -> Result<(), K::Fault>
+        requires race { seat.old.race ≡ self.now.race.now.id }
+        requires block { IsBlock self.now.tables.now.window hour.now }
+        requires hour { hour.now.span ≡ Hour }
+        requires needless { NeedsNone K.told }
+        ensures race { seat.new.race ≡ seat.old.race }
+        ensures walked { let t = self.now.tables.now in
+            OnOk result (HasWalked K.told (costs_of t) t.window self.now.ceiling hour.now seat.old.view seat.new.view recorder.old recorder.new) }
+        ensures stopped { let t = self.now.tables.now in
+            OnErr result (HasStopped K.told K.fails (costs_of t) t.window self.now.ceiling hour.now seat.old.view seat.new.view recorder.old recorder.new) }
+    {
+        let Some(seen) = self.pass_over(seat, hour) else {
+            return Ok(());
+        };
+        let found = Bounded {
+            block: *hour,
+            bound: bound(self.tables, hour),
+        };
+        let opened = self.take_step(&found, seen, recorder)?;
+        let Some(_key) = opened else {
+            return Ok(());
+        };
+        self.visit_children(seat, hour, recorder)
+    }
+
+    // Reads the race's limit once. None where the block's floor passes it over, and else what was read, by which the
+    // block's own step is to be taken.
+    #[inline(always)]
+    fn pass_over(&self, seat: &mut Seat, block: &Block) -> Option<u64>
+        requires race { seat.old.race ≡ self.now.race.now.id }
+        requires block { IsBlock self.now.tables.now.window block.now }
         ensures race { seat.new.race ≡ seat.old.race }
         ensures passed { let t = self.now.tables.now in
-            IfNone result (HasPassed (costs_of t) t.window self.now.ceiling day.now seat.old.view seat.new.view) }
+            IfNone result (HasPassed (costs_of t) t.window self.now.ceiling block.now seat.old.view seat.new.view) }
         ensures low { IfSome result (λ seen. seen ≤ seat.old.view.floor) }
         ensures read { IfSome result (λ seen. seat.new.view ≡ after_limit seen seat.old.view) }
     {
         blocks_share_the_sequences();
-        let floor = self.tables.floor(day);
-        let seen = self.look::<Brand>(seat, day, floor);
-        if self.is_above(day, floor, seen) {
+        let floor = self.tables.floor(block);
+        let seen = self.look::<Brand>(seat, block, floor);
+        if self.is_above(block, floor, seen) {
             return None;
         }
         Some(seen)
     }
 
-    // Reads the race's limit. Where the day's floor passes it over, the one load counts as all reads of a visit of the day, and
+    // Reads the race's limit. Where the block's floor passes it over, the one load counts as all reads of a visit of the block, and
     // else as one.
     #[inline(always)]
-    fn look<O: Often>(&self, seat: &mut Seat, day: &Block, floor: Option<u32>) -> u64
+    fn look<O: Often>(&self, seat: &mut Seat, block: &Block, floor: Option<u32>) -> u64
         requires race { seat.old.race ≡ self.now.race.now.id }
         requires often { let t = self.now.tables.now in
-            (seen : ℕ) → CountsAs (costs_of t) t.window self.now.ceiling day.now floor seen (O.often seen) }
+            (seen : ℕ) → CountsAs (costs_of t) t.window self.now.ceiling block.now floor seen (O.often seen) }
         ensures race { seat.new.race ≡ seat.old.race }
         ensures low { result ≤ seat.old.view.floor }
         ensures looked { let t = self.now.tables.now in
-            HasLooked (costs_of t) t.window self.now.ceiling day.now floor result seat.old.view seat.new.view }
+            HasLooked (costs_of t) t.window self.now.ceiling block.now floor result seat.old.view seat.new.view }
     {
-        let _day = *day;
+        let _block = *block;
         let _floor = floor;
         self.race.limit_often::<O>(seat)
     }
 
-    // Whether the key of the day's floor is above the limit.
+    // Whether the key of the block's floor is above the limit.
     #[inline(always)]
-    fn is_above(&self, day: &Block, floor: Option<u32>, seen: u64) -> bool
-        requires block { IsBlock self.now.tables.now.window day.now }
+    fn is_above(&self, block: &Block, floor: Option<u32>, seen: u64) -> bool
+        requires block { IsBlock self.now.tables.now.window block.now }
         requires small { ForSome floor (λ n. n ≤ GREATEST_COST) }
-        ensures { result ≡ is_above (limit_at self.now.ceiling seen) day.now floor }
+        ensures { result ≡ is_above (limit_at self.now.ceiling seen) block.now floor }
     {
         match floor {
             None => true,
-            Some(floor) => block_key(floor, day) > limit_at(self.ceiling, seen),
+            Some(floor) => block_key(floor, block) > limit_at(self.ceiling, seen),
         }
     }
 }

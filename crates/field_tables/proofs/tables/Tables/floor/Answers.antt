@@ -10,7 +10,7 @@ use Rattle.field_tables.proofs.tables.Tables.floor.Goals as goal
 pub returns-clause-floor : goal.returns-clause-floor
 returns-clause-floor c =
     let inside = c.self.inside in
-    let b = c.args.day.now in
+    let b = c.args.block.now in
     let found = subst (λ (x : Window). IsFloor (costs_by inside.sums) x b c.floor.result) c.self.invariant.0.same c.floor.ensures.floor in
     subst (λ (s : Scored). IsFloor (costs_of s) s.window b c.floor.result) c.self.view_is
     (floor_same inside.window (costs_by inside.sums) (grid_costs inside.grids.now) b c.floor.result c.self.invariant.0.agree found)

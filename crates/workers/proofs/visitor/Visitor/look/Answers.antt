@@ -7,5 +7,5 @@ pub returns-clause-looked : goal.returns-clause-looked
 returns-clause-looked g c =
     let s = c.args.self.now in
     let t = s.tables.now in
-    has_looked (costs_of t) t.window s.ceiling c.limit_often.result c.args.day.now c.args.floor (g.O.Often.often c.limit_often.result)
+    has_looked (costs_of t) t.window s.ceiling c.limit_often.result c.args.block.now c.args.floor (g.O.Often.often c.limit_often.result)
     c.args.seat.now.view c.limit_often.new.seat.view (c.requires.often c.limit_often.result) c.limit_often.ensures.below c.limit_often.ensures.view

@@ -12,18 +12,18 @@ look-seen-requires-clause-often c =
     let s = c.args.self.now in
     let t = s.tables.now in
     counts_as (costs_of t) t.window s.ceiling (c.blocks_share_the_sequences.ensures (costs_of t) t.window s.ceiling s.window_is_in_range.century)
-    c.args.day.now c.floor-floor.result c.requires.block c.floor-floor.ensures.floor
+    c.args.block.now c.floor-floor.result c.requires.block c.floor-floor.ensures.floor
 
 pub returns-then-is_above-clause-passed : goal.returns-then-is_above-clause-passed
 returns-then-is_above-clause-passed c =
     let s = c.args.self.now in
     let t = s.tables.now in
-    MatchBool-at_true (HasPassed (costs_of t) t.window s.ceiling c.args.day.now c.args.seat.now.view c.look-seen.new.seat.view)
+    MatchBool-at_true (HasPassed (costs_of t) t.window s.ceiling c.args.block.now c.args.seat.now.view c.look-seen.new.seat.view)
     (c.look-seen.new.seat.view ≡ after_limit c.look-seen.result c.args.seat.now.view) (sym c.is_above.ensures ∙ c.if-is_above.true) c.look-seen.ensures.looked
 
 pub returns-clause-read : goal.returns-clause-read
 returns-clause-read c =
     let s = c.args.self.now in
     let t = s.tables.now in
-    MatchBool-at_false (HasPassed (costs_of t) t.window s.ceiling c.args.day.now c.args.seat.now.view c.look-seen.new.seat.view)
+    MatchBool-at_false (HasPassed (costs_of t) t.window s.ceiling c.args.block.now c.args.seat.now.view c.look-seen.new.seat.view)
     (c.look-seen.new.seat.view ≡ after_limit c.look-seen.result c.args.seat.now.view) (sym c.is_above.ensures ∙ c.if-is_above.false) c.look-seen.ensures.looked

@@ -6,4 +6,4 @@ use Rattle.workers.proofs.visitor.Visitor.pass_over.Given as goal
 abbrev pub ghosts-look : goal.ghosts-look
 ghosts-look a =
     let s = a.self.now in
-    record { often = λ seen. more_looks (costs_of s.tables.now) s.tables.now.window s.ceiling a.day.now a.floor seen }
+    record { often = λ seen. more_looks (costs_of s.tables.now) s.tables.now.window s.ceiling a.block.now a.floor seen }

@@ -24,7 +24,7 @@ returns-clause-walked g c =
     let read = c.in-Some.ensures in
     let opened = subst (λ w. HasOpened g.K.Recorder.told s.ceiling c.args.day.now c.bound.result c.in-Some-opened._key c.args.seat.now.view w c.args.recorder.now c.take_step.new.recorder)
     (sym read.read) (rw c.in-Some-opened.is at (c.in_ok-opened.ensures.opened c.args.seat.now.view read.low)) in
-    on_ok_weaker _ (with_children c.bound.ensures.bound opened (search rules)) c.visit_children.ensures.walked
+    on_ok_weaker _ (with_children c.bound.ensures.bound opened (search rules)) c.visit_hours.ensures.walked
 
 pub returns-clause-stopped : goal.returns-clause-stopped
 returns-clause-stopped g c =
@@ -32,7 +32,7 @@ returns-clause-stopped g c =
     let read = c.in-Some.ensures in
     let opened = subst (λ w. HasOpened g.K.Recorder.told s.ceiling c.args.day.now c.bound.result c.in-Some-opened._key c.args.seat.now.view w c.args.recorder.now c.take_step.new.recorder)
     (sym read.read) (rw c.in-Some-opened.is at (c.in_ok-opened.ensures.opened c.args.seat.now.view read.low)) in
-    on_err_weaker _ (with_children_stopped c.bound.ensures.bound opened (search rules)) c.visit_children.ensures.stopped
+    on_err_weaker _ (with_children_stopped c.bound.ensures.bound opened (search rules)) c.visit_hours.ensures.stopped
 
 pub returns-in_err-opened-clause-stopped : goal.returns-in_err-opened-clause-stopped
 returns-in_err-opened-clause-stopped g c =
