@@ -51,12 +51,11 @@ module _ (words : List (List ℕ)) (file : List ℕ) (asks : AsksReading words f
 
   -- what is told of the text that was read
   pub text_found : (old : Seen) (due : FrameDue) → IsReadAs old file (λ bytes. IsToldOf bytes due) → IsFound (frame_plan words) old due
-  text_found old due (bytes, found, told) =
-      (
-        (λ _. bytes),
-        (λ input name read. subst (λ (f : List ℕ). Finds (old.told f) (λ held. bytes ≡ held)) (sym (file_is (λ _. bytes) input name read)) found),
-        Of_text file asks told,
-      )
+  text_found old due (bytes, found, told) = (
+    (λ _. bytes),
+    (λ input name read. subst (λ (f : List ℕ). Finds (old.told f) (λ held. bytes ≡ held)) (sym (file_is (λ _. bytes) input name read)) found),
+    Of_text file asks told,
+  )
 
   -- its file failed, whatever it holds
   pub text_failed : (old new : Seen) → ReadFails file old new → SomeReadFails (frame_plan words) old new
