@@ -23,11 +23,11 @@ mod trial;
 mod words;
 
 pub use decoding::{Decoded, decode, decode_window};
-pub use deliver::deliver_due;
+pub use deliver::{deliver_due, print};
 pub use first_two::{DecideFault, decide, decide_with};
 pub use grids::{grids_of, places_of};
 pub use hearing::{Bank, bank_of, window_of};
-pub use job::{Job, perform};
+pub use job::{Job, perform, status_after};
 pub use loading::{Loaded, Unloaded, load, load_as_configured};
 pub use order::in_station_order;
 pub use program::run;

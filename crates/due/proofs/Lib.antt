@@ -13,3 +13,8 @@ pub mod HeardWordLaws
 pub mod HeardDueLaws
 pub mod HeardReadLaws
 pub mod HeardSumLaws
+pub mod FrameDueLaws
+pub mod FrameReadLaws
+pub mod FrameFileLaws
+pub mod FrameTextLaws
+pub mod FrameExampleLaws

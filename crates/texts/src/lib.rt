@@ -3,6 +3,7 @@
 #![tactic(auto)]
 
 mod feed;
+mod frames;
 mod heard;
 mod lines;
 mod listing;
@@ -17,6 +18,7 @@ mod trial;
 
 pub use feed::write_feed;
 pub use formats::Refusal;
+pub use frames::{write_bad_frame, write_frame_list, write_large_frames};
 pub use heard::{MOST_SYMBOLS, write_slot_heard, write_sums_heard};
 pub use listing::write_listing;
 pub use refusal::write_refusal;
