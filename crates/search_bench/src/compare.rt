@@ -15,7 +15,9 @@ use crate::noise::noisy_bank;
 use crate::places::{PLACES, Place, minute_at};
 use crate::plain::{plain_bound, plain_union};
 use crate::tally::Tally;
-use crate::windows::{STATION_SETS, STATIONS_ALONE, asked_near, name_of, stations, year_from};
+use crate::windows::{
+    STATION_SETS, STATIONS_ALONE, asked_for_days, asked_near, name_of, stations, year_from,
+};
 use bank::{grids_of, window_of};
 use bounds::{Bounded, bound, items};
 use civil::Civil;
@@ -38,9 +40,6 @@ const SEQUENCES: u32 = 200;
 
 // A whole year has so many minutes at least.
 const SHORTEST_YEAR: u32 = 365 * MINUTES_PER_DAY;
-
-// So many windows are made for each place and stations whose floors are compared.
-const WINDOWS: u32 = 3;
 
 // What is compared of a window.
 #[derive(Clone, Copy, PartialEq, Eq)]
@@ -116,7 +115,7 @@ pub fn measure_floors<R: Print + AllocGlobal>(rt: &R, seed: u64) -> Result<(), F
     Ok(())
 }
 
-// Compares the floors of some windows at a place.
+// Compares floors of days in a window of any kind at a place, and in a short one over some days.
 fn compare_floors_at(
     alloc: Global,
     civil: &Civil,
@@ -125,10 +124,18 @@ fn compare_floors_at(
     set: u8,
     tally: &mut Tally,
 ) -> Result<(), Fault> {
-    for _ in 0..WINDOWS {
-        compare_at(alloc, civil, chance, place, set, Extent::Floors, tally)?;
-    }
-    Ok(())
+    compare_at(alloc, civil, chance, place, set, Extent::Floors, tally)?;
+    let t = minute_at(civil, chance, place);
+    let asked = asked_for_days(chance, t);
+    compare_window(
+        alloc,
+        civil,
+        chance,
+        stations(set),
+        &asked,
+        Extent::Floors,
+        tally,
+    )
 }
 
 // Compares in a window at a place.

@@ -12,6 +12,8 @@ pub struct FloorTally {
     exact: u32,
     of_0: u32,
     told: u32,
+    floors: u64,
+    leasts: u64,
 }
 
 impl FloorTally {
@@ -24,6 +26,8 @@ impl FloorTally {
             exact: 0,
             of_0: 0,
             told: 0,
+            floors: 0,
+            leasts: 0,
         }
     }
 
@@ -35,15 +39,20 @@ impl FloorTally {
             day.hi.saturating_sub(day.lo) == MINUTES_PER_DAY,
         );
         match least {
-            Some(_) => {
-                count_if(&mut self.exact, floor == least);
-                count_if(&mut self.of_0, floor == Some(0) && floor != least);
-            }
+            Some(least) => self.count_nearness(floor.unwrap_or(0), least),
             None => {
                 count_if(&mut self.not_legal, true);
                 count_if(&mut self.told, floor.is_none());
             }
         }
+    }
+
+    // Counts how near the floor of a day comes to its least cost.
+    fn count_nearness(&mut self, floor: u32, least: u32) {
+        count_if(&mut self.exact, floor == least);
+        count_if(&mut self.of_0, floor == 0 && least > 0);
+        self.floors = self.floors.saturating_add(floor as u64);
+        self.leasts = self.leasts.saturating_add(least as u64);
     }
 
     /// How near the floors come, which hangs on how they are worked out.
@@ -87,12 +96,18 @@ impl fmt::Display for Nearness {
             exact,
             of_0,
             told,
+            floors,
+            leasts,
             ..
         } = tally;
         let legal = days.saturating_sub(not_legal);
+        let percent = floors.saturating_mul(PERCENT) / leasts.max(1);
         write!(
             f,
-            "{tally}, of which {told} have none; of the other {legal} floors {exact} are exact, {of_0} are 0 and too low"
+            "{tally}, of which {told} have no floor; of the other {legal} floors {exact} are exact, {of_0} are 0 and too low, all are {percent} % of the least costs"
         )
     }
 }
+
+// So many of a hundred.
+const PERCENT: u64 = 100;

@@ -18,7 +18,7 @@ use std::alloc::Global;
 // So many days are drawn for a window. Those are left out whose sequences have more slots together than are left of so many.
 const DRAWS: u32 = 300;
 
-const MOST_SLOTS: u64 = 5_000_000;
+const MOST_SLOTS: u64 = 3_000_000;
 
 /// Compares the floors of some days of a window.
 pub fn compare_floors(

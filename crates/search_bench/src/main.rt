@@ -1,5 +1,8 @@
 //! Compares the quick answers of a search with those of the plain definitions, and measures both.
 //!
+//! What `compare` prints is stored in `stdout`, and `rt run -- compare > stdout` makes it anew. It hangs on what is drawn by
+//! chance, and on nothing that may become faster or nearer.
+//!
 //! | Words | What it does |
 //! |---|---|
 //! | `compare [SEED]` | compares the bounds of blocks, floors of days, and the legality and costs of sequences, over windows of noise |

@@ -81,9 +81,32 @@ pub fn asked_near(chance: &mut Chance, place: Place, t: u32) -> Asked
     } else {
         MOST_SECONDS
     };
+    let seconds = chance.between(LEAST_SECONDS as u32, most as u32) as u16;
+    asked_around(t, before, after, seconds)
+}
+
+/// A short window that may begin in some days around this minute.
+pub fn asked_for_days(chance: &mut Chance, t: u32) -> Asked
+    requires { t < century_minutes }
+    ensures { IsAsked result }
+{
+    let before = chance.between(0, LONG_REACH);
+    let after = chance.between(0, LONG_REACH);
+    let seconds = chance.between(LEAST_SECONDS as u32, FEW_SECONDS as u32) as u16;
+    asked_around(t, before, after, seconds)
+}
+
+// A window of so many seconds that may begin up to so many minutes before this one and after it.
+fn asked_around(t: u32, before: u32, after: u32, seconds: u16) -> Asked
+    requires minute { t < century_minutes }
+    requires after { after ≤ LONG_REACH }
+    requires least { LEAST_SECONDS ≤ seconds }
+    requires most { seconds ≤ MOST_SECONDS }
+    ensures { IsAsked result }
+{
     Asked {
         start: Some(0),
-        seconds: chance.between(LEAST_SECONDS as u32, most as u32) as u16,
+        seconds,
         from: t.saturating_sub(before),
         to: (t + 1 + after).min(CENTURY_MINUTES),
     }
