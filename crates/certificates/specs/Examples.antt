@@ -6,10 +6,10 @@ use Rattle.definitions.specs.declared.block.Span.TheVariants.{Hour, Minute}
 use Rattle.definitions.specs.examples.Sequences.{block_of, window_of}
 use Rattle.certificates.specs.declared.certificate.Head.{Head}
 use Rattle.certificates.specs.declared.certificate.Kind.{Kind}
-use Rattle.certificates.specs.declared.certificate.Kind.TheVariants.{Opened, Pruned, Empty, Leaf}
+use Rattle.certificates.specs.declared.certificate.Kind.TheVariants.{Opened, Leaf}
 use Rattle.certificates.specs.declared.certificate.Line.{Line}
 use Rattle.certificates.specs.Certificates.{Certificate}
-use Rattle.certificates.specs.Texts.{Entry, entries_text, head_entries}
+use Rattle.certificates.specs.Texts.{entries_text, head_entries}
 use Rattle.certificates.specs.Texts.Entry.{Part}
 -- the digits of a number, which examples open by this name
 pub use Rattle.std.specs.Fmt.{digits}
