@@ -1,7 +1,7 @@
 -- Lines that may not stand: a text begins with no good line where its first line is another, or where it has none.
-use Rattle.std.proofs.Common.{◌≡◌, ℕ, suc, ◌+◌, ◌^◌, ◌<◌, ◌≤◌, true, List, [], ◌∷◌, ◌++◌, map, length, get_or, codes, Option, Some, None, refl, sym, ap, ◌∙◌, subst, arith, length-append, append_assoc}
+use Rattle.std.proofs.Common.{◌≡◌, ℕ, ◌+◌, ◌^◌, ◌<◌, ◌≤◌, List, [], ◌∷◌, ◌++◌, map, length, get_or, codes, Option, Some, None, refl, sym, ap, ◌∙◌, subst, arith}
 use Rattle.std.specs.Fmt.{decimal, digits}
-use Rattle.std.specs.List.{AllByRecursion, flat_map}
+use Rattle.std.specs.List.{AllByRecursion}
 use Rattle.std.specs.Str.Parse.{digits_value, AllDigits}
 use Rattle.std.proofs.lemmas.Fmt.{digits_value-decimal}
 use Rattle.std.proofs.lemmas.Str.Parse.{numerals_by_value, tells_digits}
@@ -10,8 +10,8 @@ use Rattle.formats.specs.Refusals.{named_key}
 use Rattle.formats.proofs.FrameEdgeLaws.{Avoids}
 use Rattle.certificates.specs.declared.certificate.Line.{Line}
 use Rattle.certificates.specs.declared.limits.TheConstants.{MOST_STEPS}
-use Rattle.certificates.specs.Certificates.{CanBeNamed, IsLine}
-use Rattle.certificates.specs.Texts.{BeginsWith, CanStand, CanTell, Entry, HeadLine, IsWithin, Lead, Next, entries_text, entry_line, entry_text, head_text, number_in, steps_text}
+use Rattle.certificates.specs.Certificates.{IsLine}
+use Rattle.certificates.specs.Texts.{BeginsWith, CanStand, CanTell, Entry, HeadLine, IsWithin, Lead, Next, entries_text, entry_line, entry_text, head_text, steps_text}
 use Rattle.certificates.specs.Texts.Entry.{Tells, Part, Step, End}
 use Rattle.certificates.specs.Texts.HeadLine.{Version, Heard, Start, Phase, Seconds, From, To, Ceiling, First, Second}
 use Rattle.certificates.specs.Texts.Next.{AtHead, AtParts, AtStep, AtEnd}

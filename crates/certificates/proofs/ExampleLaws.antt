@@ -1,27 +1,14 @@
 -- What examples of certificates keep to.
-use Rattle.std.proofs.Common.{◌≡◌, ◌≢◌, ℕ, ◌+◌, ◌^◌, ◌<◌, ◌≤◌, true, false, List, [], ◌∷◌, ◌++◌, map, length, get_or, codes, Option, Some, None, refl, sym, ap, ◌∙◌, subst, arith, append_assoc}
-use Rattle.std.specs.Fmt.{digits}
-use Rattle.std.specs.List.{AllByRecursion, flat_map}
-use Rattle.std.proofs.lemmas.List.Concat.{flat_map-append}
-use Rattle.definitions.specs.declared.block.Block.{Block}
-use Rattle.definitions.specs.declared.block.Span.TheVariants.{Year, Day, Hour, Minute}
+use Rattle.std.proofs.Common.{◌≡◌, ℕ, ◌≤◌, List, [], ◌∷◌, ◌++◌, get_or, refl, ap, subst, arith}
 use Rattle.definitions.specs.sequences.Windows.{IsWindow}
-use Rattle.definitions.specs.examples.Sequences.{block_of}
-use Rattle.formats.specs.Bytes.{line, line_feed}
-use Rattle.formats.proofs.FrameEdgeLaws.{Avoids}
-use Rattle.certificates.specs.declared.certificate.Kind.{Kind}
-use Rattle.certificates.specs.declared.certificate.Kind.TheVariants.{Opened, Pruned, Empty, Leaf}
 use Rattle.certificates.specs.declared.certificate.Line.{Line}
-use Rattle.certificates.specs.declared.fault.CertificateLineFault.TheVariants.{Shape}
 use Rattle.certificates.specs.Certificates.{IsLine}
-use Rattle.certificates.specs.Texts.{BeginsWith, CanStand, Entry, IsRefused, Lead, Next, entries_text, entry_line, entry_text, first_line, head_entries, step_text}
+use Rattle.certificates.specs.Texts.{CanStand, Entry, Lead, Next, entry_text, first_line, head_entries, step_text}
 use Rattle.certificates.specs.Texts.Entry.{Tells, Part, Step, End}
-use Rattle.certificates.specs.Texts.Next.{AtHead, AtParts, AtStep, AtEnd}
-use Rattle.certificates.specs.Examples.{last_head, line_of, text_to_steps, two_minutes}
-use Rattle.certificates.proofs.EntryLaws.{step_byte}
+use Rattle.certificates.specs.Texts.Next.{AtParts, AtStep}
+use Rattle.certificates.specs.Examples.{last_head, two_minutes}
 use Rattle.certificates.proofs.LeadLaws.{head_leads}
 use Rattle.certificates.proofs.StepLaws.{IsPlain, plain_line, step_tells}
-use Rattle.certificates.proofs.BadLineLaws.{no_line}
 
 pub last_window : IsWindow last_head.window
 last_window = record {

@@ -1,7 +1,7 @@
 -- What walks of all items show: their leaves' keys are those of the sequences that can be admitted up to the limit, each once.
-use Rattle.std.proofs.Common.{◌≡◌, ◌≢◌, ℕ, suc, ◌+◌, ◌<◌, ◌≤◌, ◌⊎◌, inl, inr, Bool, true, false, ◌&&◌, ◌==◌, nat_le, cond, if◌then◌else◌, min, List, [], ◌∷◌, ◌++◌, Option, Some, None, refl, sym, ap, ◌∙◌, subst, ⊎_elim, arith}
-use Rattle.std.specs.List.{All, AllByRecursion, Contains, filter}
-use Rattle.std.proofs.lemmas.Bool.{cases_Bool, cases_lt, eqb-true, eqb-false, le-leb, leb-true, leb-false}
+use Rattle.std.proofs.Common.{◌≡◌, ℕ, ◌<◌, ◌≤◌, ◌⊎◌, inl, inr, Bool, true, false, ◌&&◌, ◌==◌, nat_le, cond, if◌then◌else◌, List, [], ◌∷◌, Option, Some, None, refl, sym, ap, ◌∙◌, subst, ⊎_elim, arith}
+use Rattle.std.specs.List.{AllByRecursion, Contains}
+use Rattle.std.proofs.lemmas.Bool.{cases_lt, le-leb, leb-true}
 use Rattle.std.proofs.lemmas.List.Elements.{All-contains, All-from_recursion}
 use Rattle.std.proofs.lemmas.List.Sums.{sum_by-cons}
 use Rattle.signal_base.specs.declared.limits.TheConstants.{GREATEST_COST}
@@ -9,8 +9,8 @@ use Rattle.signal_base.specs.declared.window.Window.{Window}
 use Rattle.definitions.specs.declared.sequence.Sequence.{Sequence}
 use Rattle.definitions.specs.declared.block.Block.{Block}
 use Rattle.definitions.specs.time.Calendar.{is_leap_end}
-use Rattle.definitions.specs.sequences.Keys.{ceiling_key, key_of}
-use Rattle.definitions.specs.sequences.Walks.{IsLegal, IsSequence}
+use Rattle.definitions.specs.sequences.Keys.{ceiling_key}
+use Rattle.definitions.specs.sequences.Walks.{IsLegal}
 use Rattle.definitions.specs.heard.Costs.{Costs, sequence_cost}
 use Rattle.definitions.specs.answers.Blocks.{IsBlock, IsIn, IsInNone, IsInOne, items}
 use Rattle.definitions.specs.answers.FirstTwo.{AreLeastTwo, IsWindowKey}
@@ -23,7 +23,7 @@ use Rattle.block_visits.proofs.Covering.{IsInSome, all_weaker, covers, in_some_f
 use Rattle.block_visits.proofs.Counting.{count_in, is_in, no_times, offers_no_more, one_if, one_in, true_is_in}
 use Rattle.block_visits.proofs.TwoLeast.{AreEnds, contains_cases, contains_here, contains_later, ends_are, least_two}
 use Rattle.certificates.specs.declared.certificate.Line.{Line}
-use Rattle.certificates.specs.Validity.{AreEachOnce, AreWalks, IsOneOf, NoneTwice, Show, key_or_none, leaf_ends, leaf_keys, limit_named, up_to}
+use Rattle.certificates.specs.Validity.{AreEachOnce, AreWalks, IsOneOf, NoneTwice, Show, leaf_ends, leaf_keys, limit_named, up_to}
 use Rattle.certificates.proofs.WalkLaws.{as_visits, reads_above, reads_of}
 
 second_of : (s : ℕ) (announced ends : Bool) → s < (if announced && ends then 61 else 60) → s < (if announced then 61 else 60)

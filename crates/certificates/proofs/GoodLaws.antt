@@ -1,8 +1,7 @@
 -- Good lines are walks of all items, each once, and such walks are good.
-use Rattle.std.proofs.Common.{◌≡◌, ℕ, ◌<◌, ◌≤◌, ◌⊎◌, inl, inr, Bool, List, [], ◌∷◌, ◌++◌, drop, refl, sym, ap, ◌∙◌, subst, append_assoc, arith, ⊎_elim}
+use Rattle.std.proofs.Common.{◌≡◌, ℕ, ◌⊎◌, inl, inr, List, [], ◌∷◌, ◌++◌, refl, sym, ◌∙◌, subst, append_assoc, arith, ⊎_elim}
 use Rattle.std.specs.List.{AllByRecursion}
 use Rattle.std.proofs.lemmas.List.{append-nil}
-use Rattle.signal_base.specs.declared.limits.TheConstants.{GREATEST_COST}
 use Rattle.signal_base.specs.declared.window.Window.{Window}
 use Rattle.definitions.specs.declared.block.Block.{Block}
 use Rattle.definitions.specs.heard.Costs.{Costs}
@@ -10,7 +9,7 @@ use Rattle.definitions.specs.answers.Blocks.{IsBlock, IsIn, IsInOne, first_of, i
 use Rattle.block_visits.specs.Facts.{Facts}
 use Rattle.certificates.specs.declared.certificate.Line.{Line}
 use Rattle.certificates.specs.Validity.{AreEachOnce, AreWalks, IsOneOf, IsSaid, NoneTwice, opened_by}
-use Rattle.certificates.specs.Verdicts.{AreGood, AreOver, IsDue, due_after}
+use Rattle.certificates.specs.Verdicts.{AreGood, AreOver, IsDue}
 use Rattle.certificates.proofs.FoundLaws.{not_in, one_has}
 
 each_weaker : (P Q : Block → Type 0) → ((b : Block) → P b → Q b) → (bs : List Block) → AllByRecursion P bs → AllByRecursion Q bs

@@ -1,7 +1,5 @@
 -- The hour of the examples: its minutes, and the walk that opens it.
-use Rattle.std.proofs.Common.{◌≡◌, ◌≢◌, ℕ, false, List, [], ◌∷◌, Option, Some, None, refl, arith}
-use Rattle.std.specs.List.{AllByRecursion}
-use Rattle.definitions.specs.declared.block.Block.{Block}
+use Rattle.std.proofs.Common.{◌≡◌, ℕ, false, [], ◌∷◌, Some, refl, arith}
 use Rattle.definitions.specs.declared.block.Span.TheVariants.{Hour, Minute}
 use Rattle.definitions.specs.time.Calendar.{day_at}
 use Rattle.definitions.specs.time.Summer.{season_at}
@@ -11,7 +9,7 @@ use Rattle.definitions.specs.answers.Blocks.{IsBound, blocks, items}
 use Rattle.definitions.specs.examples.Sequences.{block_of, costs_by_symbol, window_of}
 use Rattle.definitions.proofs.MinuteLaws.{early, walkable}
 use Rattle.certificates.specs.declared.certificate.Kind.TheVariants.{Opened, Leaf}
-use Rattle.certificates.specs.Validity.{AreWalks, IsOneOf, IsSaid}
+use Rattle.certificates.specs.Validity.{AreWalks, IsSaid}
 use Rattle.certificates.specs.Verdicts.{AreOver}
 use Rattle.certificates.specs.Examples.{hour, line_of, opened_hour, two_minutes}
 use Rattle.certificates.proofs.GoodLaws.{themselves}

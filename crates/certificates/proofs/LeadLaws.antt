@@ -1,7 +1,6 @@
 -- The lines of a certificate may stand one after the other, and lines that may are those of a certificate.
-use Rattle.std.proofs.Common.{◌≡◌, ℕ, zero, suc, ◌+◌, ◌<◌, ◌≤◌, Bool, true, false, nat_lt, if◌then◌else◌, List, [], ◌∷◌, ◌++◌, map, length, flat_map, Option, Some, None, refl, sym, ap, ◌∙◌, subst, arith, length-append, append_assoc}
+use Rattle.std.proofs.Common.{◌≡◌, ℕ, zero, suc, ◌+◌, ◌<◌, ◌≤◌, Bool, true, false, nat_lt, if◌then◌else◌, List, [], ◌∷◌, ◌++◌, map, length, flat_map, Option, Some, None, refl, sym, ap, ◌∙◌, subst, arith, length-append}
 use Rattle.std.specs.List.{AllByRecursion}
-use Rattle.std.proofs.lemmas.List.{length-map}
 use Rattle.signal_base.specs.declared.limits.TheConstants.{GREATEST_COST}
 use Rattle.signal_base.specs.declared.station.Stations.{Stations}
 use Rattle.signal_base.specs.declared.window.Window.{Window}
@@ -11,7 +10,7 @@ use Rattle.certificates.specs.declared.certificate.Head.{Head}
 use Rattle.certificates.specs.declared.certificate.Line.{Line}
 use Rattle.certificates.specs.declared.limits.TheConstants.{MOST_PARTS, MOST_STEPS, ONE_STATION, SEVERAL_STATIONS}
 use Rattle.certificates.specs.Certificates.{CanBeNamed, Certificate, IsLine, IsSpelled, lines_of}
-use Rattle.certificates.specs.Texts.{CanTell, Entry, HeadLine, IsWithin, Lead, Next, after, after_head, entries_of, first_line, head_entries, number_in, part_entries, stations_by, version_of}
+use Rattle.certificates.specs.Texts.{CanTell, Entry, HeadLine, IsWithin, Lead, Next, after_head, entries_of, first_line, head_entries, number_in, part_entries, stations_by, version_of}
 use Rattle.certificates.specs.Texts.Entry.{Tells, Part, Step, End}
 use Rattle.certificates.specs.Texts.HeadLine.{Version, Heard, Start, Phase, Seconds, From, To, Ceiling, First, Second}
 use Rattle.certificates.specs.Texts.Next.{AtHead, AtParts, AtStep, AtEnd}
@@ -70,17 +69,43 @@ version_fits stations = by_test (nat_lt 1 (length (stations_of stations)))
 -- the lines of a head lead on to what comes behind them
 pub head_leads : (h : Head) → IsWindow h.window → h.ceiling ≤ GREATEST_COST → CanBeNamed h.first → CanBeNamed h.second → (es : List Entry) (last : Next)
     → Lead AtParts es last → Lead first_line (head_entries h ++ es) last
-head_leads h w low first second es last lead =
-    ((refl, version_fits h.window.stations), tt,
-    ((refl, ((w.some_station, omega (arith, w.stations)), refl)), tt,
-    ((refl, (omega arith, w.start)), tt,
-    ((refl, (omega arith, w.phase)), tt,
-    ((refl, (w.not_short, omega (arith, w.not_long))), tt,
-    ((refl, (omega arith, omega (arith, w.not_empty, w.century))), tt,
-    ((refl, (omega (arith, w.not_empty), omega (arith, w.century))), tt,
-    ((refl, (omega arith, omega (arith, low))), tt,
-    ((refl, first), tt,
-    ((refl, second), tt, lead))))))))))
+head_leads h w low first second es last lead = (
+  (refl, version_fits h.window.stations),
+  tt,
+  (
+    (refl, ((w.some_station, omega (arith, w.stations)), refl)),
+    tt,
+    (
+      (refl, (omega arith, w.start)),
+      tt,
+      (
+        (refl, (omega arith, w.phase)),
+        tt,
+        (
+          (refl, (w.not_short, omega (arith, w.not_long))),
+          tt,
+          (
+            (refl, (omega arith, omega (arith, w.not_empty, w.century))),
+            tt,
+            (
+              (refl, (omega (arith, w.not_empty), omega (arith, w.century))),
+              tt,
+              (
+                (refl, (omega arith, omega (arith, low))),
+                tt,
+                (
+                  (refl, first),
+                  tt,
+                  ((refl, second), tt, lead),
+                ),
+              ),
+            ),
+          ),
+        ),
+      ),
+    ),
+  ),
+)
 
 pub certificate_leads : (c : Certificate) → IsSpelled c → length (lines_of c) ≤ MOST_STEPS → Lead first_line (entries_of c) AtEnd
 certificate_leads c is few =
@@ -137,30 +162,19 @@ are_parts part steps (End ∷ es) small few lead = record {
   small = omega (arith, small);
 }
 
--- the head that lines make, one by one
-record IsTold (due : HeadLine) (before : Option ℕ) (es : List Entry) : Type 0 where
-  value : Option ℕ
-  rest : List Entry
-  same : es ≡ Tells due value ∷ rest
-  can : CanTell due before value
-  lead : Lead (after_head due value) rest AtEnd
-
+-- the head that lines make, one by one: whatever holds of each way in which they go on holds of them
 not_head : (due : HeadLine) (before : Option ℕ) → AtEnd ≡ AtHead due before → ⊥
 not_head due before e = absurd cc
 
-is_told : (due : HeadLine) (before : Option ℕ) (es : List Entry) → Lead (AtHead due before) es AtEnd → IsTold due before es
-is_told due before [] lead = absurd (not_head due before lead)
-is_told due before (Tells told v ∷ es) lead =
-    record {
-      value = v;
-      rest = es;
-      same = ap (λ t. Tells t v ∷ es) lead.0.0;
-      can = lead.0.1;
-      lead = subst (λ t. Lead (after_head t v) es AtEnd) lead.0.0 lead.2;
-    }
-is_told due before (Part n ∷ es) lead = absurd lead.0
-is_told due before (Step l ∷ es) lead = absurd lead.0
-is_told due before (End ∷ es) lead = absurd lead.0
+told_then : (Holds : List Entry → Type 0) (due : HeadLine) (before : Option ℕ)
+    → ((v : Option ℕ) (es : List Entry) → CanTell due before v → Lead (after_head due v) es AtEnd → Holds (Tells due v ∷ es))
+    → (es : List Entry) → Lead (AtHead due before) es AtEnd → Holds es
+told_then Holds due before to [] lead = absurd (not_head due before lead)
+told_then Holds due before to (Tells told v ∷ es) lead =
+    subst (λ t. Holds (Tells t v ∷ es)) (sym lead.0.0) (to v es lead.0.1 (subst (λ t. Lead (after_head t v) es AtEnd) lead.0.0 lead.2))
+told_then Holds due before to (Part n ∷ es) lead = absurd lead.0
+told_then Holds due before to (Step l ∷ es) lead = absurd lead.0
+told_then Holds due before to (End ∷ es) lead = absurd lead.0
 
 record AreAllParts (es : List Entry) : Type 0 where
   parts : List (List Line)
@@ -189,65 +203,87 @@ are_all_parts (Part n ∷ es) lead =
 are_all_parts (Step l ∷ es) lead = absurd lead.0
 are_all_parts (End ∷ es) lead = absurd lead.0
 
-tells_more : (due : HeadLine) (v w : Option ℕ) (es rest others : List Entry) → es ≡ Tells due v ∷ rest → v ≡ w → rest ≡ others → es ≡ Tells due w ∷ others
-tells_more due v w es rest others e same also = e ∙ (λ i. Tells due (same i) ∷ also i)
+-- the lines are those of a certificate
+abbrev OfCertificate : List Entry → Type 0
+OfCertificate es = (c : Certificate) × IsSpelled c × (length (lines_of c) ≤ MOST_STEPS) × (es ≡ entries_of c)
 
-pub leads_certificate : (es : List Entry) → Lead first_line es AtEnd → (c : Certificate) × IsSpelled c × (length (lines_of c) ≤ MOST_STEPS) × (es ≡ entries_of c)
-leads_certificate es lead =
-    let version = is_told Version None es lead in
-    let heard = is_told Heard version.value version.rest version.lead in
-    let start = is_told Start heard.value heard.rest heard.lead in
-    let phase = is_told Phase start.value start.rest start.lead in
-    let seconds = is_told Seconds phase.value phase.rest phase.lead in
-    let from = is_told From seconds.value seconds.rest seconds.lead in
-    let to = is_told To from.value from.rest from.lead in
-    let ceiling = is_told Ceiling to.value to.rest to.lead in
-    let first = is_told First ceiling.value ceiling.rest ceiling.lead in
-    let second = is_told Second first.value first.rest first.lead in
-    let all = are_all_parts second.rest second.lead in
-    let mask = within_is _ _ heard.value heard.can.0 in
-    let begin = within_is _ _ start.value start.can in
-    let offset = within_is _ _ phase.value phase.can in
-    let long = within_is _ _ seconds.value seconds.can in
-    let low = within_is _ _ from.value from.can in
-    let high = within_is _ _ to.value to.can in
-    let cost = within_is _ _ ceiling.value ceiling.can in
-    let window : Window = record { stations = stations_by mask.0; start = begin.0; phase = offset.0; seconds = long.0; from = low.0; to = high.0 } in
-    let head : Head = record { window = window; ceiling = cost.0; first = first.value; second = second.value } in
-    let c : Certificate = record { head = head; parts = all.parts } in
-    let is_window : IsWindow window = record {
-      some_station = mask.2;
-      stations = omega (arith, mask.3);
-      start = begin.3;
-      phase = offset.3;
-      not_short = long.2;
-      not_long = omega (arith, long.3);
-      not_empty = omega (arith, high.2, ap number_in low.1);
-      century = omega (arith, high.3);
-    } in
-    let versions : version.value ≡ Some (version_of (stations_by mask.0)) = heard.can.1 ∙ ap (λ v. Some (version_of (stations_by (number_in v)))) mask.1 in (
-      c,
-      record {
-        window = is_window;
-        ceiling = omega (arith, cost.3);
-        first = first.can;
-        second = second.can;
-        some_part = all.some;
-        few_parts = all.most;
-        lines = all.lines;
-      },
-      all.few,
-      tells_more Version version.value _ es version.rest _ version.same versions
-          (tells_more Heard heard.value _ version.rest heard.rest _ heard.same mask.1
-          (tells_more Start start.value _ heard.rest start.rest _ start.same begin.1
-          (tells_more Phase phase.value _ start.rest phase.rest _ phase.same offset.1
-          (tells_more Seconds seconds.value _ phase.rest seconds.rest _ seconds.same long.1
-          (tells_more From from.value _ seconds.rest from.rest _ from.same low.1
-          (tells_more To to.value _ from.rest to.rest _ to.same high.1
-          (tells_more Ceiling ceiling.value _ to.rest ceiling.rest _ ceiling.same cost.1
-          (tells_more First first.value _ ceiling.rest first.rest _ first.same refl
-          (tells_more Second second.value _ first.rest second.rest _ second.same refl all.same))))))))),
-    )
+-- what the lines of a head told, and the parts behind them
+record HeadTold (version heard start phase seconds from to ceiling first second : Option ℕ) (es : List Entry) : Type 0 where
+  can_heard : CanTell Heard version heard
+  can_start : CanTell Start heard start
+  can_phase : CanTell Phase start phase
+  can_seconds : CanTell Seconds phase seconds
+  can_from : CanTell From seconds from
+  can_to : CanTell To from to
+  can_ceiling : CanTell Ceiling to ceiling
+  can_first : CanTell First ceiling first
+  can_second : CanTell Second first second
+  parts : AreAllParts es
+
+module _ (version heard start phase seconds from to ceiling first second : Option ℕ) (es : List Entry) (told : HeadTold version heard start phase seconds from to ceiling first second es) where
+  of_head : OfCertificate (
+      Tells Version version ∷ Tells Heard heard ∷ Tells Start start ∷ Tells Phase phase ∷ Tells Seconds seconds ∷ Tells From from ∷ Tells To to ∷ Tells Ceiling ceiling
+      ∷ Tells First first ∷ Tells Second second ∷ es
+      )
+  of_head =
+      let mask = within_is 1 16 heard told.can_heard.0 in
+      let begin = within_is _ _ start told.can_start in
+      let offset = within_is _ _ phase told.can_phase in
+      let long = within_is _ _ seconds told.can_seconds in
+      let low = within_is _ _ from told.can_from in
+      let high = within_is _ _ to told.can_to in
+      let cost = within_is _ _ ceiling told.can_ceiling in
+      let window : Window = record { stations = stations_by mask.0; start = begin.0; phase = offset.0; seconds = long.0; from = low.0; to = high.0 } in
+      let head : Head = record { window = window; ceiling = cost.0; first = first; second = second } in
+      let versions : version ≡ Some (version_of (stations_by mask.0)) = told.can_heard.1 ∙ ap (λ v. Some (version_of (stations_by (number_in v)))) mask.1 in (
+        record { head = head; parts = told.parts.parts },
+        record {
+          window = record {
+            some_station = mask.2;
+            stations = omega (arith, mask.3);
+            start = begin.3;
+            phase = offset.3;
+            not_short = long.2;
+            not_long = omega (arith, long.3);
+            not_empty = omega (arith, high.2, ap number_in low.1);
+            century = omega (arith, high.3);
+          };
+          ceiling = omega (arith, cost.3);
+          first = told.can_first;
+          second = told.can_second;
+          some_part = told.parts.some;
+          few_parts = told.parts.most;
+          lines = told.parts.lines;
+        },
+        told.parts.few,
+        λ i. Tells Version (versions i) ∷ Tells Heard (mask.1 i) ∷ Tells Start (begin.1 i) ∷ Tells Phase (offset.1 i) ∷ Tells Seconds (long.1 i) ∷ Tells From (low.1 i)
+            ∷ Tells To (high.1 i) ∷ Tells Ceiling (cost.1 i) ∷ Tells First first ∷ Tells Second second ∷ told.parts.same i,
+      )
+
+pub leads_certificate : (es : List Entry) → Lead first_line es AtEnd → OfCertificate es
+leads_certificate =
+    told_then OfCertificate Version None (λ a es1 can_a lead1.
+    told_then (λ es. OfCertificate (Tells Version a ∷ es)) Heard a (λ b es2 can_b lead2.
+    told_then (λ es. OfCertificate (Tells Version a ∷ Tells Heard b ∷ es)) Start b (λ c es3 can_c lead3.
+    told_then (λ es. OfCertificate (Tells Version a ∷ Tells Heard b ∷ Tells Start c ∷ es)) Phase c (λ d es4 can_d lead4.
+    told_then (λ es. OfCertificate (Tells Version a ∷ Tells Heard b ∷ Tells Start c ∷ Tells Phase d ∷ es)) Seconds d (λ e es5 can_e lead5.
+    told_then (λ es. OfCertificate (Tells Version a ∷ Tells Heard b ∷ Tells Start c ∷ Tells Phase d ∷ Tells Seconds e ∷ es)) From e (λ f es6 can_f lead6.
+    told_then (λ es. OfCertificate (Tells Version a ∷ Tells Heard b ∷ Tells Start c ∷ Tells Phase d ∷ Tells Seconds e ∷ Tells From f ∷ es)) To f (λ g es7 can_g lead7.
+    told_then (λ es. OfCertificate (Tells Version a ∷ Tells Heard b ∷ Tells Start c ∷ Tells Phase d ∷ Tells Seconds e ∷ Tells From f ∷ Tells To g ∷ es)) Ceiling g (λ h es8 can_h lead8.
+    told_then (λ es. OfCertificate (Tells Version a ∷ Tells Heard b ∷ Tells Start c ∷ Tells Phase d ∷ Tells Seconds e ∷ Tells From f ∷ Tells To g ∷ Tells Ceiling h ∷ es)) First h (λ k es9 can_k lead9.
+    told_then (λ es. OfCertificate (Tells Version a ∷ Tells Heard b ∷ Tells Start c ∷ Tells Phase d ∷ Tells Seconds e ∷ Tells From f ∷ Tells To g ∷ Tells Ceiling h ∷ Tells First k ∷ es)) Second k (λ l es10 can_l lead10.
+    of_head a b c d e f g h k l es10 (record {
+      can_heard = can_b;
+      can_start = can_c;
+      can_phase = can_d;
+      can_seconds = can_e;
+      can_from = can_f;
+      can_to = can_g;
+      can_ceiling = can_h;
+      can_first = can_k;
+      can_second = can_l;
+      parts = are_all_parts es10 lead10;
+    })) es9 lead9) es8 lead8) es7 lead7) es6 lead6) es5 lead5) es4 lead4) es3 lead3) es2 lead2) es1 lead1)
 
 -- certificates of the same lines are the same: what the n-th line tells, and the parts
 abbrev told_by : Entry → Option ℕ

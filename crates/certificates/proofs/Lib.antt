@@ -10,6 +10,7 @@ pub mod GoodLaws
 pub mod VerdictLaws
 pub mod ValidLaws
 pub mod TightLaws
+pub mod JudgedLaws
 pub mod BadLineLaws
 pub mod ExampleLaws
 pub mod HourLaws

@@ -1,18 +1,18 @@
 -- Where each line keeps to the limit of the named keys, it keeps to what the leaves before it tell. What was pruned is not
 -- cheaper than what is named.
-use Rattle.std.proofs.Common.{◌≡◌, ℕ, ◌+◌, ◌*◌, ◌^◌, ◌<◌, ◌≤◌, ◌⊎◌, inl, inr, Bool, true, false, ◌==◌, min, List, [], ◌∷◌, ◌++◌, flat_map, Option, Some, None, refl, sym, ap, ◌∙◌, subst, ⊎_elim, arith}
+use Rattle.std.proofs.Common.{◌≡◌, ℕ, ◌+◌, ◌<◌, ◌≤◌, ◌⊎◌, inl, inr, ◌==◌, List, [], ◌∷◌, ◌++◌, Option, Some, None, ap, ◌∙◌, subst, ⊎_elim, arith}
 use Rattle.std.specs.List.{AllByRecursion, Contains}
-use Rattle.std.proofs.lemmas.Bool.{cases_eq, cases_lt}
+use Rattle.std.proofs.lemmas.Bool.{cases_lt}
 use Rattle.std.proofs.lemmas.List.Concat.{flat_map-append}
 use Rattle.std.proofs.lemmas.List.Elements.{All-contains, All-from_recursion}
 use Rattle.std.proofs.lemmas.List.Sums.{sum_by-append}
 use Rattle.signal_base.specs.declared.limits.TheConstants.{GREATEST_COST}
 use Rattle.signal_base.specs.declared.window.Window.{Window}
 use Rattle.definitions.specs.declared.block.Block.{Block}
-use Rattle.definitions.specs.sequences.Keys.{ceiling_key, cost_of, key_of, index_of}
+use Rattle.definitions.specs.sequences.Keys.{ceiling_key, cost_of}
 use Rattle.definitions.specs.sequences.Walks.{IsSequence}
 use Rattle.definitions.specs.heard.Costs.{Costs}
-use Rattle.definitions.specs.answers.Blocks.{block_key, first_of, items}
+use Rattle.definitions.specs.answers.Blocks.{block_key, first_of}
 use Rattle.definitions.specs.answers.FirstTwo.{AreLeastTwo, IsWindowKey}
 use Rattle.definitions.proofs.KeyLaws.{cost_of-key_of, cost_of-le, index_bound}
 use Rattle.race_words.specs.Keys.{no_key, two_least}

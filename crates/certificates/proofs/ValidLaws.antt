@@ -1,5 +1,5 @@
 -- What a valid certificate's window and ceiling keep to.
-use Rattle.std.proofs.Common.{◌≡◌, ℕ, ◌≤◌, subst}
+use Rattle.std.proofs.Common.{ℕ, ◌≤◌, subst}
 use Rattle.signal_base.specs.declared.limits.TheConstants.{GREATEST_COST}
 use Rattle.signal_base.specs.declared.window.Window.{Window}
 use Rattle.definitions.specs.time.Calendar.{century_minutes}

@@ -1,5 +1,5 @@
 -- Each certificate that can be written has one verdict, and it is certified exactly where it is valid.
-use Rattle.std.proofs.Common.{◌≡◌, ◌≢◌, ℕ, zero, suc, ◌+◌, ◌<◌, ◌≤◌, ◌⊎◌, inl, inr, Bool, true, false, List, [], ◌∷◌, ◌++◌, Option, Some, None, refl, sym, ap, ◌∙◌, subst, arith, ⊎_elim}
+use Rattle.std.proofs.Common.{◌≡◌, ℕ, zero, suc, ◌+◌, inl, inr, Bool, true, false, List, [], ◌∷◌, Option, Some, None, refl, sym, ap, ◌∙◌, subst, ⊎_elim}
 use Rattle.std.specs.List.{AllByRecursion}
 use Rattle.std.proofs.lemmas.Bool.{cases_eq}
 use Rattle.signal_base.specs.declared.window.Window.{Window}
@@ -14,9 +14,9 @@ use Rattle.certificates.specs.declared.certificate.Kind.TheVariants.{Opened, Pru
 use Rattle.certificates.specs.declared.certificate.Line.{Line}
 use Rattle.certificates.specs.declared.verdict.Verdict.{Verdict}
 use Rattle.certificates.specs.declared.verdict.Verdict.TheVariants.{Certified, OtherWindow, Uncovered, WrongBound, NotAbove, WrongEnds}
-use Rattle.certificates.specs.Certificates.{Certificate, IsLine, IsShaped, IsSpelled, lines_of}
-use Rattle.certificates.specs.Validity.{IsAbove, IsOneOf, IsOver, IsSaid, IsValid, Show, leaf_ends, limit_named}
-use Rattle.certificates.specs.Verdicts.{AreGood, AreOver, IsDue, IsFound, IsFoundOf, IsOf, IsOfEnds, IsRight, IsVerdict, IsWrong, begun_with, due_after}
+use Rattle.certificates.specs.Certificates.{Certificate, IsLine, IsSpelled, lines_of}
+use Rattle.certificates.specs.Validity.{IsAbove, IsOneOf, IsOver, IsValid, leaf_ends, limit_named}
+use Rattle.certificates.specs.Verdicts.{AreGood, AreOver, IsDue, IsFound, IsOf, IsOfEnds, IsRight, IsVerdict, IsWrong, begun_with, due_after}
 use Rattle.block_visits.specs.Apart.{key_if_any}
 use Rattle.certificates.proofs.GoodLaws.{good_are_walks, walks_are_good}
 

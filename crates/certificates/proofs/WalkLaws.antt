@@ -1,5 +1,5 @@
 -- Walks that a certificate tells are visits, by reads that pass over what was pruned and nothing else.
-use Rattle.std.proofs.Common.{◌≡◌, ◌≢◌, ℕ, ◌<◌, ◌≤◌, Bool, true, false, nat_le, if◌then◌else◌, min, List, [], ◌∷◌, ◌++◌, map, Option, Some, None, refl, sym, ap, ◌∙◌, subst, arith, ⊎_elim}
+use Rattle.std.proofs.Common.{◌≡◌, ◌≢◌, ℕ, ◌<◌, ◌≤◌, Bool, true, false, nat_le, if◌then◌else◌, List, [], ◌∷◌, ◌++◌, map, Option, Some, None, refl, sym, ap, ◌∙◌, subst, arith, ⊎_elim}
 use Rattle.std.specs.List.{AllByRecursion}
 use Rattle.std.proofs.lemmas.Bool.{cases_Bool, le-leb, leb-true}
 use Rattle.signal_base.specs.declared.limits.TheConstants.{GREATEST_COST}
@@ -7,10 +7,9 @@ use Rattle.signal_base.specs.declared.window.Window.{Window}
 use Rattle.definitions.specs.declared.block.Block.{Block}
 use Rattle.definitions.specs.declared.block.Span.{Span}
 use Rattle.definitions.specs.declared.block.Span.TheVariants.{Year, Day, Hour, Minute}
-use Rattle.definitions.specs.sequences.Keys.{ceiling_key}
 use Rattle.definitions.specs.sequences.Walks.{IsSequence}
 use Rattle.definitions.specs.heard.Costs.{Costs}
-use Rattle.definitions.specs.answers.Blocks.{IsBlock, IsBound, block_key, children, children_by, first_of}
+use Rattle.definitions.specs.answers.Blocks.{IsBlock, block_key, children, children_by, first_of}
 use Rattle.race_words.specs.Keys.{no_key}
 use Rattle.block_visits.specs.Facts.{Facts}
 use Rattle.block_visits.specs.Visits.{AreVisits, limit_at, offered_by, offered_under, opened_under}
@@ -19,7 +18,7 @@ use Rattle.certificates.specs.declared.certificate.Kind.{Kind}
 use Rattle.certificates.specs.declared.certificate.Kind.TheVariants.{Opened, Pruned, Empty, Leaf}
 use Rattle.certificates.specs.declared.certificate.Line.{Line}
 use Rattle.certificates.specs.Certificates.{IsShaped}
-use Rattle.certificates.specs.Validity.{AreWalks, IsAbove, IsSaid, leaf_as, leaf_key, leaf_keys, opened_as, opened_by}
+use Rattle.certificates.specs.Validity.{AreWalks, IsAbove, leaf_as, leaf_keys, opened_as, opened_by}
 
 -- what the visit reads at a line: the limit where the block was pruned, and else no key
 abbrev pub read_as : ℕ → Kind → ℕ

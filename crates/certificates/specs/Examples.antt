@@ -2,14 +2,14 @@
 use Rattle.std.specs.Prelude.{ℕ, ◌+◌, ◌*◌, ◌^◌, List, [], ◌∷◌, ◌++◌, Option, Some, None}
 use Rattle.signal_base.specs.declared.window.Window.{Window}
 use Rattle.definitions.specs.declared.block.Block.{Block}
-use Rattle.definitions.specs.declared.block.Span.TheVariants.{Hour, Minute}
+use Rattle.definitions.specs.declared.block.Span.TheVariants.{Year, Day, Hour, Minute}
 use Rattle.definitions.specs.examples.Sequences.{block_of, window_of}
 use Rattle.certificates.specs.declared.certificate.Head.{Head}
 use Rattle.certificates.specs.declared.certificate.Kind.{Kind}
-use Rattle.certificates.specs.declared.certificate.Kind.TheVariants.{Opened, Pruned, Empty, Leaf}
+use Rattle.certificates.specs.declared.certificate.Kind.TheVariants.{Opened, Empty, Leaf}
 use Rattle.certificates.specs.declared.certificate.Line.{Line}
 use Rattle.certificates.specs.Certificates.{Certificate}
-use Rattle.certificates.specs.Texts.{Entry, entries_text, head_entries}
+use Rattle.certificates.specs.Texts.{entries_text, head_entries}
 use Rattle.certificates.specs.Texts.Entry.{Part}
 -- the digits of a number, which examples open by this name
 pub use Rattle.std.specs.Fmt.{digits}
@@ -45,3 +45,14 @@ hour_certificate = record { head = head_of two_minutes 1_000 (Some (116 * 2 ^ 33
 -- the text up to the first step
 abbrev pub text_to_steps : List ℕ
 text_to_steps = entries_text (head_entries last_head ++ Part 0 ∷ [])
+
+-- the first steps of the certificate of these minutes
+abbrev pub first_steps : List Line
+first_steps =
+    line_of Opened (block_of Year 52_595_938 52_596_000) (Some 0)
+    ∷ line_of Opened (block_of Day 52_595_938 52_596_000) (Some 0)
+    ∷ line_of Opened (block_of Hour 52_595_938 52_595_940) (Some 0)
+    ∷ line_of Leaf (block_of Minute 52_595_938 52_595_939) (Some 0)
+    ∷ line_of Empty (block_of Minute 52_595_939 52_595_940) None
+    ∷ line_of Empty (block_of Hour 52_595_940 52_596_000) None
+    ∷ []

@@ -1,6 +1,6 @@
 //! The laws of certificates: what a valid one shows, whoever made it, and which lines make one.
 
-ghost use Rattle.std.specs.Prelude.{◌≡◌, ◌≤◌, ◌<◌, ◌↔◌, ◌++◌, ◌∷◌, [], ℕ, List, Option, Some, None, Contains};
+ghost use Rattle.std.specs.Prelude.{◌≡◌, ◌≤◌, ◌<◌, ◌↔◌, ◌⊎◌, ◌++◌, ◌∷◌, [], ℕ, List, Option, Some, None, Contains};
 ghost use Rattle.signal_base.specs.declared.limits.TheConstants.{GREATEST_COST};
 ghost use Rattle.signal_base.specs.declared.window.Window.{Window};
 ghost use Rattle.definitions.specs.declared.block.Block.{Block};
@@ -10,6 +10,7 @@ ghost use Rattle.definitions.specs.heard.Costs.{Costs};
 ghost use Rattle.definitions.specs.answers.Answers.{IsWindowAnswer};
 ghost use Rattle.definitions.specs.answers.Blocks.{items};
 ghost use Rattle.definitions.specs.answers.FirstTwo.{AreLeastTwo, IsWindowKey, answer_from};
+ghost use Rattle.formats.specs.Refusals.{CertificateFault};
 ghost use Rattle.race_words.specs.Keys.{two_least};
 ghost use Rattle.certificates.specs.declared.certificate.Kind.TheVariants.{Pruned};
 ghost use Rattle.certificates.specs.declared.certificate.Line.{Line};
@@ -17,6 +18,7 @@ ghost use Rattle.certificates.specs.declared.verdict.Verdict.{Verdict};
 ghost use Rattle.certificates.specs.declared.verdict.Verdict.TheVariants.{Certified};
 ghost use Rattle.certificates.specs.Certificates.{Certificate, IsSpelled, lines_of};
 ghost use Rattle.certificates.specs.Validity.{AreEachOnce, AreTight, AreWalks, IsValid, KeepsTo, Show, leaf_keys, limit_named};
+ghost use Rattle.certificates.specs.Judged.{IsBadCertificate, IsGoodCertificate};
 ghost use Rattle.certificates.specs.Verdicts.{AreGood, IsVerdict};
 
 use block_visits::blocks_share_the_sequences;
@@ -91,4 +93,25 @@ pub fn pruned_blocks_are_not_cheaper()
         → Contains (lines_of c) l → l.kind ≡ Pruned → l.bound ≡ Some n → c.head.second ≡ None → ceiling < n }
 {
     blocks_share_the_sequences();
+}
+
+/// Bytes are a valid certificate, which names one pair of keys, or one fault is told of them. The keys of a valid one give the
+/// answer.
+pub fn bytes_have_one_judgement()
+    ensures some { (costs : Costs) (window : Window) (ceiling : ℕ) (bytes : List ℕ)
+        → ((first : Option ℕ) × (second : Option ℕ) × IsGoodCertificate costs window ceiling bytes first second)
+        ⊎ ((fault : CertificateFault) × IsBadCertificate costs window ceiling bytes fault) }
+    ensures one_fault { (costs : Costs) (window : Window) (ceiling : ℕ) (bytes : List ℕ) (a b : CertificateFault)
+        → IsBadCertificate costs window ceiling bytes a → IsBadCertificate costs window ceiling bytes b → a ≡ b }
+    ensures not_both { (costs : Costs) (window : Window) (ceiling : ℕ) (bytes : List ℕ) (first second : Option ℕ) (fault : CertificateFault)
+        → IsGoodCertificate costs window ceiling bytes first second → ¬ (IsBadCertificate costs window ceiling bytes fault) }
+    ensures one_pair { (costs : Costs) (window : Window) (ceiling : ℕ) (bytes : List ℕ) (first second others other : Option ℕ)
+        → IsGoodCertificate costs window ceiling bytes first second → IsGoodCertificate costs window ceiling bytes others other
+        → (first ≡ others) × (second ≡ other) }
+    ensures answer { (costs : Costs) (window : Window) (ceiling : ℕ) (bytes : List ℕ) (first second : Option ℕ)
+        → IsGoodCertificate costs window ceiling bytes first second → IsWindowAnswer window costs ceiling (answer_from first second) }
+{
+    bound_exists();
+    bound_is_one();
+    valid_certificates_name_the_first_two();
 }

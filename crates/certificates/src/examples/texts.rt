@@ -13,14 +13,17 @@ ghost use Rattle.certificates.specs.declared.limits.TheConstants.{CERTIFICATE_LI
 ghost use Rattle.certificates.specs.Certificates.{CanBeNamed, IsLine};
 ghost use Rattle.certificates.specs.Texts.{certificate_text, entries_text, entry_line, head_entries, steps_text, IsRefused, IsText};
 ghost use Rattle.certificates.specs.Texts.Entry.{Step};
-ghost use Rattle.certificates.specs.Examples.{head_of, hour_certificate, last_head, line_of, text_to_steps};
+ghost use Rattle.certificates.specs.Examples.{first_steps, head_of, hour_certificate, last_head, line_of, text_to_steps};
 
-/// Steps of each kind and span, and how much a certificate may hold.
+/// Steps of each kind and span, those with which the certificate of the century's last hours begins, and how much a certificate may hold.
 pub fn lines_of_certificates()
     ensures opened { entry_line (Step (line_of Opened (block_of Year 52_595_938 52_596_000) (Some 0))) ≡ line (codes "O Y 0 0 52595938 52596000 0") }
     ensures pruned { entry_line (Step (line_of Pruned (block_of Day 700 1_440) (Some 1_920_000_000))) ≡ line (codes "P D 0 0 700 1440 1920000000") }
     ensures empty { entry_line (Step (line_of Empty (announced_block_of Hour 52_595_940 52_596_000) None)) ≡ line (codes "E H 1 0 52595940 52596000 -") }
     ensures leaf { entry_line (Step (line_of Leaf (block_of Minute 0 1) (Some 7))) ≡ line (codes "L M 0 0 0 1 7") }
+    ensures first { steps_text first_steps
+        ≡ line (codes "O Y 0 0 52595938 52596000 0") ++ line (codes "O D 0 0 52595938 52596000 0") ++ line (codes "O H 0 0 52595938 52595940 0")
+        ++ line (codes "L M 0 0 52595938 52595939 0") ++ line (codes "E M 0 0 52595939 52595940 -") ++ line (codes "E H 0 0 52595940 52596000 -") }
     ensures bytes { CERTIFICATE_LIMIT ≡ 128_000_000 }
     ensures steps { MOST_STEPS ≡ 2_000_000 }
     ensures parts { MOST_PARTS ≡ 8 }

@@ -1,12 +1,7 @@
 -- The lines of a valid certificate are visits of all items, so nothing is left out.
 use Rattle.block_visits.specs.Facts.{Facts}
-use Rattle.std.proofs.Common.{ℕ, ◌≤◌, ap, arith, subst}
+use Rattle.std.proofs.Common.{ℕ}
 use Rattle.signal_base.specs.declared.limits.TheConstants.{GREATEST_COST}
-use Rattle.signal_base.specs.declared.window.Window.{Window}
-use Rattle.definitions.specs.time.Calendar.{century_minutes}
-use Rattle.definitions.specs.heard.Costs.{Costs}
-use Rattle.certificates.specs.Certificates.{Certificate}
-use Rattle.certificates.specs.Validity.{IsValid}
 use Rattle.certificates.proofs.FoundLaws.{shown_are_first}
 use Rattle.certificates.proofs.ValidLaws.{in_century, is_low}
 use Rattle.certificates.proofs.laws.valid_certificates_name_the_first_two.Goals as goal

@@ -1,7 +1,6 @@
 -- The lines before the first bad one, and why none that may stand there is it.
-use Rattle.std.proofs.Common.{◌≡◌, ℕ, ◌+◌, ◌<◌, ◌≤◌, List, [], ◌∷◌, ◌++◌, map, length, get_or, codes, take, Option, Some, None, refl, sym, ap, ◌∙◌, subst, arith, append_assoc}
+use Rattle.std.proofs.Common.{◌≡◌, ℕ, ◌+◌, List, [], ◌∷◌, ◌++◌, map, length, get_or, codes, Option, Some, None, refl, sym, ap, ◌∙◌, arith}
 use Rattle.std.specs.Fmt.{digits}
-use Rattle.std.specs.List.{flat_map}
 use Rattle.std.proofs.lemmas.List.{append_cancel_left}
 use Rattle.std.proofs.lemmas.List.Concat.{flat_map-append}
 use Rattle.definitions.specs.declared.block.Span.TheVariants.{Day, Minute}
@@ -10,8 +9,7 @@ use Rattle.formats.specs.Bytes.{line, line_feed}
 use Rattle.formats.specs.Refusals.{named_key}
 use Rattle.certificates.specs.declared.certificate.Kind.TheVariants.{Opened, Empty, Leaf}
 use Rattle.certificates.specs.declared.certificate.Line.{Line}
-use Rattle.certificates.specs.declared.limits.TheConstants.{MOST_STEPS}
-use Rattle.certificates.specs.Texts.{BeginsWith, CanStand, CanTell, Entry, HeadLine, Lead, Next, entries_text, entry_line, entry_text, first_line, head_entries, head_text}
+use Rattle.certificates.specs.Texts.{CanStand, Entry, entry_line, entry_text, first_line, head_entries, head_text}
 use Rattle.certificates.specs.Texts.Entry.{Tells, Part, Step, End}
 use Rattle.certificates.specs.Texts.HeadLine.{Version, Heard, Start}
 use Rattle.certificates.specs.Texts.Next.{AtHead, AtParts, AtStep, AtEnd}

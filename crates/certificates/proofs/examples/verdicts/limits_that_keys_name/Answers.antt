@@ -1,5 +1,5 @@
 -- Which keys are the least.
-use Rattle.std.proofs.Common.{◌≡◌, ℕ, Option, Some, None, inl, inr, refl}
+use Rattle.std.proofs.Common.{◌≡◌, ℕ, Some, None, inl, inr, refl}
 use Rattle.certificates.proofs.examples.verdicts.limits_that_keys_name.Goals as goal
 
 pub returns-clause-second : goal.returns-clause-second

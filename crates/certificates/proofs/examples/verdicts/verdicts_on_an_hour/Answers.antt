@@ -1,11 +1,9 @@
 -- Line by line.
-use Rattle.std.proofs.Common.{◌≡◌, ◌≢◌, ℕ, List, [], ◌∷◌, Option, Some, None, inl, inr, refl, sym, ap, ◌∙◌, subst, arith}
+use Rattle.std.proofs.Common.{◌≡◌, ℕ, List, [], ◌∷◌, Option, Some, inl, inr, refl, ap, arith}
 use Rattle.definitions.specs.declared.block.Block.{Block}
-use Rattle.definitions.specs.declared.block.Span.TheVariants.{Hour, Minute}
-use Rattle.definitions.specs.answers.Blocks.{blocks, items}
+use Rattle.definitions.specs.declared.block.Span.TheVariants.{Minute}
+use Rattle.definitions.specs.answers.Blocks.{blocks}
 use Rattle.definitions.specs.examples.Sequences.{block_of, costs_by_symbol}
-use Rattle.certificates.specs.Validity.{IsOneOf}
-use Rattle.certificates.specs.Verdicts.{AreOver}
 use Rattle.certificates.specs.Texts.{number_in}
 use Rattle.certificates.specs.Examples.{hour, two_minutes}
 use Rattle.certificates.proofs.HourLaws.{all_begun, first_minute}
@@ -14,9 +12,13 @@ use Rattle.certificates.proofs.examples.verdicts.verdicts_on_an_hour.Goals as go
 pub returns-clause-good : goal.returns-clause-good
 unfolding blocks
 returns-clause-good c limit =
-    inr (record { due_is = refl; bound = c.bound_of_two_minutes.ensures.hour; above = tt },
-    inr (record { due_is = refl; bound = first_minute; above = tt },
-    inr (record { due_is = refl; bound = c.bound_of_two_minutes.ensures.minute; above = tt }, inl (all_begun, refl))))
+    inr (
+      record { due_is = refl; bound = c.bound_of_two_minutes.ensures.hour; above = tt },
+      inr (
+        record { due_is = refl; bound = first_minute; above = tt },
+        inr (record { due_is = refl; bound = c.bound_of_two_minutes.ensures.minute; above = tt }, inl (all_begun, refl)),
+      ),
+    )
 
 pub returns-clause-not_above : goal.returns-clause-not_above
 returns-clause-not_above c = inl (inr (inr (refl, c.bound_of_two_minutes.ensures.hour, (λ above. omega (arith, above)), refl)))
@@ -42,9 +44,13 @@ one_due b bs e = absurd cc
 pub returns-clause-too_early : goal.returns-clause-too_early
 unfolding blocks
 returns-clause-too_early c limit =
-    inr (record { due_is = refl; bound = c.bound_of_two_minutes.ensures.hour; above = tt },
-    inr (record { due_is = refl; bound = first_minute; above = tt },
-    inr ((λ over. one_due (block_of Minute 701 702) [] over.0), refl)))
+    inr (
+      record { due_is = refl; bound = c.bound_of_two_minutes.ensures.hour; above = tt },
+      inr (
+        record { due_is = refl; bound = first_minute; above = tt },
+        inr ((λ over. one_due (block_of Minute 701 702) [] over.0), refl),
+      ),
+    )
 
 pub returns-clause-begun_again : goal.returns-clause-begun_again
 returns-clause-begun_again c limit = inl (inl ((λ is_due. is_due.1 is_due.0), refl))

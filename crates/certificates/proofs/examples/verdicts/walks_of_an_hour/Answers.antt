@@ -1,13 +1,10 @@
 -- Block by block, by the bounds of the hour and its minutes.
-use Rattle.std.proofs.Common.{◌≡◌, ◌≢◌, ℕ, false, List, [], ◌∷◌, Option, Some, None, refl, sym, ap, ◌∙◌, subst, arith}
-use Rattle.definitions.specs.declared.block.Span.TheVariants.{Hour, Minute}
-use Rattle.definitions.specs.time.Calendar.{day_at}
+use Rattle.std.proofs.Common.{◌≡◌, ℕ, Option, Some, refl, ap, arith}
 use Rattle.definitions.specs.answers.Blocks.{blocks}
-use Rattle.definitions.specs.answers.Blocks.{IsBound}
-use Rattle.definitions.specs.examples.Sequences.{block_of, costs_by_symbol}
+use Rattle.definitions.specs.examples.Sequences.{costs_by_symbol}
 use Rattle.certificates.specs.Texts.{number_in}
 use Rattle.certificates.specs.Examples.{hour, two_minutes}
-use Rattle.certificates.proofs.HourLaws.{first_minute, walks_opened}
+use Rattle.certificates.proofs.HourLaws.{walks_opened}
 use Rattle.certificates.proofs.examples.verdicts.walks_of_an_hour.Goals as goal
 
 pub returns-clause-opened : goal.returns-clause-opened

@@ -1,5 +1,5 @@
 -- What the read counts as, and what it leads to.
-use Rattle.std.proofs.Common.{◌≡◌, true, false, sym, ◌∙◌}
+use Rattle.std.proofs.Common.{◌≡◌, sym, ◌∙◌}
 use Rattle.std.proofs.lemmas.Bool.{MatchBool-at_true, MatchBool-at_false}
 use Rattle.field_tables.specs.Scored.{costs_of}
 use Rattle.race_words.specs.Views.{after_limit}
