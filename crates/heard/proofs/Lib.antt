@@ -1,0 +1,14 @@
+pub mod EndingLaws
+pub mod ExactLaws
+pub mod FindingLaws
+pub mod GridLaws
+pub mod PlaceLaws
+pub mod ReceiverLaws
+pub mod SameLaws
+pub mod SentLaws
+pub mod ShowLaws
+pub mod SymbolLaws
+pub mod TextLaws
+pub mod ValueLaws
+pub mod WalkLaws
+pub mod WordLaws

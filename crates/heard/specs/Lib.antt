@@ -1,0 +1,4 @@
+pub mod Asking
+pub mod Kept
+pub mod Seen
+pub mod Told
