@@ -33,6 +33,10 @@ two_minutes = window_of 4 700 702
 abbrev pub hour : Block
 hour = block_of Hour 700 702
 
+-- the first item of these minutes
+abbrev pub year : Block
+year = block_of Year 700 702
+
 -- the hour was opened, and both minutes are leaves
 abbrev pub opened_hour : List Line
 opened_hour =

@@ -11,7 +11,7 @@ ghost use Rattle.certificates.specs.declared.verdict.Verdict.{Verdict};
 ghost use Rattle.certificates.specs.declared.verdict.Verdict.TheVariants.{Certified, NotAbove, Uncovered, WrongBound, WrongEnds};
 ghost use Rattle.certificates.specs.Validity.{AreWalks, leaf_ends, limit_named};
 ghost use Rattle.certificates.specs.Verdicts.{IsFound, IsOfEnds};
-ghost use Rattle.certificates.specs.Examples.{hour, line_of, opened_hour, two_minutes};
+ghost use Rattle.certificates.specs.Examples.{hour, line_of, opened_hour, two_minutes, year};
 
 use definitions::bound_is_one;
 use definitions::examples::blocks::{bound_of_two_minutes, no_bound_beyond_the_century};
@@ -56,7 +56,7 @@ pub fn verdicts_on_an_hour()
     ensures too_early { (limit : ℕ) → IsFound costs_by_symbol two_minutes limit (λ v. v ≡ Certified) 7 (hour ∷ []) (items two_minutes)
         (line_of Opened hour (Some 112) ∷ line_of Leaf (block_of Minute 700 701) (Some 116) ∷ []) (Uncovered 9) }
     ensures begun_again { (limit : ℕ) → IsFound costs_by_symbol two_minutes limit (λ v. v ≡ Certified) 7 [] (items two_minutes)
-        (line_of Pruned hour (Some 112) ∷ []) (Uncovered 7) }
+        (line_of Pruned year (Some 112) ∷ []) (Uncovered 7) }
 {
     bound_of_two_minutes();
     bound_is_one();
