@@ -1,17 +1,19 @@
 -- Floors: of two pieces together, by costs that agree, and of the sequences of a block.
-use Rattle.std.proofs.Common.{◌≡◌, ℕ, ◌≤◌, min, inl, inr, Option, Some, None, refl, sym, subst, arith}
+use Rattle.std.proofs.Common.{◌≡◌, ℕ, ◌+◌, ◌<◌, ◌≤◌, min, inl, inr, Option, Some, None, refl, sym, subst, arith}
 use Rattle.std.proofs.Math.Nat.{min-le_left, min-le_right}
 use Rattle.std.proofs.lemmas.Bool.{cases_lt}
 use Rattle.signal_base.specs.declared.window.Window.{Window}
 use Rattle.definitions.specs.declared.block.Block.{Block}
 use Rattle.definitions.specs.declared.sequence.Sequence.{Sequence}
-use Rattle.definitions.specs.answers.Blocks.{IsIn}
-use Rattle.definitions.specs.heard.Costs.{Costs}
+use Rattle.definitions.specs.declared.block.Span.TheVariants.{Minute}
+use Rattle.definitions.specs.answers.Blocks.{IsIn, IsMinuteBound, first_of}
+use Rattle.definitions.specs.sequences.Walks.{IsLegal}
+use Rattle.definitions.specs.heard.Costs.{Costs, sequence_cost}
 use Rattle.definitions.proofs.KeyLaws.{same_sequence}
 use Rattle.plain_costs.specs.Agreement.{AgreeOn}
 use Rattle.plain_costs.proofs.AgreementLaws.{sequence_same}
 use Rattle.walk_costs.specs.Walks.{PricedParts}
-use Rattle.field_tables.specs.Floors.{CostAtLeast, IsFloor}
+use Rattle.field_tables.specs.Floors.{CostAtLeast, IsFloor, lesser, piece}
 use Rattle.field_tables.specs.Minutes.{sequence_at}
 
 -- the lesser of the floors of two neighbouring pieces is one of both together
@@ -32,3 +34,46 @@ pub floor_same : (window : Window) (costs others : Costs) (b : Block) (floor : O
 floor_same window costs others b None agree none = none
 floor_same window costs others b (Some n) agree is = λ q inside legal.
     subst (λ cost. n ≤ cost) (sequence_same window costs others q agree) (is q inside legal)
+
+first_one : (b : Block) (t : ℕ) (q : Sequence) → IsIn (piece b t (t + 1)) q → sequence_at b t ≡ q
+first_one b t q inside = same_sequence (sequence_at b t) q (omega (arith, inside.not_before, inside.before_end)) (sym inside.second) (sym inside.announced)
+
+-- the lesser of the floors of two neighbouring pieces is one of both together
+pub joined_floors : (costs : Costs) (window : Window) (b : Block) (lo t hi : ℕ) (one other : Option ℕ) → IsFloor costs window (piece b lo t) one
+    → IsFloor costs window (piece b t hi) other → IsFloor costs window (piece b lo hi) (lesser one other)
+joined_floors costs window b lo t hi one other front rest = by_floors one other front rest
+  where
+    first : (q : Sequence) → IsIn (piece b lo hi) q → q.first < t → IsIn (piece b lo t) q
+    first q inside lt = record { announced = inside.announced; second = inside.second; not_before = inside.not_before; before_end = lt }
+
+    later : (q : Sequence) → IsIn (piece b lo hi) q → t ≤ q.first → IsIn (piece b t hi) q
+    later q inside le = record { announced = inside.announced; second = inside.second; not_before = le; before_end = inside.before_end }
+
+    by_floors : (one other : Option ℕ) → IsFloor costs window (piece b lo t) one → IsFloor costs window (piece b t hi) other → IsFloor costs window (piece b lo hi) (lesser one other)
+    by_floors None None front rest = λ q inside legal. elim (cases_lt q.first t) [
+      | inl lt ↦ front q (first q inside lt) legal
+      | inr le ↦ rest q (later q inside le) legal
+    ]
+    by_floors None (Some m) front rest = λ q inside legal. elim (cases_lt q.first t) [
+      | inl lt ↦ absurd (front q (first q inside lt) legal)
+      | inr le ↦ rest q (later q inside le) legal
+    ]
+    by_floors (Some n) None front rest = λ q inside legal. elim (cases_lt q.first t) [
+      | inl lt ↦ front q (first q inside lt) legal
+      | inr le ↦ absurd (rest q (later q inside le) legal)
+    ]
+    by_floors (Some n) (Some m) front rest = λ q inside legal. elim (cases_lt q.first t) [
+      | inl lt ↦ (let less = front q (first q inside lt) legal in omega (arith, less, min-le_left n m))
+      | inr le ↦ (let less = rest q (later q inside le) legal in omega (arith, less, min-le_right n m))
+    ]
+
+-- 0 is a floor of any block
+pub zero_floor : (costs : Costs) (window : Window) (b : Block) → IsFloor costs window b (Some 0)
+zero_floor costs window b = λ q inside legal. omega arith
+
+-- the bound of a minute is a floor of its sequences
+pub floor_of_bound : (costs : Costs) (window : Window) (b : Block) (t : ℕ) (bound : Option ℕ)
+    → IsMinuteBound costs window (record { announced = b.announced; second = b.second; span = Minute; lo = t; hi = t + 1 }) bound → IsFloor costs window (piece b t (t + 1)) bound
+floor_of_bound costs window b t None none = λ q inside legal. none (subst (IsLegal window) (sym (first_one b t q inside)) legal)
+floor_of_bound costs window b t (Some n) is = λ q inside legal.
+    subst (λ (x : Sequence). n ≤ sequence_cost costs window x) (first_one b t q inside) (omega (arith, is.1))

@@ -1,5 +1,5 @@
 -- Floors of blocks: what none of their legal sequences costs less than.
-use Rattle.std.specs.Prelude.{ℕ, ◌<◌, ◌≤◌, Option, Some, None}
+use Rattle.std.specs.Prelude.{ℕ, ◌<◌, ◌≤◌, min, Option, Some, None}
 use Rattle.signal_base.specs.declared.window.Window.{Window}
 use Rattle.definitions.specs.declared.block.Block.{Block}
 use Rattle.definitions.specs.declared.sequence.Sequence.{Sequence}
@@ -16,3 +16,13 @@ IsFloor costs window b (Some n) = (q : Sequence) → IsIn b q → IsLegal window
 -- no sequence of the block costs a station less that begins in the minutes from `from` up to, and without, `to`
 abbrev pub CostAtLeast : PricedParts → Block → ℕ → ℕ → ℕ → Type 0
 CostAtLeast w b from to n = (t0 : ℕ) → from ≤ t0 → t0 < to → n ≤ cost_of w b.announced b.second t0
+
+-- the sequences of a block that begin in the minutes from lo up to, and without, hi
+abbrev pub piece : Block → ℕ → ℕ → Block
+piece b lo hi = record { announced = b.announced; second = b.second; span = b.span; lo = lo; hi = hi }
+
+-- the lesser of two floors, of which one may be none
+abbrev pub lesser : Option ℕ → Option ℕ → Option ℕ
+lesser None floor = floor
+lesser (Some n) None = Some n
+lesser (Some n) (Some m) = Some (min n m)

@@ -9,7 +9,7 @@ ghost use Rattle.definitions.specs.sequences.Walks.{IsLegal, ShowsLeap};
 ghost use Rattle.definitions.specs.time.Calendar.{minute_length};
 ghost use Rattle.minute_parts.specs.Walks.{reach};
 ghost use Rattle.field_tables.specs.Blocks.{AreMinutesOf, HasShortWalks};
-ghost use Rattle.field_tables.specs.Floors.{IsFloor};
+ghost use Rattle.field_tables.specs.Floors.{IsFloor, lesser, piece};
 ghost use Rattle.field_tables.specs.Quiet.{IsQuiet};
 ghost use Rattle.field_tables.specs.Minutes.{sequence_at};
 ghost use Rattle.field_tables.specs.Scored.{costs_of};
@@ -19,7 +19,7 @@ use crate::leaps::meets_leap_end;
 use crate::sums::WindowSums;
 use crate::tables::Tables;
 use civil::Civil;
-use definitions::{Block, MINUTES_PER_DAY};
+use definitions::{Block, MINUTES_PER_DAY, Span};
 use slot_columns::SECONDS_PER_MINUTE;
 
 impl<'a> Tables<'a> {
@@ -59,25 +59,107 @@ impl<'a> Tables<'a> {
 }
 
 impl WindowSums {
-    /// A floor of a block. It is 0 where its walks may meet a leap second, or a minute that a station can't encode.
+    /// A floor of a block. It is 0 where its walks may meet a minute that a station can't encode, or where it isn't known at
+    /// once what walks cost that may meet a leap second.
     #[inline(always)]
     pub fn floor(&self, civil: &Civil, block: &Block) -> Option<u32>
         requires { AreMinutesOf self.now.window block.now }
         ensures floor { IsFloor (costs_by self.now) self.now.window block.now result }
         ensures small { IfSome result (λ n. n ≤ GREATEST_COST) }
     {
-        // The sums are those of a window, as their end says.
-        self.end();
         if self.has_no_first_second(civil, block) {
             return None;
         }
-        if !self.has_regular_walks(civil, block) {
-            return Some(0);
+        if self.has_regular_walks(civil, block) {
+            return self.regular_floor(block);
         }
+        self.floor_at_leap_end(civil, block)
+    }
+
+    // That of a block whose walks have 60 seconds in each minute and can be encoded by each station.
+    #[inline(always)]
+    fn regular_floor(&self, block: &Block) -> Option<u32>
+        requires block { AreMinutesOf self.now.window block.now }
+        requires walks { HasShortWalks self.now.window block.now }
+        requires encoded { block.now.hi + reach self.now.window block.now ≤ self.now.end }
+        ensures floor { IsFloor (costs_by self.now) self.now.window block.now result }
+        ensures small { IfSome result (λ n. n ≤ GREATEST_COST) }
+    {
+        // The sums are those of a window, as their end says.
+        self.end();
         if block.announced && self.never_shows(block) {
             return None;
         }
         Some(self.least_cost(block))
+    }
+
+    // That of a block whose last walks may meet a leap second, as those of a day do that ends with one: what the first walks
+    // cost at the least, and of the last ones what each costs.
+    fn floor_at_leap_end(&self, civil: &Civil, block: &Block) -> Option<u32>
+        requires { AreMinutesOf self.now.window block.now }
+        ensures floor { IsFloor (costs_by self.now) self.now.window block.now result }
+        ensures small { IfSome result (λ n. n ≤ GREATEST_COST) }
+    {
+        // The range of a window ends with the century.
+        self.end();
+        if !block.announced || block.second as usize >= SECONDS_PER_MINUTE {
+            return Some(0);
+        }
+        let last = self.later_minutes(block.second) + 1;
+        let cut = block.hi.saturating_sub(last).max(block.lo);
+        let mut floor = self.floor_before(civil, block, cut);
+        for t in cut..block.hi {
+            floor = lesser(floor, self.floor_of_minute(block, t));
+        }
+        floor
+    }
+
+    // That of the minutes before this one.
+    fn floor_before(&self, civil: &Civil, block: &Block, cut: u32) -> Option<u32>
+        requires block { AreMinutesOf self.now.window block.now }
+        requires begun { block.now.lo ≤ cut }
+        requires within { cut ≤ block.now.hi }
+        ensures floor { IsFloor (costs_by self.now) self.now.window (piece block.now block.now.lo cut) result }
+        ensures small { IfSome result (λ n. n ≤ GREATEST_COST) }
+    {
+        if cut <= block.lo {
+            return None;
+        }
+        let front = Block {
+            announced: block.announced,
+            second: block.second,
+            span: block.span,
+            lo: block.lo,
+            hi: cut,
+        };
+        if !self.has_regular_walks(civil, &front) {
+            return Some(0);
+        }
+        self.regular_floor(&front)
+    }
+
+    // That of one minute, whose walk may meet a leap second.
+    fn floor_of_minute(&self, block: &Block, t: u32) -> Option<u32>
+        requires block { AreMinutesOf self.now.window block.now }
+        requires announced { block.now.announced ≡ true }
+        requires begun { block.now.lo ≤ t }
+        requires within { t < block.now.hi }
+        ensures floor { IsFloor (costs_by self.now) self.now.window (piece block.now t (t + 1)) result }
+        ensures small { IfSome result (λ n. n ≤ GREATEST_COST) }
+    {
+        // The range of a window ends with the century.
+        self.end();
+        let minute = Block {
+            announced: block.announced,
+            second: block.second,
+            span: Span::Minute,
+            lo: t,
+            hi: t + 1,
+        };
+        match self.leap_minute_bound(&minute) {
+            Some(bound) => bound,
+            None => Some(0),
+        }
     }
 
     // Whether the sequences of a block would begin with a second that none of its minutes has.
@@ -123,5 +205,16 @@ impl WindowSums {
             total += station.floor(block);
         }
         total
+    }
+}
+
+// The lesser of two floors.
+fn lesser(one: Option<u32>, other: Option<u32>) -> Option<u32>
+    ensures floor { result ≡ lesser one other }
+    ensures small { IfSome one (λ n. n ≤ GREATEST_COST) → IfSome other (λ n. n ≤ GREATEST_COST) → IfSome result (λ n. n ≤ GREATEST_COST) }
+{
+    match (one, other) {
+        (Some(one), Some(other)) => Some(one.min(other)),
+        (None, floor) | (floor, None) => floor,
     }
 }

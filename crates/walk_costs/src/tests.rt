@@ -87,16 +87,24 @@ fn the_call_sign_costs_nothing(rt: HostRuntime) -> Result<(), Fail> {
     Ok(())
 }
 
+// Friday's run ends so many minutes later: 2024-06-14T15:00Z.
+const FRIDAY: u32 = 4 * 1440;
+
 // One walk goes on from the run to the next. From second 0 on both dates tell a marker in it, and the time of day 0 twice.
 // In second 33 they tell the lowest bit of the day of the year, 0 for day 162 and 1 for day 163, which costs 120 or more each
-// time; the seconds 34 and 35 are 0.
+// time; the seconds 34 and 35 are 0. From second 50 on Friday tells 101 and Saturday 110: both a 1, and each other bit is 0
+// on one of the days.
 #[test]
 fn a_walk_to_the_next_run_costs_no_less(rt: HostRuntime) -> Result<(), Fail> {
     let civil = Civil::make(rt.alloc())?;
     let walks = walks(rt.alloc(), &civil, Station::Jjy, &table(20, 10))?;
-    for (second, least) in [(0, 180 + 120 + 180 + 120), (33, 4 * 120)] {
+    for (second, minute, least) in [
+        (0, RUN_END - 1, 180 + 120 + 180 + 120),
+        (33, RUN_END - 1, 4 * 120),
+        (50, RUN_END + FRIDAY - 1, 150 + 120 + 150 + 120),
+    ] {
         assert_eq!(rt;
-            least_across(&walks, second, RUN_END - 1),
+            least_across(&walks, second, minute),
             Some(least),
             "second {second}"
         );
@@ -217,19 +225,25 @@ fn hours_before_the_warning_never_show_it(rt: HostRuntime) -> Result<(), Fail> {
 }
 
 // Of DCF77 nothing is given up and nothing added. Of JJY the known slots from second 40 on are the seconds 40 and 42 of one
-// minute and 40 and 41 of the next, in which 2024 tells four zeros; the call sign takes one of the two minutes.
+// minute and 40 and 41 of the next, in which 2024 tells four zeros; the call sign takes one of the two minutes. From second 50
+// on Saturday tells 1 and 0, and in the next minute 1 and 1, which costs most: there the call sign lets both bits be 0.
 #[test]
 fn a_floor_is_what_the_cheapest_walk_costs(rt: HostRuntime) -> Result<(), Fail> {
     let civil = Civil::make(rt.alloc())?;
-    for (station, second) in [(Station::Dcf77, 20), (Station::Jjy, 40)] {
+    for (station, second, minute, least) in [
+        (Station::Dcf77, 20, CALL, None),
+        (Station::Jjy, 40, CALL, Some(2 * 120)),
+        (Station::Jjy, 50, CALL + FRIDAY + 1440, Some(150 + 3 * 120)),
+    ] {
         let walks = walks(rt.alloc(), &civil, station, &table(20, 10))?;
-        let floor = floor(&walks, second, CALL);
+        let floor = floor(&walks, second, minute);
         assert!(rt; floor.is_some());
         assert_eq!(rt;
             floor,
-            cheapest(&walks, &civil, second, CALL),
+            cheapest(&walks, &civil, second, minute),
             "second {second}"
         );
+        assert!(rt; least.is_none() || least == floor);
     }
     Ok(())
 }

@@ -1,12 +1,6 @@
--- A sequence of the block is that of its first minute, and an announced one is legal where it shows that.
-use Rattle.std.proofs.Common.{◌≤◌, sym, ap, subst, arith}
-use Rattle.definitions.specs.declared.sequence.Sequence.{Sequence}
+-- No minute of the block has so many seconds.
+use Rattle.std.proofs.Common.{ap, arith}
 use Rattle.definitions.specs.time.Calendar.{minute_length}
-use Rattle.definitions.specs.heard.Costs.{sequence_cost}
-use Rattle.definitions.specs.sequences.Walks.{IsLegal}
-use Rattle.field_tables.specs.Sums.{costs_by}
-use Rattle.field_tables.proofs.FloorLaws.{at_first}
-use Rattle.field_tables.proofs.MinuteLaws.{legal_where_shown}
 use Rattle.field_tables.proofs.sums.WindowSums.floor.Goals as goal
 
 pub returns-then-has_no_first_second-clause-floor : goal.returns-then-has_no_first_second-clause-floor
@@ -14,18 +8,3 @@ returns-then-has_no_first_second-clause-floor c = λ q inside legal.
     let long = c.has_no_first_second.ensures c.if-has_no_first_second.true q.first inside.not_before inside.before_end in
     let length = ap (λ a. minute_length a q.first) inside.announced in
     omega (arith, legal.0.second, long, length, inside.second)
-
-pub returns-then-never_shows-clause-floor : goal.returns-then-never_shows-clause-floor
-returns-then-never_shows-clause-floor c = λ q inside legal.
-    let sums = c.args.self.now in
-    let b = c.args.block.now in
-    let regular = c.if-not-has_regular_walks.false in
-    let here = subst (IsLegal sums.window) (sym (at_first b q inside)) legal in
-    let shown = (legal_where_shown sums c.end.ensures.sums b c.requires (c.has_regular_walks.ensures.short regular) (c.has_regular_walks.ensures.encoded regular) q.first inside.not_before inside.before_end c.if-block.true).0 here in
-    c.never_shows.ensures c.if-never_shows.true q.first inside.not_before inside.before_end shown
-
-pub returns-clause-floor : goal.returns-clause-floor
-returns-clause-floor c = λ q inside legal.
-    let sums = c.args.self.now in
-    subst (λ (x : Sequence). c.least_cost.result ≤ sequence_cost (costs_by sums) sums.window x) (at_first c.args.block.now q inside)
-    (c.least_cost.ensures.floor q.first inside.not_before inside.before_end)
