@@ -1,3 +1,4 @@
+pub mod ListLaws
 pub mod FieldLaws
 pub mod StepLaws
 pub mod EntryLaws
