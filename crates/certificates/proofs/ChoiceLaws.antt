@@ -151,7 +151,7 @@ tells_small First before v h = named_small v h
 tells_small Second before v h = named_small v h
 
 -- what a step says
-decide_minute : (s : Span) → Decided (s ≡ Minute)
+pub decide_minute : (s : Span) → Decided (s ≡ Minute)
 decide_minute Year = inr (λ e. absurd cc)
 decide_minute Day = inr (λ e. absurd cc)
 decide_minute Hour = inr (λ e. absurd cc)

@@ -15,3 +15,4 @@ pub mod JudgedLaws
 pub mod BadLineLaws
 pub mod ExampleLaws
 pub mod HourLaws
+pub mod TightWalkLaws
