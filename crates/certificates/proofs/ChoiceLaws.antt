@@ -7,6 +7,7 @@ use Rattle.definitions.specs.time.Calendar.{century_minutes}
 use Rattle.definitions.specs.sequences.Keys.{cost_of, index_end}
 use Rattle.definitions.proofs.ExistLaws.{Decided, decide_both, decide_le, decide_some}
 use Rattle.signal_base.specs.declared.limits.TheConstants.{GREATEST_COST}
+use Rattle.certificates.proofs.ListLaws.{decide_not}
 use Rattle.certificates.specs.declared.certificate.Kind.{Kind}
 use Rattle.certificates.specs.declared.certificate.Kind.TheVariants.{Opened, Pruned, Empty, Leaf}
 use Rattle.certificates.specs.declared.certificate.Line.{Line}
@@ -18,7 +19,7 @@ use Rattle.certificates.specs.Texts.HeadLine.{Version, Heard, Start, Phase, Seco
 use Rattle.certificates.specs.Texts.Next.{AtHead, AtParts, AtStep, AtEnd}
 use Rattle.certificates.proofs.FieldLaws.{IsSmall}
 use Rattle.certificates.proofs.StepLaws.{shape_small}
-use Rattle.certificates.proofs.EntryLaws.{named_small, within_small}
+use Rattle.certificates.proofs.EntryLaws.{named_small, nothing_stands, within_small}
 
 -- whether a text begins with some bytes
 begins_more : (x : ℕ) (xs text : List ℕ) → BeginsWith xs text → BeginsWith (x ∷ xs) (x ∷ text)
@@ -150,15 +151,11 @@ tells_small First before v h = named_small v h
 tells_small Second before v h = named_small v h
 
 -- what a step says
-decide_minute : (s : Span) → Decided (s ≡ Minute)
+pub decide_minute : (s : Span) → Decided (s ≡ Minute)
 decide_minute Year = inr (λ e. absurd cc)
 decide_minute Day = inr (λ e. absurd cc)
 decide_minute Hour = inr (λ e. absurd cc)
 decide_minute Minute = inl refl
-
-decide_not : {A : Type 0} → Decided A → Decided (A → ⊥)
-decide_not (inl a) = inr (λ n. n a)
-decide_not (inr n) = inl n
 
 decide_cost : (v : Option ℕ) → Decided (IsCost v)
 decide_cost None = inr (λ h. h)
@@ -284,13 +281,7 @@ module _ (rest : List ℕ) where
       put (inr a) (inr b) (inr c) = inr (λ h. none a b c h.0 h.1 h.2)
 
   comes_end : Decided (Comes AtEnd)
-  comes_end = inr (λ h. none h.0 h.1)
-    where
-      none : (e : Entry) → CanStand AtEnd e → ⊥
-      none (Tells told v) h = h
-      none (Part m) h = h
-      none (Step l) h = h
-      none End h = h
+  comes_end = inr (λ h. nothing_stands h.0 h.1)
 
   pub decide_comes : (next : Next) → Decided (Comes next)
   decide_comes (AtHead due before) = comes_head due before

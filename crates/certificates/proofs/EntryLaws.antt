@@ -134,3 +134,10 @@ entry_once AtEnd (Tells a v) e r s h k is = absurd h
 entry_once AtEnd (Part a) e r s h k is = absurd h
 entry_once AtEnd (Step l) e r s h k is = absurd h
 entry_once AtEnd End e r s h k is = absurd h
+
+-- behind the end nothing may stand
+pub nothing_stands : (e : Entry) → CanStand AtEnd e → ⊥
+nothing_stands (Tells told v) can = can
+nothing_stands (Part n) can = can
+nothing_stands (Step l) can = can
+nothing_stands End can = can

@@ -15,18 +15,7 @@ use Rattle.certificates.specs.Texts.Entry.{Tells, Part, Step, End}
 use Rattle.certificates.specs.Texts.HeadLine.{Version, Heard, Start, Phase, Seconds, From, To, Ceiling, First, Second}
 use Rattle.certificates.specs.Texts.Next.{AtHead, AtParts, AtStep, AtEnd}
 use Rattle.certificates.proofs.EntryLaws.{within_is}
-
-all_then : {X : Type 0} (P : X → Type 0) (xs ys : List X) → AllByRecursion P xs → AllByRecursion P ys → AllByRecursion P (xs ++ ys)
-all_then P [] ys a b = b
-all_then P (x ∷ xs) ys a b = (a.0, all_then P xs ys a.1 b)
-
-all_first : {X : Type 0} (P : X → Type 0) (xs ys : List X) → AllByRecursion P (xs ++ ys) → AllByRecursion P xs
-all_first P [] ys a = tt
-all_first P (x ∷ xs) ys a = (a.0, all_first P xs ys a.1)
-
-all_last : {X : Type 0} (P : X → Type 0) (xs ys : List X) → AllByRecursion P (xs ++ ys) → AllByRecursion P ys
-all_last P [] ys a = a
-all_last P (x ∷ xs) ys a = all_last P xs ys a.1
+use Rattle.certificates.proofs.ListLaws.{all_first, all_last}
 
 abbrev joined : List (List Line) → List Line
 joined parts = flat_map (λ part. part) parts

@@ -1,3 +1,4 @@
+pub mod ListLaws
 pub mod FieldLaws
 pub mod StepLaws
 pub mod EntryLaws
@@ -14,3 +15,4 @@ pub mod JudgedLaws
 pub mod BadLineLaws
 pub mod ExampleLaws
 pub mod HourLaws
+pub mod TightWalkLaws

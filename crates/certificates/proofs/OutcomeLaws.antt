@@ -7,9 +7,8 @@ use Rattle.certificates.specs.declared.fault.CertificateLineFault.{CertificateLi
 use Rattle.certificates.specs.declared.fault.CertificateLineFault.TheVariants.{Shape, TooManySteps}
 use Rattle.certificates.specs.Certificates.{Certificate}
 use Rattle.certificates.specs.Texts.{BeginsWith, CanStand, Entry, HasOutcome, HasRoom, IsBadNext, IsOver, IsRefused, IsText, Lead, Next, after, entries_of, entries_text, entry_line, entry_text, first_line}
-use Rattle.certificates.specs.Texts.Entry.{Tells, Part, Step, End}
 use Rattle.certificates.specs.Texts.Next.{AtHead, AtParts, AtStep, AtEnd}
-use Rattle.certificates.proofs.EntryLaws.{entry_once}
+use Rattle.certificates.proofs.EntryLaws.{entry_once, nothing_stands}
 use Rattle.certificates.proofs.ChoiceLaws.{Comes, decide_comes, decide_over, decide_room}
 use Rattle.certificates.proofs.LeadLaws.{certificate_leads, certificates_differ, leads_certificate}
 
@@ -35,10 +34,7 @@ one_way next (d ∷ es) (f ∷ fs) m n r s a b e stuck also =
     ((λ i. first.0 i ∷ rest.0 i), rest.1, rest.2)
 
 end_stuck : IsStuck AtEnd []
-end_stuck (Tells told v) can room begins = can
-end_stuck (Part n) can room begins = can
-end_stuck (Step l) can room begins = can
-end_stuck End can room begins = can
+end_stuck e can room begins = nothing_stands e can
 
 -- of two lines with which a text begins, and which may stand there, there is one
 same_entry : (next : Next) (rest : List ℕ) (d e : Entry) → CanStand next d → CanStand next e → BeginsWith (entry_line d) rest → BeginsWith (entry_line e) rest → d ≡ e
@@ -57,13 +53,7 @@ bad_once next rest TooManySteps TooManySteps h k = refl
 
 end_not_bad : (fault : CertificateLineFault) → IsBadNext AtEnd [] fault → ⊥
 end_not_bad Shape bad = bad.0 refl
-end_not_bad TooManySteps bad = end_stuck bad.0 bad.1 (absurd (none bad.0 bad.1)) bad.3
-  where
-    none : (e : Entry) → CanStand AtEnd e → ⊥
-    none (Tells told v) h = h
-    none (Part m) h = h
-    none (Step l) h = h
-    none End h = h
+end_not_bad TooManySteps bad = nothing_stands bad.0 bad.1
 
 -- a text of a certificate leads to its end
 text_leads : (text : List ℕ) (c : Certificate) → IsText c text → Lead first_line (entries_of c) AtEnd × (text ≡ entries_text (entries_of c) ++ [])

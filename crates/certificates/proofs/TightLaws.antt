@@ -27,19 +27,8 @@ use Rattle.certificates.specs.declared.certificate.Kind.TheVariants.{Opened, Pru
 use Rattle.certificates.specs.declared.certificate.Line.{Line}
 use Rattle.certificates.specs.Certificates.{Certificate, IsLine, lines_of}
 use Rattle.certificates.specs.Validity.{AreTight, AreWalks, IsAbove, IsSaid, IsValid, KeepsTo, Show, key_or_none, leaf_as, leaf_key, leaf_keys, limit_named, opened_by}
+use Rattle.certificates.proofs.ListLaws.{all_first, all_middle, all_with}
 use Rattle.certificates.proofs.FoundLaws.{keys_below, leaves_admitted, leaves_apart, limit_low, shown_are_first, within_ceiling}
-
-all_first : {X : Type 0} (P : X → Type 0) (xs ys : List X) → AllByRecursion P (xs ++ ys) → AllByRecursion P xs
-all_first P [] ys a = tt
-all_first P (x ∷ xs) ys a = (a.0, all_first P xs ys a.1)
-
-all_middle : {X : Type 0} (P : X → Type 0) (xs : List X) (y : X) (zs : List X) → AllByRecursion P (xs ++ y ∷ zs) → P y
-all_middle P [] y zs a = a.0
-all_middle P (x ∷ xs) y zs a = all_middle P xs y zs a.1
-
-all_with : {X : Type 0} (P Q R : X → Type 0) → ((x : X) → P x → Q x → R x) → (xs : List X) → AllByRecursion P xs → AllByRecursion Q xs → AllByRecursion R xs
-all_with P Q R to [] a b = tt
-all_with P Q R to (x ∷ xs) a b = (to x a.0 b.0, all_with P Q R to xs a.1 b.1)
 
 -- what keeps to a limit keeps to one that isn't less
 keeps_wider : (m n : ℕ) (kind : Kind) (b : Block) (bound : Option ℕ) → m ≤ n → KeepsTo m kind b bound → KeepsTo n kind b bound

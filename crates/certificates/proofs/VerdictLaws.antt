@@ -9,6 +9,7 @@ use Rattle.definitions.specs.declared.block.Span.TheVariants.{Year, Day, Hour, M
 use Rattle.definitions.specs.heard.Costs.{Costs}
 use Rattle.definitions.specs.answers.Blocks.{IsBound, block_key, items}
 use Rattle.definitions.proofs.ExistLaws.{Decided, decide_both, decide_le}
+use Rattle.certificates.proofs.ListLaws.{decide_not}
 use Rattle.certificates.specs.declared.certificate.Kind.{Kind}
 use Rattle.certificates.specs.declared.certificate.Kind.TheVariants.{Opened, Pruned, Empty, Leaf}
 use Rattle.certificates.specs.declared.certificate.Line.{Line}
@@ -21,10 +22,6 @@ use Rattle.block_visits.specs.Apart.{key_if_any}
 use Rattle.certificates.proofs.GoodLaws.{good_are_walks, walks_are_good}
 
 -- what a verdict asks can be decided
-decide_not : {A : Type 0} → Decided A → Decided (¬ A)
-decide_not (inl a) = inr (λ n. n a)
-decide_not (inr n) = inl n
-
 decide_bool : (a b : Bool) → Decided (a ≡ b)
 decide_bool true true = inl refl
 decide_bool true false = inr (λ e. absurd cc)

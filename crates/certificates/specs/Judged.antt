@@ -28,7 +28,7 @@ verdict_fault (found.NotAbove step) = Some (NotAbove step)
 verdict_fault (found.WrongEnds key) = Some (WrongEnds key)
 
 -- The bytes are no valid certificate, for this: there are too many of them; or they are refused for a line; or else the verdict
--- on the certificate whose text they are is
+-- on the certificate whose text they are.
 abbrev pub IsBadCertificate : Costs → Window → ℕ → List ℕ → CertificateFault → Type 0
 IsBadCertificate costs window ceiling bytes fault =
     ((CERTIFICATE_LIMIT < length bytes) × (fault ≡ TooLarge))

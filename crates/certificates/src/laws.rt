@@ -1,6 +1,7 @@
 //! The laws of certificates: what a valid one shows, whoever made it, and which lines make one.
 
 ghost use Rattle.std.specs.Prelude.{◌≡◌, ◌≤◌, ◌<◌, ◌↔◌, ◌⊎◌, ◌++◌, ◌∷◌, [], ℕ, List, Option, Some, None, Contains};
+ghost use Rattle.std.specs.List.{AllByRecursion};
 ghost use Rattle.signal_base.specs.declared.limits.TheConstants.{GREATEST_COST};
 ghost use Rattle.signal_base.specs.declared.window.Window.{Window};
 ghost use Rattle.definitions.specs.declared.block.Block.{Block};
@@ -8,7 +9,7 @@ ghost use Rattle.definitions.specs.time.Calendar.{century_minutes};
 ghost use Rattle.definitions.specs.sequences.Keys.{cost_of};
 ghost use Rattle.definitions.specs.heard.Costs.{Costs};
 ghost use Rattle.definitions.specs.answers.Answers.{IsWindowAnswer};
-ghost use Rattle.definitions.specs.answers.Blocks.{items};
+ghost use Rattle.definitions.specs.answers.Blocks.{items, IsBlock, IsBound};
 ghost use Rattle.definitions.specs.answers.FirstTwo.{AreLeastTwo, IsWindowKey, answer_from};
 ghost use Rattle.formats.specs.Refusals.{CertificateFault};
 ghost use Rattle.race_words.specs.Keys.{two_least};
@@ -69,6 +70,21 @@ pub fn walks_under_the_second_are_valid()
         → Show costs window ceiling first second ls }
 {
     blocks_share_the_sequences();
+}
+
+/// Blocks have walks under a limit in which no block above it is opened or reached, where no bound is greater than a cost can be;
+/// and there is one such list of lines. So it doesn't depend on who writes it, or on how many share in it.
+pub fn tight_walks_are_one()
+    ensures some { (costs : Costs) (window : Window) (limit : ℕ) (blocks : List Block) → window.to ≤ century_minutes
+        → AllByRecursion (IsBlock window) blocks
+        → ((b : Block) (n : ℕ) → IsBlock window b → IsBound costs window b (Some n) → n ≤ GREATEST_COST)
+        → (ls : List Line) × AreWalks costs window limit blocks ls × AreTight limit ls }
+    ensures one { (costs : Costs) (window : Window) (limit : ℕ) (blocks : List Block) (ls ms : List Line)
+        → AreWalks costs window limit blocks ls → AreTight limit ls → AreWalks costs window limit blocks ms → AreTight limit ms → ls ≡ ms }
+{
+    blocks_share_the_sequences();
+    bound_exists();
+    bound_is_one();
 }
 
 /// Where the lines show two keys, and each keeps to the limit that these name, each keeps to the second-least of the keys of the

@@ -14,7 +14,7 @@ pub use certificate::{Head, Kind, Line};
 pub use fault::CertificateLineFault;
 pub use laws::{
     bytes_have_one_judgement, certificate_has_one_verdict, good_lines_are_walks,
-    pruned_blocks_are_not_cheaper, tight_walks_keep_to_their_leaves,
+    pruned_blocks_are_not_cheaper, tight_walks_are_one, tight_walks_keep_to_their_leaves,
     valid_certificates_name_the_first_two, walks_under_the_second_are_valid,
 };
 pub use limits::{CERTIFICATE_LIMIT, MOST_PARTS, MOST_STEPS, ONE_STATION, SEVERAL_STATIONS};

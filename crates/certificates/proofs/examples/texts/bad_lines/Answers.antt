@@ -15,9 +15,9 @@ use Rattle.certificates.specs.Texts.HeadLine.{Version, Heard, Start}
 use Rattle.certificates.specs.Texts.Next.{AtHead, AtParts, AtStep, AtEnd}
 use Rattle.certificates.specs.Examples.{last_head, line_of, text_to_steps}
 use Rattle.certificates.proofs.FieldLaws.{avoids_by}
-use Rattle.certificates.proofs.EntryLaws.{within_small}
+use Rattle.certificates.proofs.EntryLaws.{nothing_stands, within_small}
 use Rattle.certificates.proofs.BadLineLaws.{no_end, no_line, no_zeros, steps_on, text_of_steps}
-use Rattle.certificates.proofs.ExampleLaws.{no_step, to_parts, to_steps}
+use Rattle.certificates.proofs.ExampleLaws.{bad_step, to_parts, to_steps}
 use Rattle.certificates.proofs.examples.texts.bad_lines.Goals as goal
 
 pub returns-clause-nothing : goal.returns-clause-nothing
@@ -73,60 +73,27 @@ returns-clause-part c rest = record {
 
 pub returns-clause-minute_opened : goal.returns-clause-minute_opened
 unfolding digits
-returns-clause-minute_opened c rest = record {
-  read = head_entries last_head ++ Part 0 ∷ [];
-  next = AtStep 0 0;
-  rest = line (codes "O M 0 0 700 701 0") ++ rest;
-  lead = to_steps;
-  parts = refl;
-  is_due = refl;
-  bad = (
-    (λ over. over),
-    no_line (AtStep 0 0) (codes "O M 0 0 700 701 0") rest (avoids_by line_feed (codes "O M 0 0 700 701 0") refl)
-        (no_step (line_of Opened (block_of Minute 700 701) (Some 0)) (record { second = omega arith; lo = omega arith; hi = omega arith; bound = omega arith })
-        (λ is. is.shape.0 refl) (omega arith)),
-  );
-}
+returns-clause-minute_opened c rest =
+    bad_step (line_of Opened (block_of Minute 700 701) (Some 0)) rest (record { second = omega arith; lo = omega arith; hi = omega arith; bound = omega arith })
+    (λ is. is.shape.0 refl) (omega arith) (avoids_by line_feed (codes "O M 0 0 700 701 0") refl)
+
+no_day : Day ≡ Minute → ⊥
+no_day e = absurd cc
 
 pub returns-clause-leaf_of_a_day : goal.returns-clause-leaf_of_a_day
 unfolding digits
-returns-clause-leaf_of_a_day c rest = record {
-  read = head_entries last_head ++ Part 0 ∷ [];
-  next = AtStep 0 0;
-  rest = line (codes "L D 0 0 700 701 0") ++ rest;
-  lead = to_steps;
-  parts = refl;
-  is_due = refl;
-  bad = (
-    (λ over. over),
-    no_line (AtStep 0 0) (codes "L D 0 0 700 701 0") rest (avoids_by line_feed (codes "L D 0 0 700 701 0") refl)
-        (no_step (line_of Leaf (block_of Day 700 701) (Some 0)) (record { second = omega arith; lo = omega arith; hi = omega arith; bound = omega arith })
-        (λ is. no_day is.shape.0) (omega arith)),
-  );
-}
-  where
-    no_day : Day ≡ Minute → ⊥
-    no_day e = absurd cc
+returns-clause-leaf_of_a_day c rest =
+    bad_step (line_of Leaf (block_of Day 700 701) (Some 0)) rest (record { second = omega arith; lo = omega arith; hi = omega arith; bound = omega arith })
+    (λ is. no_day is.shape.0) (omega arith) (avoids_by line_feed (codes "L D 0 0 700 701 0") refl)
+
+no_bound : ◌≡◌ {A = Option ℕ} (Some 0) None → ⊥
+no_bound e = absurd cc
 
 pub returns-clause-empty_with_a_bound : goal.returns-clause-empty_with_a_bound
 unfolding digits
-returns-clause-empty_with_a_bound c rest = record {
-  read = head_entries last_head ++ Part 0 ∷ [];
-  next = AtStep 0 0;
-  rest = line (codes "E D 0 0 700 701 0") ++ rest;
-  lead = to_steps;
-  parts = refl;
-  is_due = refl;
-  bad = (
-    (λ over. over),
-    no_line (AtStep 0 0) (codes "E D 0 0 700 701 0") rest (avoids_by line_feed (codes "E D 0 0 700 701 0") refl)
-        (no_step (line_of Empty (block_of Day 700 701) (Some 0)) (record { second = omega arith; lo = omega arith; hi = omega arith; bound = omega arith })
-        (λ is. no_bound is.shape) (omega arith)),
-  );
-}
-  where
-    no_bound : ◌≡◌ {A = Option ℕ} (Some 0) None → ⊥
-    no_bound e = absurd cc
+returns-clause-empty_with_a_bound c rest =
+    bad_step (line_of Empty (block_of Day 700 701) (Some 0)) rest (record { second = omega arith; lo = omega arith; hi = omega arith; bound = omega arith })
+    (λ is. no_bound is.shape) (omega arith) (avoids_by line_feed (codes "E D 0 0 700 701 0") refl)
 
 pub returns-clause-unended : goal.returns-clause-unended
 returns-clause-unended c = record {
@@ -139,12 +106,6 @@ returns-clause-unended c = record {
   bad = ((λ over. over), λ e can begins. no_end (codes "end") (avoids_by line_feed (codes "end") refl) e begins);
 }
 
-nothing_more : (e : Entry) → CanStand AtEnd e → ⊥
-nothing_more (Tells told v) can = can
-nothing_more (Part n) can = can
-nothing_more (Step l) can = can
-nothing_more End can = can
-
 pub returns-clause-behind : goal.returns-clause-behind
 unfolding digits
 returns-clause-behind c rest = record {
@@ -154,7 +115,7 @@ returns-clause-behind c rest = record {
   lead = to_parts (Part 0 ∷ End ∷ []) AtEnd (refl, tt, (tt, tt, refl));
   parts = refl;
   is_due = refl;
-  bad = ((λ over. absurd cc), λ e can begins. nothing_more e can);
+  bad = ((λ over. absurd cc), λ e can begins. nothing_stands e can);
 }
 
 as_many : (ls : List Line) → length (map Step ls) ≡ length ls

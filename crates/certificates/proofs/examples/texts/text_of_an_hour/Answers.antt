@@ -1,7 +1,7 @@
 -- The certificate can be written.
 use Rattle.std.proofs.Common.{refl, arith}
 use Rattle.std.specs.Fmt.{digits}
-use Rattle.certificates.proofs.ExampleLaws.{hour_window}
+use Rattle.certificates.proofs.ExampleLaws.{in_range}
 use Rattle.certificates.proofs.examples.texts.text_of_an_hour.Goals as goal
 
 pub returns-clause-text : goal.returns-clause-text
@@ -11,7 +11,7 @@ returns-clause-text c = refl
 pub returns-clause-is_text : goal.returns-clause-is_text
 returns-clause-is_text c = record {
   spelled = record {
-    window = hour_window;
+    window = in_range 4 700 702 (omega arith) (omega arith) (omega arith) (omega arith);
     ceiling = omega arith;
     first = (omega arith, omega arith);
     second = (omega arith, omega arith);
