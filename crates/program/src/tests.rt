@@ -59,6 +59,7 @@ fn refuses_words(rt: HostRuntime) {
             [b"tsbank".as_slice(), b"check", b"/dev/null", b"/dev/null"].as_slice(),
             "words: usage\n",
         ),
+        ([b"tsbank".as_slice(), b"irig"].as_slice(), "words: usage\n"),
         (
             [
                 b"tsbank".as_slice(),
@@ -108,6 +109,15 @@ fn lists_and_is_silent(rt: HostRuntime) {
     let fake = Fake::new(&rt, &words, AMPLE);
     assert_eq!(rt; status(&rt, &fake), 0);
     assert!(rt; holds(&fake.output, LISTING));
+    assert!(rt; holds(&fake.error, ""));
+}
+
+#[test]
+fn reads_a_file_without_frames(rt: HostRuntime) {
+    let words = [b"tsbank".as_slice(), b"irig-read", b"/dev/null"];
+    let fake = Fake::new(&rt, &words, AMPLE);
+    assert_eq!(rt; status(&rt, &fake), 0);
+    assert!(rt; holds(&fake.output, ""));
     assert!(rt; holds(&fake.error, ""));
 }
 
