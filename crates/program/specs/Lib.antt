@@ -1,4 +1,5 @@
 pub mod CommandLine
 pub mod Runs
 pub mod Endings
+pub mod HeardRuns
 pub mod Host

@@ -8,6 +8,7 @@ mod ending;
 mod fake;
 #[cfg(test)]
 mod file_tests;
+pub mod hearing;
 mod host;
 mod machine;
 mod messages;
