@@ -2,4 +2,5 @@ pub mod CommandLine
 pub mod Families
 pub mod Runs
 pub mod Endings
+pub mod HeardRuns
 pub mod Host

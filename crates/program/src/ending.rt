@@ -5,7 +5,7 @@ ghost use Rattle.machine_files.specs.Disk.{Disk};
 ghost use Rattle.program.specs.Endings.{Ends};
 
 use crate::command_line::{CommandLine, words};
-use crate::messages::explain_no_words;
+use crate::messages::{Speaker, explain_no_words};
 use crate::progress::Progress;
 use crate::running::{Ended, run};
 use machine_files::Machine;
@@ -43,7 +43,7 @@ pub fn status<R: Threads + Sync, C: CommandLine, M: Machine, E: Eprint, S: Clock
     match words(alloc, line) {
         Ok(words) => run(rt, alloc, &words, machine, error, progress),
         Err(why) => {
-            explain_no_words(error, why);
+            explain_no_words(error, Speaker::Tsbank, why);
             Ended {
                 status: why.status().code(),
                 machine,

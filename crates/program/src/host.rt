@@ -27,8 +27,8 @@ pub fn run_on<R: Threads + Clock + rt::Files + rt::Env + Print + Eprint + AllocG
     )
 }
 
-// Opens /dev/null to occupy a standard stream's descriptor. Where the stream was closed, a file that is opened later would else
-// get its number, and what is printed.
-fn hold<R: rt::Files>(rt: &R) -> Option<R::File> {
+/// Opens /dev/null to occupy a standard stream's descriptor. Where the stream was closed, a file that is opened later would else
+/// get its number, and what is printed.
+pub fn hold<R: rt::Files>(rt: &R) -> Option<R::File> {
     fs::open(rt, "/dev/null").ok()
 }

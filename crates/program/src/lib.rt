@@ -10,6 +10,7 @@ mod fake;
 mod family;
 #[cfg(test)]
 mod file_tests;
+pub mod hearing;
 mod host;
 mod machine;
 mod messages;

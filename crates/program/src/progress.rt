@@ -1,5 +1,6 @@
 //! How far a search has come, on standard error. Nothing of it touches the answer.
 
+use crate::messages::Speaker;
 use std::rt::Clock;
 use std::sync::atomic::{AtomicU64, Ordering};
 use std::time::Instant;
@@ -11,7 +12,7 @@ const FIRST_AFTER: u64 = 1000;
 // At least so many milliseconds lie between two lines.
 const PERIOD: u64 = 200;
 
-// Goes over a line with a number of at most nine digits; a search has some ten thousand items.
+// Goes over a line with a number of at most eight digits; a search has some ten thousand items.
 pub(crate) const BLANK: &str = "\r                                \r";
 
 /// A gate that holds nobody, and shows the latest number that was drawn, which is how many items were drawn before it.
@@ -19,6 +20,8 @@ pub(crate) const BLANK: &str = "\r                                \r";
 #[derive(Drop)]
 pub struct Progress<'a, S: Clock + Eprint> {
     screen: &'a S,
+    // Whose search it is: its name begins the line.
+    speaker: Speaker,
     // Where nothing is to be shown, there is no beginning.
     begun: Option<Instant>,
     // Milliseconds after the beginning at which the next line is due.
@@ -28,8 +31,14 @@ pub struct Progress<'a, S: Clock + Eprint> {
 }
 
 impl<'a, S: Clock + Eprint> Progress<'a, S> {
-    /// Progress that begins now, and is shown only if standard error is a terminal. Without a clock nothing is shown.
+    /// Progress of `tsbank` that begins now, and is shown only if standard error is a terminal. Without a clock nothing is
+    /// shown.
     pub fn new(screen: &'a S, on_terminal: bool) -> Progress<'a, S> {
+        Progress::of(Speaker::Tsbank, screen, on_terminal)
+    }
+
+    /// The same, of another program.
+    pub fn of(speaker: Speaker, screen: &'a S, on_terminal: bool) -> Progress<'a, S> {
         let begun = if on_terminal {
             Instant::now(screen).ok()
         } else {
@@ -37,6 +46,7 @@ impl<'a, S: Clock + Eprint> Progress<'a, S> {
         };
         Progress {
             screen,
+            speaker,
             begun,
             due: AtomicU64::new(FIRST_AFTER),
             shown: AtomicU64::new(0),
@@ -76,7 +86,8 @@ impl<S: Clock + Eprint> Gate for Progress<'_, S> {
             return;
         };
         if self.is_due(begun) && self.shown.fetch_max(number, Ordering::SeqCst) < number {
-            let _ = eprint!(self.screen; "\rtsbank: {number} items searched");
+            let name = self.speaker.name();
+            let _ = eprint!(self.screen; "\r{name}: {number} items searched");
         }
     }
 }

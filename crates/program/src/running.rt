@@ -6,7 +6,7 @@ ghost use Rattle.program.specs.Runs.{HasRun, HasRunOn};
 
 use crate::commands::family_of;
 use crate::family::Family;
-use crate::messages::explain;
+use crate::messages::{Speaker, explain};
 use crate::progress::Progress;
 use bank_files::Files;
 use machine_files::{Machine, RealFiles};
@@ -38,7 +38,7 @@ pub fn run<R: Threads + Sync, M: Machine, E: Eprint, S: Clock + Eprint + Sync>(
     let mut files = RealFiles::new(alloc, machine);
     let status = answer(rt, alloc, words, &mut files, progress);
     progress.end();
-    explain(error, status, files.failure());
+    explain(error, Speaker::Tsbank, status, files.failure());
     Ended {
         status,
         machine: files.into_machine(),

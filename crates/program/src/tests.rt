@@ -2,7 +2,7 @@
 use crate::command_line::{HostLine, NoWords};
 use crate::fake::{Fake, holds};
 use crate::machine::HostMachine;
-use crate::messages::{explain, explain_no_words};
+use crate::messages::{Speaker, explain, explain_no_words};
 use crate::progress::Progress;
 use due::Status;
 use std::rt::Clock;
@@ -93,7 +93,7 @@ fn refuses_a_word_that_is_no_text(rt: HostRuntime) -> Result<(), Fail> {
 #[test]
 fn ends_without_memory_for_its_words(rt: HostRuntime) {
     let fake = Fake::new(&rt, &[], AMPLE);
-    explain_no_words(&fake, NoWords::NoMemory);
+    explain_no_words(&fake, Speaker::Tsbank, NoWords::NoMemory);
     assert!(rt; holds(&fake.error, "tsbank: out of memory\n"));
     assert_eq!(rt; NoWords::NoMemory.status(), Status::NoMemory);
 }
@@ -172,7 +172,7 @@ fn says_nothing_of_answers_and_refused_logs(rt: HostRuntime) {
         (7, "tsbank: out of memory\n"),
     ] {
         let fake = Fake::new(&rt, &[], AMPLE);
-        explain(&fake, status, None);
+        explain(&fake, Speaker::Tsbank, status, None);
         assert!(rt; holds(&fake.error, text), "{status}");
     }
 }
@@ -194,3 +194,40 @@ fn a_report_has_a_line_of_its_own(rt: HostRuntime) {
 // What the trial's number stands for, by docs/FORMATS.md.
 const TRIAL: &str =
     "trial 5\nstation msf\nreceivers 2\nsent 2009-07-04T05:35Z 5 no\ndecided\nfirst 2009-07-04T05:35Z 5 no\n";
+
+const HEARD_USAGE: &str =
+    "usage: tsheard CONFIG [--start N] [--seconds N] [--from MINUTE] [--to MINUTE]\n  CONFIG     the path of the configuration, which doesn't begin with -\n  MINUTE     a UTC minute, YYYY-MM-DDThh:mmZ, from 2000-01-01T00:00Z to 2099-12-31T23:59Z\n  --start    the first millisecond of the window, from 0 to 999999999999; else where the logs begin\n  --seconds  the length of the window, from 60 to 1200; else 180\n  --from     the first minute in which the window may begin; else the first of the century\n  --to       the last of these minutes; else the last of the century\n";
+
+// The program that shows what was heard speaks of itself.
+#[test]
+fn tsheard_has_its_own_words(rt: HostRuntime) {
+    for (words, status, output, error) in [
+        (
+            [b"tsheard".as_slice()].as_slice(),
+            3,
+            "words: usage\n",
+            HEARD_USAGE,
+        ),
+        (
+            [b"tsheard".as_slice(), b"/nowhere"].as_slice(),
+            6,
+            "",
+            "tsheard: /nowhere: No such file or directory (os error 2)\n",
+        ),
+    ] {
+        let fake = Fake::new(&rt, words, AMPLE);
+        let progress = Progress::of(Speaker::Tsheard, &rt, false);
+        let machine = HostMachine::new(&fake, &progress);
+        let ended = crate::hearing::status(
+            &rt,
+            fake.alloc(),
+            &HostLine(&fake),
+            machine,
+            &fake,
+            &progress,
+        );
+        assert_eq!(rt; ended.status, status);
+        assert!(rt; holds(&fake.output, output));
+        assert!(rt; holds(&fake.error, error));
+    }
+}
