@@ -88,7 +88,7 @@ module _ (contents : Contents) where
       same_told o bank h.0 k.0 x y (bank_answer_is_one o.asked bank h.0 k.0 century h.1 k.1) h.2 k.2
 
   -- a bank is refused in one way, or it is loaded, and one bank is
-  one_refusal : (r s : Refusal) → IsBankRefused contents r → IsBankRefused contents s → r ≡ s
+  pub one_refusal : (r s : Refusal) → IsBankRefused contents r → IsBankRefused contents s → r ≡ s
   one_refusal r s (Bad_configuration h) (Bad_configuration k) = configurations.one_refusal (contents Configuration) r s h k
   one_refusal r s (Bad_configuration h) (Bad_log config is k) = absurd (configurations.not_both (contents Configuration) config r is h)
   one_refusal r s (Bad_log config is h) (Bad_configuration k) = absurd (configurations.not_both (contents Configuration) config s is k)
@@ -96,26 +96,25 @@ module _ (contents : Contents) where
       let same = configurations.one_configuration (contents Configuration) config other is also in
       first_bad_once contents (logs_of other) r s (subst (λ (c : PlainConfig). IsFirstBad contents (logs_of c) r) same h) k
 
-  not_both : (config : PlainConfig) (records : List Records) (refusal : Refusal) → IsBankLoaded contents config records → IsBankRefused contents refusal → ⊥
+  pub not_both : (config : PlainConfig) (records : List Records) (refusal : Refusal) → IsBankLoaded contents config records → IsBankRefused contents refusal → ⊥
   not_both config records refusal loaded (Bad_configuration bad) = configurations.not_both (contents Configuration) config refusal loaded.says bad
   not_both config records refusal loaded (Bad_log other is bad) =
       let same = configurations.one_configuration (contents Configuration) other config is loaded.says in
       all_good_none_bad contents (logs_of config) records refusal loaded.good (subst (λ (c : PlainConfig). IsFirstBad contents (logs_of c) refusal) same bad)
 
-  one_loaded : (o : BankOrder) (config other : PlainConfig) (records others : List Records) (x y : Due) → o.asked.to ≤ century_minutes
-      → IsBankLoaded contents config records → IsBankLoaded contents other others
-      → IsReported o (bank_of config records) x → IsReported o (bank_of other others) y → x ≡ y
-  one_loaded o config other records others x y century loaded also h k =
+  pub one_bank : (config other : PlainConfig) (records others : List Records) → IsBankLoaded contents config records → IsBankLoaded contents other others
+      → bank_of config records ≡ bank_of other others
+  one_bank config other records others loaded also =
       let same = configurations.one_configuration (contents Configuration) config other loaded.says also.says in
       let alike = all_good_once contents (logs_of other) records others (subst (λ (c : PlainConfig). AreGood contents (logs_of c) records) same loaded.good) also.good in
-      one_told o (bank_of other others) x y century
-      (subst (λ (all : List Records). IsReported o (bank_of other all) x) alike (subst (λ (c : PlainConfig). IsReported o (bank_of c records) x) same h)) k
+      ap (λ (c : PlainConfig). bank_of c records) same ∙ ap (bank_of other) alike
 
   one_due_of_bank : (o : BankOrder) (x y : Due) → o.asked.to ≤ century_minutes → IsDueOfBank o x → IsDueOfBank o y → x ≡ y
   one_due_of_bank o x y century (inl h) (inl k) = same_refusal h.0 k.0 x y (one_refusal h.0 k.0 h.1 k.1) h.2 k.2
   one_due_of_bank o x y century (inl h) (inr k) = absurd (not_both k.0 k.1 h.0 k.2 h.1)
   one_due_of_bank o x y century (inr h) (inl k) = absurd (not_both h.0 h.1 k.0 h.2 k.1)
-  one_due_of_bank o x y century (inr h) (inr k) = one_loaded o h.0 k.0 h.1 k.1 x y century h.2 k.2 h.3 k.3
+  one_due_of_bank o x y century (inr h) (inr k) =
+      one_told o (bank_of k.0 k.1) x y century (subst (λ (b : Bank). IsReported o b x) (one_bank h.0 k.0 h.1 k.1 h.2 k.2) h.3) k.3
 
   same_order : {A : Type 0} (a b : A) (found : Option A) → found ≡ Some a → found ≡ Some b → a ≡ b
   same_order a b found e f = cc
@@ -144,20 +143,31 @@ module _ (contents : Contents) where
   pub one_due : (words : List (List ℕ)) (x y : Due) → IsDue words contents x → IsDue words contents y → x ≡ y
   one_due words x y h k = one_due_by words (order_in words) refl x y (rule words x h) (rule words y k)
 
+  -- a bank is loaded, or something of it is refused
+  abbrev pub IsBankJudged : Type 0
+  IsBankJudged = ((config : PlainConfig) × (records : List Records) × IsBankLoaded contents config records) ⊎ ((refusal : Refusal) × IsBankRefused contents refusal)
+
+  pub bank_judged : IsBankJudged
+  bank_judged = by_text (configurations.text_has_outcome (contents Configuration))
+    where
+      by_logs : (config : PlainConfig) → IsConfiguration (contents Configuration) config → AreJudged contents (logs_of config) → IsBankJudged
+      by_logs config is (inr bad) = inr (bad.0, Bad_log config is bad.1)
+      by_logs config is (inl good) = inl (config, good.0, record { says = is; good = good.1 })
+
+      by_text : configurations.HasOutcome (contents Configuration) → IsBankJudged
+      by_text (inr bad) = inr (bad.0, Bad_configuration bad.1)
+      by_text (inl good) = by_logs good.0 good.1 (all_judged contents (logs_of good.0))
+
   -- something is due
   bank_owes : (words : List (List ℕ)) (o : BankOrder) → AsksBank words o → (due : Due) × IsDue words contents due
-  bank_owes words o asks = by_text (configurations.text_has_outcome (contents Configuration))
+  bank_owes words o asks = go bank_judged
     where
-      by_logs : (config : PlainConfig) → IsConfiguration (contents Configuration) config → AreJudged contents (logs_of config) → (due : Due) × IsDue words contents due
-      by_logs config is (inr bad) = (dues.Refused bad.0, Bad_bank o asks bad.0 (Bad_log config is bad.1) refl)
-      by_logs config is (inl good) =
-          let bank = bank_of config good.0 in
+      go : IsBankJudged → (due : Due) × IsDue words contents due
+      go (inr bad) = (dues.Refused bad.0, Bad_bank o asks bad.0 bad.1 refl)
+      go (inl good) =
+          let bank = bank_of good.0 good.1 in
           let found = bank_has_answer o.asked bank (asked_of_bank words o asks).century in
-          (reported o.wanted (window_of o.asked bank.receivers) bank found.0, Answered o asks config good.0 (record { says = is; good = good.1 }) (found.0, found.1, refl))
-
-      by_text : configurations.HasOutcome (contents Configuration) → (due : Due) × IsDue words contents due
-      by_text (inr bad) = (dues.Refused bad.0, Bad_bank o asks bad.0 (Bad_configuration bad.1) refl)
-      by_text (inl good) = by_logs good.0 good.1 (all_judged contents (logs_of good.0))
+          (reported o.wanted (window_of o.asked bank.receivers) bank found.0, Answered o asks good.0 good.1 good.2 (found.0, found.1, refl))
 
   order_owes : (words : List (List ℕ)) (order : Order) → order_in words ≡ Ok order → built order ≡ Ok order → is_run_order order ≡ true → (due : Due) × IsDue words contents due
   order_owes words (Decode config asked workers certificate) is made run =
