@@ -1,5 +1,5 @@
 -- What the examples rest on: what words ask, and the windows of two receivers.
-use Rattle.std.proofs.Common.{◌≡◌, ℕ, codes, None, Some, refl}
+use Rattle.std.proofs.Common.{codes, None, Some, refl}
 use Rattle.std.specs.Fmt.{digits}
 use Rattle.formats.specs.WordExamples.{asked, asked_usually, words_in}
 use Rattle.formats.specs.WordValues.{number_of}

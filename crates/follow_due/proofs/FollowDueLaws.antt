@@ -1,5 +1,5 @@
 -- Something is due of `follow` for all words and contents, and only one thing.
-use Rattle.std.proofs.Common.{◌≡◌, ◌≢◌, ℕ, ◌<◌, ◌≤◌, ◌⊎◌, inl, inr, true, false, List, Ok, Err, refl, sym, ◌∙◌, ap, subst, arith}
+use Rattle.std.proofs.Common.{◌≡◌, ◌≢◌, ℕ, ◌≤◌, ◌⊎◌, inl, inr, true, false, List, Ok, Err, refl, sym, ◌∙◌, subst, arith}
 use Rattle.std.specs.List.{range_with_len}
 use Rattle.std.proofs.lemmas.Bool.{cases_lt}
 use Rattle.signal_base.specs.declared.limits.TheConstants.{START_LIMIT}
@@ -12,7 +12,7 @@ use Rattle.formats.specs.Orders.{Checked, Order}
 use Rattle.formats.specs.Orders.Order.{Decode, Check, Feed, Encode, Trial, Follow, Sweep, Judge, Board, Irig, IrigRead}
 use Rattle.bank_config.specs.Configuration.{PlainConfig}
 use Rattle.due.specs.declared.due.Due.TheVariants.{Refused}
-use Rattle.due.specs.declared.status.Status.TheVariants.{Done, Failed, NoMemory, Undecided}
+use Rattle.due.specs.declared.status.Status.TheVariants.{Failed, NoMemory}
 use Rattle.due.specs.Banks.{Bank, bank_of}
 use Rattle.due.specs.Inputs.{Contents}
 use Rattle.due.specs.Loads.{IsBankLoaded, IsBankRefused}
@@ -23,9 +23,9 @@ use Rattle.follow_due.specs.declared.follow_due.FollowDue.{FollowDue}
 use Rattle.follow_due.specs.declared.follow_due.FollowDue.TheVariants.{Told, Windows}
 use Rattle.follow_due.specs.declared.window_report.WindowReport.{WindowReport}
 use Rattle.follow_due.specs.FollowDues.{all_decided, follow_status}
-use Rattle.follow_due.specs.FollowOrders.{AsksFollow, FollowOrder, first_window, follow_order_in, followed_windows, of_follow}
+use Rattle.follow_due.specs.FollowOrders.{AsksFollow, FollowOrder, first_window, follow_order_in, of_follow}
 use Rattle.follow_due.specs.FollowRules.{Answered, Bad_bank, Bad_count, Bad_words, IsFollowDue, IsFollowed, Reported}
-use Rattle.follow_due.specs.Windows.{AreReportsOf, last_start}
+use Rattle.follow_due.specs.Windows.{last_start}
 use Rattle.follow_due.proofs.OrderLaws.{asked_in_range, is_of_follow, one_order}
 use Rattle.follow_due.proofs.ReportLaws.{one_list, some_list}
 

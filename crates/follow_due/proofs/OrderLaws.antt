@@ -1,9 +1,8 @@
 -- What accepted words ask of `follow`: one thing, in its ranges. Refused words read no file.
 use Rattle.std.proofs.Common.{◌≡◌, ℕ, List, Ok, Err, ◌∙◌, ap, subst}
-use Rattle.formats.specs.declared.option.OptionName.TheVariants.{Count, Step}
 use Rattle.formats.specs.declared.words.Asked.{Asked}
 use Rattle.formats.specs.declared.words.WordFault.{WordFault}
-use Rattle.formats.specs.OrderRanges.{IsAsked, IsIn, IsInRange}
+use Rattle.formats.specs.OrderRanges.{IsAsked, IsInRange}
 use Rattle.formats.specs.Orders.{Checked, Order, order_of}
 use Rattle.formats.specs.Orders.Order.{Decode, Check, Feed, Encode, Trial, Follow, Sweep, Judge, Board, Irig, IrigRead}
 use Rattle.formats.specs.Words.{reach_commands}

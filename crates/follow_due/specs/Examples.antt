@@ -1,5 +1,5 @@
 -- What examples of `follow` are about.
-use Rattle.std.specs.Prelude.{ℕ, List, [], ◌∷◌, codes}
+use Rattle.std.specs.Prelude.{ℕ, [], ◌∷◌, codes}
 use Rattle.signal_base.specs.declared.station.Station.TheVariants.{Jjy}
 use Rattle.signal_base.specs.declared.dut.Dut.TheVariants.{Absent}
 use Rattle.signal_base.specs.declared.window.Window.{Window}

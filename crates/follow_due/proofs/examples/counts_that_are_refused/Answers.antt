@@ -1,6 +1,5 @@
 -- The start is given, so that no log need be looked at.
 use Rattle.std.proofs.Common.{Some, refl, arith}
-use Rattle.std.specs.Fmt.{digits}
 use Rattle.formats.specs.WordExamples.{asked}
 use Rattle.follow_due.specs.Examples.{order_of_k}
 use Rattle.follow_due.specs.FollowRules.{Answered, Bad_bank, Bad_count}
