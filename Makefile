@@ -73,6 +73,7 @@ bench: ## measures the program: speed, memory, and how often its answers are wro
 	bench/decode
 	bench/search
 	bench/reading
+	bench/irig-frames
 	bench/failures
 	bench/terminal
 	bench/wrong-answers

@@ -1,15 +1,13 @@
 -- How the parts of a run make its end, whatever its plan.
-use Rattle.std.proofs.Common.{◌≡◌, ◌≢◌, ℕ, ◌≤◌, ◌⊎◌, List, [], ◌∷◌, Result, Ok, Err, IfOk, inl, inr, refl, sym, ap, ◌∙◌, subst, arith}
+use Rattle.std.proofs.Common.{◌≡◌, ◌≢◌, ℕ, ◌≤◌, ◌⊎◌, false, List, [], ◌∷◌, Result, Ok, Err, IfOk, inl, inr, refl, sym, ap, ◌∙◌, subst, arith}
 use Rattle.bank_files.specs.Told.{Tells, Told, output_name}
 use Rattle.bank_files.specs.Seen.{OnlyReads, SameCounts, Seen, Writes}
 use Rattle.bank_files.proofs.Chaining.{KeepsCounts-then, Seen-same}
-use Rattle.due.specs.declared.due.Due.{Due}
 use Rattle.due.specs.declared.status.Status.{Status}
 use Rattle.due.specs.Inputs.{Contents, Input}
-use Rattle.due.specs.Outputs.{printed}
+use Rattle.due.specs.Outputs.{standard_output}
 use Rattle.due.specs.Plans.{Plan}
 use Rattle.due.specs.Status.{code_of}
-use Rattle.due.specs.Dues.{text_of}
 use Rattle.bank.specs.declared.stop.Stop.{Stop}
 use Rattle.bank.specs.declared.stop.Stop.TheVariants.{Failed, NoMemory}
 use Rattle.bank.specs.Ending.{Agrees, Delivers, DeliversDue, Ends, FindsDue, IsFound, OnlyWritesAmong, SomeReadFails, SomeWriteFails, WritesAll, WritesNothing, status_after}
@@ -19,9 +17,9 @@ pub writes_nothing : (old new : Seen) → OnlyReads old new → WritesNothing ol
 writes_nothing old new only file = inl (ap (λ (told : List ℕ → Told). told file) only.told)
 
 -- one text that is added to standard output is one output that is written
-pub one_written : {E : Type 0} (old new : Seen) (due : Due) (r : Result (Unit {0}) E) → Writes output_name old new (text_of due) r
-    → WritesAll (printed due ∷ []) old new r
-one_written old new due (Ok u) written = record {
+pub one_written : {E : Type 0} (old new : Seen) (text : List ℕ) (r : Result (Unit {0}) E) → Writes output_name old new text r
+    → WritesAll (record { file = standard_output; anew = false; text = text } ∷ []) old new r
+one_written old new text (Ok u) written = record {
   whole = (written.whole, tt);
   front = tt;
   cause = tt;
@@ -29,7 +27,7 @@ one_written old new due (Ok u) written = record {
   others = λ file other. written.only.others file other.0;
   counts = written.only.counts;
 }
-one_written old new due (Err e) written = record {
+one_written old new text (Err e) written = record {
   whole = tt;
   front = inl (inr written.front, tt);
   cause = inl written.cause;
@@ -93,14 +91,13 @@ module _ {D : Type 0} (plan : Plan D) where
   delivers_due old new (Err NoMemory) code is ends six seven = absurd (seven is)
 
   -- 6 stands for a failed file, where it stands for nothing that is due
-  pub failed_file : ((due : D) → code_of (plan.status due) ≤ 5) → (old new : Seen) (r : Result Status Stop) (code : ℕ) → code ≡ code_of (status_after r) → Ends plan old new r
+  pub failed_file : ((due : D) → code_of (plan.status due) ≢ 6) → (old new : Seen) (r : Result Status Stop) (code : ℕ) → code ≡ code_of (status_after r) → Ends plan old new r
       → code ≡ 6 → SomeWriteFails plan old new ⊎ SomeReadFails plan old new
-  failed_file few old new (Ok status) code is ends six =
+  failed_file other old new (Ok status) code is ends six =
       let same : code_of status ≡ code_of (plan.status ends.0.0) = ends.0.2.0 in
-      let below = few ends.0.0 in
-      absurd (omega arith)
-  failed_file few old new (Err Failed) code is ends six = ends.0
-  failed_file few old new (Err NoMemory) code is ends six = absurd (omega arith)
+      absurd (other ends.0.0 (sym same ∙ sym is ∙ six))
+  failed_file other old new (Err Failed) code is ends six = ends.0
+  failed_file other old new (Err NoMemory) code is ends six = absurd (omega arith)
 
   -- Where one thing is due, and contents that agree on what is read owe the same, what is delivered is what is due for the contents
   -- that are told.

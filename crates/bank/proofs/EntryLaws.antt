@@ -12,6 +12,7 @@ use Rattle.definitions.specs.heard.Costs.{Costs, dut_of}
 use Rattle.definitions.specs.heard.Logs.{Records}
 use Rattle.definitions.specs.heard.Receivers.{Receiver}
 use Rattle.signal_base.specs.declared.window.Window.{Window}
+use Rattle.formats.specs.declared.words.Asked.{Asked}
 use Rattle.bank_config.specs.declared.config.Receiver.{Receiver as Entry}
 use Rattle.bank_config.specs.Configuration.{PlainConfig, PlainReceiver, plain_receiver}
 use Rattle.due.specs.declared.due.Due.{Due}
@@ -98,11 +99,16 @@ same_report Sentences window bank (answers.Decided cost q next) = refl
 same_report Sentences window bank (answers.Undecided cost q r) = refl
 same_report (Report certificate) window bank answer = ap (λ duts. dues.Report window answer duts) (same_duts window bank answer)
 
+-- the answer for it is the bank's
+pub answer_in_order : (asked : Asked) (bank : Bank) (answer : Answer) → IsBankAnswer (window_of asked (ordered bank).receivers) (ordered bank) answer
+    → IsBankAnswer (window_of asked bank.receivers) bank answer
+answer_in_order asked bank answer is =
+    subst (λ (costs : Costs). IsWindowAnswer (window_of asked bank.receivers) costs bank.ceiling answer) (same_costs (window_of asked bank.receivers) bank)
+    (subst (λ (w : Window). IsBankAnswer w (ordered bank) answer) (same_window asked bank.receivers) is)
+
 pub reported_in_order : (o : BankOrder) (bank : Bank) (due : Due) → IsReported o (ordered bank) due → IsReported o bank due
-reported_in_order o bank due is =
-    let window = same_window o.asked bank.receivers in (
-      is.0,
-      subst (λ (costs : Costs). IsWindowAnswer (window_of o.asked bank.receivers) costs bank.ceiling is.0) (same_costs (window_of o.asked bank.receivers) bank)
-          (subst (λ (w : Window). IsBankAnswer w (ordered bank) is.0) window is.1),
-      is.2 ∙ ap (λ (w : Window). reported o.wanted w (ordered bank) is.0) window ∙ same_report o.wanted (window_of o.asked bank.receivers) bank is.0,
-    )
+reported_in_order o bank due is = (
+  is.0,
+  answer_in_order o.asked bank is.0 is.1,
+  is.2 ∙ ap (λ (w : Window). reported o.wanted w (ordered bank) is.0) (same_window o.asked bank.receivers) ∙ same_report o.wanted (window_of o.asked bank.receivers) bank is.0,
+)

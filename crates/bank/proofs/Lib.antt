@@ -1,7 +1,7 @@
 pub mod FirstTwoLaws
 pub mod TaskLaws
 pub mod ReadingLaws
-mod RefusalLaws
+pub mod RefusalLaws
 pub mod ContentLaws
 pub mod LoadLaws
 pub mod LogListLaws

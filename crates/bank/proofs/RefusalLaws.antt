@@ -26,13 +26,13 @@ module _ (old new : Seen) (words : List (List ℕ)) (fault : WordFault) where
       → Ends (run_plan words) old new (Ok (status_of (Refused (word_refusal fault))))
   words_refused {E} asks written =
       due_written (run_plan words) {E = E} old old new (Refused (word_refusal fault)) (found asks) (OnlyReads-start old) (SameCounts-start old)
-      (one_written old new (Refused (word_refusal fault)) (Ok tt) written)
+      (one_written old new (text_of (Refused (word_refusal fault))) (Ok tt) written)
 
   pub words_not_refused : {E : Type 0} (e : E) → order_in words ≡ Err fault → Writes output_name old new (text_of (Refused (word_refusal fault))) (Err e)
       → Ends (run_plan words) old new (Err Failed)
   words_not_refused e asks written =
       due_not_written (run_plan words) old old new (Refused (word_refusal fault)) (found asks) (OnlyReads-start old) (SameCounts-start old) e
-      (one_written old new (Refused (word_refusal fault)) (Err e) written)
+      (one_written old new (text_of (Refused (word_refusal fault))) (Err e) written)
 
 -- the status of a refusal of words
 pub words_status : (fault : WordFault) → status_of (Refused (word_refusal fault)) ≡ BadWords

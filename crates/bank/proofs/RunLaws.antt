@@ -1,5 +1,5 @@
 -- What a run reports of a bank or a trial, and which statuses are due.
-use Rattle.std.proofs.Common.{◌≡◌, ℕ, ◌≤◌, refl, ap, ◌∙◌, subst, arith}
+use Rattle.std.proofs.Common.{◌≡◌, ◌≢◌, ℕ, ◌≤◌, refl, ap, ◌∙◌, subst, arith}
 use Rattle.signal_base.specs.declared.station.Station.{Station}
 use Rattle.definitions.specs.declared.answer.Answer.TheVariants as answers
 use Rattle.definitions.specs.declared.sequence.Sequence.{Sequence}
@@ -50,7 +50,7 @@ refusal_below (LogTooLarge receiver name) = omega arith
 refusal_below (LogLine receiver name line fault) = omega arith
 
 -- no due status is one of a failure
-pub due_below : (due : Due) → code_of (status_of due) ≤ 5
+due_below : (due : Due) → code_of (status_of due) ≤ 5
 due_below (dues.Refused refusal) = refusal_below refusal
 due_below (dues.Report window (answers.Decided c q next) duts) = omega arith
 due_below (dues.Report window (answers.Undecided c q r) duts) = omega arith
@@ -60,3 +60,6 @@ due_below (dues.Listing station minute announced) = omega arith
 due_below (dues.Trial number station receivers sent (answers.Decided c q next)) = omega arith
 due_below (dues.Trial number station receivers sent (answers.Undecided c q r)) = omega arith
 due_below (dues.Trial number station receivers sent answers.Nothing) = omega arith
+
+pub is_no_failure : (due : Due) → code_of (status_of due) ≢ 6
+is_no_failure due six = omega (arith, six, due_below due)

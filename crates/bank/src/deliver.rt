@@ -20,8 +20,8 @@ pub fn deliver<F: Files>(files: &mut F, civil: &Civil, due: &Due) -> Result<(), 
     print(files, civil, due)
 }
 
-// Writes the text of what is due to standard output.
-fn print<F: Files>(files: &mut F, civil: &Civil, due: &Due) -> Result<(), Failed>
+/// Writes the text of what is due to standard output.
+pub fn print<F: Files>(files: &mut F, civil: &Civil, due: &Due) -> Result<(), Failed>
     requires { CanBeWritten due.now }
     ensures { Writes output_name (F.view files.old) (F.view files.new) (text_of due.now) result }
 {

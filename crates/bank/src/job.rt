@@ -3,7 +3,7 @@
 ghost use Rattle.std.specs.Prelude.{◌≡◌, IfOk};
 ghost use Rattle.bank_files.specs.Seen.{OnlyReads, Seen};
 ghost use Rattle.due.specs.Plans.{Plan};
-ghost use Rattle.bank.specs.Ending.{Ends, FindsDue, OnlyWritesAmong, WritesAll};
+ghost use Rattle.bank.specs.Ending.{Ends, FindsDue, OnlyWritesAmong, WritesAll, status_after};
 
 use crate::stop::Stop;
 use bank_files::{Failed, Files};
@@ -44,4 +44,15 @@ pub fn perform<J: Job, F: Files>(
     let due = found?;
     job.deliver(files, &due)?;
     Ok(job.status(&due))
+}
+
+/// The status of a run that ended so.
+pub fn status_after(end: Result<Status, Stop>) -> Status
+    ensures { result ≡ status_after end }
+{
+    match end {
+        Ok(status) => status,
+        Err(Stop::Failed) => Status::Failed,
+        Err(Stop::NoMemory) => Status::NoMemory,
+    }
 }

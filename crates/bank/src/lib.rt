@@ -23,10 +23,12 @@ mod trial;
 mod words;
 
 pub use decoding::{Decoded, decode, decode_window};
+pub use deliver::print;
 pub use first_two::{DecideFault, decide, decide_with};
 pub use grids::grids_of;
 pub use hearing::{Bank, bank_of, window_of};
-pub use job::{Job, perform};
+pub use job::{Job, perform, status_after};
 pub use loading::{Loaded, Unloaded, load};
 pub use program::run;
 pub use stop::Stop;
+pub use words::word_refusal;

@@ -8,12 +8,12 @@ ghost use Rattle.due.specs.Inputs.{Contents};
 ghost use Rattle.due.specs.Orders.{order_in};
 ghost use Rattle.due.specs.Plans.{run_plan};
 ghost use Rattle.due.specs.Rules.{IsDue};
-ghost use Rattle.bank.specs.Ending.{AreTold, Delivers, DeliversDue, Ends, OnlyWritesAmong, SomeReadFails, SomeWriteFails, WritesFront, WritesNothing, status_after};
+ghost use Rattle.bank.specs.Ending.{AreTold, Delivers, DeliversDue, Ends, OnlyWritesAmong, SomeReadFails, SomeWriteFails, WritesFront, WritesNothing};
 ghost use Rattle.bank.specs.Tasks.{Asks, IsInRange};
 
 use crate::command::Command;
 use crate::find::find_due;
-use crate::job::perform;
+use crate::job::{perform, status_after};
 use crate::stop::Stop;
 use crate::words::{Task, task_of, word_refusal};
 use bank_files::Files;
@@ -66,16 +66,6 @@ pub fn run<R: Threads + Sync, F: Files, G: Gate + Sync>(
     ensures only { OnlyWritesAmong (run_plan (texts_of words.now)).files (F.view files.old) (F.view files.new) }
 {
     status_after(carry_out(rt, alloc, words, files, gate)).code()
-}
-
-fn status_after(end: Result<Status, Stop>) -> Status
-    ensures { result ≡ status_after end }
-{
-    match end {
-        Ok(status) => status,
-        Err(Stop::Failed) => Status::Failed,
-        Err(Stop::NoMemory) => Status::NoMemory,
-    }
 }
 
 // Judges the words, and does what they ask for.

@@ -9,3 +9,8 @@ pub mod StationLaws
 pub mod StatusLaws
 pub mod ExampleLaws
 pub mod DutLaws
+pub mod FrameDueLaws
+pub mod FrameReadLaws
+pub mod FrameFileLaws
+pub mod FrameTextLaws
+pub mod FrameExampleLaws

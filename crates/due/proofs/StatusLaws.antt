@@ -12,6 +12,9 @@ use Rattle.formats.specs.Words.{run_commands}
 use Rattle.due.specs.declared.due.Due.{Due}
 use Rattle.due.specs.declared.due.Due.TheVariants.{Refused, Report, Feed, Listing, Trial}
 use Rattle.due.specs.declared.status.Status.TheVariants.{Failed, NoMemory}
+use Rattle.due.specs.declared.frame_due.FrameDue.{FrameDue}
+use Rattle.due.specs.declared.frame_due.FrameDue.TheVariants as frame_dues
+use Rattle.due.specs.FrameDues.{frame_status}
 use Rattle.due.specs.Dues.{answer_status, refusal_status, status_of}
 use Rattle.due.specs.Inputs.{Contents}
 use Rattle.due.specs.Orders.{built}
@@ -41,6 +44,13 @@ no_failure_is_due (Report window answer duts) = answer_is_due answer
 no_failure_is_due (Feed window q) = (λ e. cc, λ e. cc)
 no_failure_is_due (Listing station minute announced) = (λ e. cc, λ e. cc)
 no_failure_is_due (Trial number station receivers sent answer) = answer_is_due answer
+
+pub no_frame_failure_is_due : (due : FrameDue) → (frame_status due ≢ Failed) × (frame_status due ≢ NoMemory)
+no_frame_failure_is_due (frame_dues.Told due) = no_failure_is_due due
+no_frame_failure_is_due (frame_dues.Frames window q) = (λ e. cc, λ e. cc)
+no_frame_failure_is_due (frame_dues.Read frames) = (λ e. cc, λ e. cc)
+no_frame_failure_is_due frame_dues.TooLarge = (λ e. cc, λ e. cc)
+no_frame_failure_is_due (frame_dues.BadLine line fault) = (λ e. cc, λ e. cc)
 
 -- orders that speak of a certificate
 pub check_is_refused : (words : List (List ℕ)) (contents : Contents) (config certificate : List ℕ) (asked : Asked)

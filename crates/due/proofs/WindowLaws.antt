@@ -12,7 +12,7 @@ use Rattle.signal_base.specs.declared.station.Station.TheVariants.{Dcf77, Msf, W
 use Rattle.definitions.specs.codes.Allowed.{has_station}
 use Rattle.definitions.specs.heard.Costs.{least}
 use Rattle.definitions.specs.heard.Logs.{Records}
-use Rattle.definitions.specs.heard.Phase.{agreement}
+use Rattle.definitions.specs.heard.Phase.{agreement, phase_of}
 use Rattle.definitions.specs.heard.Receivers.{Receiver}
 use Rattle.definitions.specs.sequences.Windows.{IsWindow}
 use Rattle.definitions.proofs.PhaseLaws.{first_maximum_is}
@@ -99,6 +99,10 @@ first_is_early : (log : Records) (times : List ℕ) → IsOrderly log → AreEar
 first_is_early [] times orderly early = early
 first_is_early (r ∷ rs) times orderly early = (omega (arith, All-head (λ r. r.0 < TIME_LIMIT) r rs orderly.below), early)
 
+-- a phase is below a second
+pub phase_in_range : (start seconds : ℕ) (receivers : List Receiver) → phase_of start seconds receivers < 1000
+phase_in_range start seconds receivers = omega (arith, (first_maximum_is (agreement start seconds receivers) 999).within)
+
 module _ (contents : Contents) where
   are_early : (number : ℕ) (rs : List PlainReceiver) (logs : List Records) → AreGood contents (logs_from number rs) logs
       → AreEarly (flat_map (λ r. first_times r.heard.log) (receivers_of rs logs))
@@ -121,6 +125,11 @@ module _ (contents : Contents) where
   start_is_early None time given early = early
   start_is_early (Some ms) time given early = given
 
+  pub start_in_range : (config : PlainConfig) (records : List Records) (asked : Asked) → IsAsked asked → AreGood contents (logs_of config) records
+      → start_of asked (receivers_of config.receivers records) < START_LIMIT
+  start_in_range config records asked is good =
+      start_is_early asked.start (first_time (receivers_of config.receivers records)) is.start (least_is_early _ (are_early 1 config.receivers records good))
+
   pub in_range : (config : PlainConfig) (records : List Records) (asked : Asked) → IsAsked asked → 1 ≤ length config.receivers
       → AreGood contents (logs_of config) records → IsWindow (window_of asked (receivers_of config.receivers records))
   in_range config records asked is some good =
@@ -128,8 +137,8 @@ module _ (contents : Contents) where
       record {
         some_station = some_is_heard 1 config.receivers records some good;
         stations = at_most_four receivers;
-        start = start_is_early asked.start (first_time receivers) is.start (least_is_early _ (are_early 1 config.receivers records good));
-        phase = omega (arith, (first_maximum_is (agreement (start_of asked receivers) asked.seconds receivers) 999).within);
+        start = start_in_range config records asked is good;
+        phase = phase_in_range (start_of asked receivers) asked.seconds receivers;
         not_short = is.not_short;
         not_long = is.not_long;
         not_empty = is.not_empty;

@@ -2,10 +2,11 @@
 -- may hold something else when it is read again.
 use Rattle.std.specs.Prelude.{ℕ, List}
 
--- the configuration, and the log of a receiver, which are numbered from 1
+-- the configuration; the log of a receiver, which are numbered from 1; and a text of frames
 pub data Input : Type 0 where
   Configuration : Input
   LogOf : (receiver : ℕ) → Input
+  FramesText : Input
 
 -- the bytes of each
 abbrev pub Contents : Type 0

@@ -9,5 +9,8 @@ pub mod Status
 pub mod Dues
 pub mod Outputs
 pub mod Rules
+pub mod FrameOrders
+pub mod FrameDues
+pub mod FrameRules
 pub mod Plans
 pub mod Examples

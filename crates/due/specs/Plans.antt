@@ -1,8 +1,11 @@
 -- What a command reads, owes and writes, in one value, so that how a run ends is said once for all commands.
 use Rattle.std.specs.Prelude.{ℕ, ◌≢◌, List, [], ◌∷◌}
 use Rattle.due.specs.declared.due.Due.{Due}
+use Rattle.due.specs.declared.frame_due.FrameDue.{FrameDue}
 use Rattle.due.specs.declared.status.Status.{Status}
 use Rattle.due.specs.Dues.{status_of}
+use Rattle.due.specs.FrameDues.{frame_outputs, frame_status}
+use Rattle.due.specs.FrameRules.{IsFrameDue, IsFrameRead}
 use Rattle.due.specs.Inputs.{Contents, Input}
 use Rattle.due.specs.Outputs.{EachOf, Output, outputs_of, standard_output}
 use Rattle.due.specs.Rules.{IsDue, IsRead}
@@ -29,6 +32,18 @@ run_plan words =
       reads = IsRead words;
       status = status_of;
       outputs = outputs_of;
+      files = standard_output ∷ [];
+      no_other = λ due file other. other;
+    }
+
+-- the plan of a command of frames for its words
+abbrev pub frame_plan : List (List ℕ) → Plan FrameDue
+frame_plan words =
+    record {
+      owes = IsFrameDue words;
+      reads = IsFrameRead words;
+      status = frame_status;
+      outputs = frame_outputs;
       files = standard_output ∷ [];
       no_other = λ due file other. other;
     }

@@ -8,6 +8,9 @@ mod bank_laws;
 mod due;
 mod duts;
 mod examples;
+mod frame_due;
+mod frame_examples;
+mod frame_laws;
 mod laws;
 mod status;
 
@@ -23,6 +26,15 @@ pub use examples::{
     logs_of_two_receivers, numbers_of_statuses, stations_of_a_bank, statuses_of_what_is_due,
     trial_that_is_due, what_is_asked, what_is_reported, what_is_written, windows_of_a_bank,
     words_that_are_refused,
+};
+pub use frame_due::{FrameDue, FrameList};
+pub use frame_examples::{
+    numbers_of_frame_statuses, printed_answers, refused_frames, refused_words_of_frames,
+    two_frames_that_are_read, what_is_asked_of_frames,
+};
+pub use frame_laws::{
+    no_failure_is_due_of_frames, one_thing_is_due_of_frames, printed_frames_are_read_as_the_walk,
+    reads_decide_frames,
 };
 pub use laws::{
     certificates_are_refused, configuration_has_one_outcome, configuration_is_read_first,

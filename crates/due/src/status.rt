@@ -22,13 +22,25 @@ pub enum Status {
     Failed,
     /// Memory wasn't found.
     NoMemory,
+    /// A text of frames is refused.
+    BadFrames,
 }
 
 impl Status {
-    /// The number with which the program ends: 0 to 7, in this order.
+    /// The number with which the program ends.
     pub fn code(self) -> u8
         ensures { result ≡ code_of self }
     {
-        self as u8
+        match self {
+            Status::Done => 0,
+            Status::Undecided => 1,
+            Status::Nothing => 2,
+            Status::BadWords => 3,
+            Status::BadConfiguration => 4,
+            Status::BadLog => 5,
+            Status::Failed => 6,
+            Status::NoMemory => 7,
+            Status::BadFrames => 10,
+        }
     }
 }

@@ -9,6 +9,7 @@ use crate::{Frame, FrameFault, elements, read_frames, write_frame};
 use bank_files::{MemoryFiles, OUTPUT};
 use civil::Civil;
 use formats::FRAMES_LIMIT;
+use std::alloc::{AllocError, Global};
 use std::process::Abort;
 use std::test::Fail;
 
@@ -124,5 +125,186 @@ fn reads_the_most_frames(rt: HostRuntime) -> Result<(), Fail> {
     );
     let text = text_of(&rt, &civil, 1_200)?;
     assert_eq!(rt; read(&rt, &civil, &text)?.len(), 1_200);
+    Ok(())
+}
+
+// The text of a frame at millisecond 0 with these elements.
+fn text_with(alloc: Global, elements: &[u8]) -> Result<String, AllocError> {
+    let mut text = String::new(alloc);
+    let mut ms = 0u64;
+    for element in elements {
+        // Never reached: it bounds the sums.
+        if ms > 2_000 {
+            return Ok(text);
+        }
+        let fall = match *element {
+            0 => ms + 2,
+            1 => ms + 5,
+            _ => ms + 8,
+        };
+        write!(text, "{ms} H\n{fall} L\n")?;
+        ms += 10;
+    }
+    Ok(text)
+}
+
+// The second that a text of one frame tells, or why it is refused.
+fn second_in(
+    rt: &(impl Abort + AllocGlobal),
+    civil: &Civil,
+    text: &[u8],
+) -> Result<Option<(u32, u8)>, FrameFault> {
+    match read(rt, civil, text) {
+        Ok(frames) => Ok(frames.first().map(|frame| (frame.minute, frame.second))),
+        Err(fault) => Err(fault),
+    }
+}
+
+// The elements that tell another day where they are wrong, with what they then are and the minute that is told.
+const OTHER_DAYS: [(usize, u8, u32); 14] = [
+    (30, 1, 8_928 * 1_440 + 376),
+    (31, 0, 8_925 * 1_440 + 376),
+    (32, 1, 8_931 * 1_440 + 376),
+    (35, 1, 8_937 * 1_440 + 376),
+    (36, 0, 8_907 * 1_440 + 376),
+    (37, 0, 8_887 * 1_440 + 376),
+    (40, 0, 8_827 * 1_440 + 376),
+    (41, 1, 9_127 * 1_440 + 376),
+    (50, 1, 9_293 * 1_440 + 376),
+    (51, 1, 9_658 * 1_440 + 376),
+    (52, 0, 7_466 * 1_440 + 376),
+    (55, 1, 12_580 * 1_440 + 376),
+    (56, 0, 1_622 * 1_440 + 376),
+    (57, 1, 23_537 * 1_440 + 376),
+];
+
+// A wrong element of the time of day is at odds with the straight binary seconds; one of the day or of the year tells
+// another day, where there is such a day.
+#[test]
+fn each_element_wrong_in_turn(rt: HostRuntime) -> Result<(), Fail> {
+    let civil = Civil::make(rt.alloc())?;
+    let mut found = elements(&civil, MORNING, 0);
+    for i in 0..100 {
+        let right = found[i];
+        for wrong in 0..3u8 {
+            if wrong != right {
+                found[i] = wrong;
+                let text = text_with(rt.alloc(), &found)?;
+                let other = OTHER_DAYS.iter().find(|day| day.0 == i && day.1 == wrong);
+                let want = match other {
+                    Some(day) => Ok(Some((day.2, 0))),
+                    None => Err(FrameFault::Meaning { line: 200 }),
+                };
+                assert_eq!(rt;
+                    second_in(&rt, &civil, text.as_bytes()),
+                    want,
+                    "element {i} as {wrong}"
+                );
+            }
+        }
+        found[i] = right;
+    }
+    Ok(())
+}
+
+// The elements of seconds at the ends of days, of years and of the century, and of leap seconds, after which 86,400 seconds of
+// the day are over. Two have a second 60 where there is none.
+const SECONDS: [(&[u8; 100], Option<(u32, u8)>); 11] = [
+    (
+        b"M10010101M100101010M110000100M011000110M110000000M011001000M000000000M000000000M111111101M000101010M",
+        Some((8_942_399, 59)),
+    ),
+    (
+        b"M00000011M100101010M110000100M011000110M110000000M011001000M000000000M000000000M000000011M000101010M",
+        Some((8_942_399, 60)),
+    ),
+    (
+        b"M00000000M000000000M000000000M100000000M000000000M111001000M000000000M000000000M000000000M000000000M",
+        Some((8_942_400, 0)),
+    ),
+    (
+        b"M00000011M100101010M110000100M100000001M100000000M101001000M000000000M000000000M000000011M000101010M",
+        Some((8_150_399, 60)),
+    ),
+    (
+        b"M00000000M000000000M000000000M100000000M000000000M000000000M000000000M000000000M000000000M000000000M",
+        Some((0, 0)),
+    ),
+    (
+        b"M00000110M000000000M010001000M000000110M000000000M001000100M000000000M000000000M011110110M001010100M",
+        Some((12_708_720, 30)),
+    ),
+    (
+        b"M00000000M000000000M000000000M100000110M000000000M001000100M000000000M000000000M000000000M000000000M",
+        Some((12_709_440, 0)),
+    ),
+    (
+        b"M10010101M100101010M110000100M011000110M110000000M001000100M000000000M000000000M111111101M000101010M",
+        Some((13_150_079, 59)),
+    ),
+    (
+        b"M00000011M100101010M110000100M101000110M110000000M100101001M000000000M000000000M000000011M000101010M",
+        Some((52_595_999, 60)),
+    ),
+    (
+        b"M00000011M011001000M011000000M010000110M100000000M001000100M000000000M000000000M001110100M001101000M",
+        None,
+    ),
+    (
+        b"M00000011M100101010M110000100M010000110M100000000M001000100M000000000M000000000M000000011M000101010M",
+        None,
+    ),
+];
+
+#[test]
+fn seconds_at_the_ends_of_days(rt: HostRuntime) -> Result<(), Fail> {
+    let civil = Civil::make(rt.alloc())?;
+    for (signs, second) in SECONDS {
+        let mut found = [0u8; 100];
+        for i in 0..100 {
+            found[i] = match signs[i] {
+                b'0' => 0,
+                b'1' => 1,
+                _ => 2,
+            };
+        }
+        let text = text_with(rt.alloc(), &found)?;
+        let want = match second {
+            Some(told) => Ok(Some(told)),
+            None => Err(FrameFault::Meaning { line: 200 }),
+        };
+        assert_eq!(rt; second_in(&rt, &civil, text.as_bytes()), want);
+    }
+    Ok(())
+}
+
+// Behind each of its lines, and before the end of each. Only whole frames are read.
+#[test]
+fn refuses_a_text_cut_at_every_line(rt: HostRuntime) -> Result<(), Fail> {
+    let civil = Civil::make(rt.alloc())?;
+    let text = text_of(&rt, &civil, 2)?;
+    let mut line = 1u32;
+    for end in 0..text.len() {
+        if text[end] == b'\n' {
+            let unended = read(&rt, &civil, &text[..end]);
+            assert_eq!(rt;
+                unended.err(),
+                Some(FrameFault::Shape { line }),
+                "line {line}"
+            );
+            let whole = read(&rt, &civil, &text[..end + 1]);
+            line = line.saturating_add(1);
+            if line == 201 || line == 401 {
+                assert!(rt; whole.is_ok(), "line {line}");
+            } else {
+                assert_eq!(rt;
+                    whole.err(),
+                    Some(FrameFault::Shape { line }),
+                    "line {line}"
+                );
+            }
+        }
+    }
+    assert_eq!(rt; line, 401);
     Ok(())
 }

@@ -1,4 +1,5 @@
 pub mod CommandLine
+pub mod Families
 pub mod Runs
 pub mod Endings
 pub mod Host

@@ -1,11 +1,13 @@
-//! The program but for its `main`: it hands its words and the machine's files to `bank`, and ends with the status that `bank`
-//! answers. Where that is neither an answer nor a refused log, standard error says why.
+//! The program but for its `main`: it hands its words and the machine's files to `bank` or to `frame_runs`, and ends with the
+//! status that is answered. Where that is neither an answer nor a refused log, standard error says why.
 #![tactic(auto)]
 
 mod command_line;
+mod commands;
 mod ending;
 #[cfg(test)]
 mod fake;
+mod family;
 #[cfg(test)]
 mod file_tests;
 mod host;
@@ -17,7 +19,9 @@ mod running;
 mod tests;
 
 pub use command_line::{CommandLine, HostLine, NoWords};
+pub use commands::{families_of_words, family_of};
 pub use ending::{end, exit_code, status};
+pub use family::Family;
 pub use host::run_on;
 pub use machine::HostMachine;
 pub use progress::Progress;

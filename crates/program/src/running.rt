@@ -1,8 +1,11 @@
 //! A run over a machine, for the words of a command line.
 
 ghost use Rattle.bank_words.specs.Seen.{texts_of};
+ghost use Rattle.program.specs.Families.{plan_for};
 ghost use Rattle.program.specs.Runs.{HasRun, HasRunOn};
 
+use crate::commands::family_of;
+use crate::family::Family;
 use crate::messages::explain;
 use crate::progress::Progress;
 use bank_files::Files;
@@ -42,7 +45,7 @@ pub fn run<R: Threads + Sync, M: Machine, E: Eprint, S: Clock + Eprint + Sync>(
     }
 }
 
-/// The program's one call of `bank`. All that `bank::run` promises holds of it.
+/// The one call that runs the words, chosen by the first of them. All that the call promises holds of it.
 pub fn answer<R: Threads + Sync, F: Files, G: Gate + Sync>(
     rt: &R,
     alloc: Global,
@@ -50,7 +53,10 @@ pub fn answer<R: Threads + Sync, F: Files, G: Gate + Sync>(
     files: &mut F,
     gate: &G,
 ) -> u8
-    ensures { HasRun (texts_of words.now) (F.view files.old) (F.view files.new) result }
+    ensures { HasRun (plan_for (texts_of words.now)) (F.view files.old) (F.view files.new) result }
 {
-    bank::run(rt, alloc, words, files, gate)
+    match family_of(words) {
+        Family::OfRun => bank::run(rt, alloc, words, files, gate),
+        Family::OfFrames => frame_runs::irig(rt, alloc, words, files, gate),
+    }
 }

@@ -3,6 +3,7 @@
 #![tactic(auto)]
 
 mod feed;
+mod frames;
 mod lines;
 mod listing;
 mod minutes;
@@ -16,6 +17,7 @@ mod trial;
 
 pub use feed::write_feed;
 pub use formats::Refusal;
+pub use frames::{write_bad_frame, write_frame_list, write_large_frames};
 pub use listing::write_listing;
 pub use refusal::write_refusal;
 pub use report::write_report;

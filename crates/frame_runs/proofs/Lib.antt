@@ -1,0 +1,6 @@
+mod FoundLaws
+mod RefusalLaws
+mod FramedLaws
+mod TellLaws
+mod WalkLaws
+mod ExactLaws

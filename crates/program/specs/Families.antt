@@ -1,0 +1,29 @@
+-- Which call runs some words, and what is then due: their first word decides.
+use Rattle.std.specs.Prelude.{ℕ, Bool, ◌||◌, if◌then◌else◌, List, [], ◌∷◌, bytes_eq, codes}
+use Rattle.due.specs.declared.due.Due.{Due}
+use Rattle.due.specs.declared.frame_due.FrameDue.{FrameDue}
+use Rattle.due.specs.Plans.{Plan, frame_plan, run_plan}
+use Rattle.program.specs.declared.family.Family.{Family}
+use Rattle.program.specs.declared.family.Family.TheVariants.{OfFrames, OfRun}
+
+-- the word is the first of a command of frames
+abbrev pub is_of_frames : List ℕ → Bool
+is_of_frames word = bytes_eq word (codes "irig") || bytes_eq word (codes "irig-read")
+
+-- the commands to which words belong
+abbrev pub family_of : List (List ℕ) → Family
+family_of [] = OfRun
+family_of (first ∷ more) = if is_of_frames first then OfFrames else OfRun
+
+-- what such commands can owe, and their plan for some words
+abbrev pub Owed : Family → Type 0
+Owed OfRun = Due
+Owed OfFrames = FrameDue
+
+abbrev pub family_plan : (family : Family) → List (List ℕ) → Plan (Owed family)
+family_plan OfRun words = run_plan words
+family_plan OfFrames words = frame_plan words
+
+-- the plan of the program for its words
+abbrev pub plan_for : (words : List (List ℕ)) → Plan (Owed (family_of words))
+plan_for words = family_plan (family_of words) words

@@ -1,0 +1,39 @@
+//! Which call runs the words of a command line: their first word decides.
+
+ghost use Rattle.std.specs.Prelude.{◌≡◌, [], codes};
+ghost use Rattle.bank_words.specs.Seen.{texts_of};
+ghost use Rattle.formats.specs.WordExamples.{words_in};
+ghost use Rattle.program.specs.declared.family.Family.TheVariants.{OfFrames, OfRun};
+ghost use Rattle.program.specs.Families.{family_of, is_of_frames};
+
+use crate::family::Family;
+
+/// The commands to which words belong, by their first word.
+pub fn family_of(words: &[String]) -> Family
+    ensures { result ≡ family_of (texts_of words.now) }
+{
+    match words {
+        [] => Family::OfRun,
+        [first, ..] => if is_of_frames(first.as_str()) {
+            Family::OfFrames
+        } else {
+            Family::OfRun
+        },
+    }
+}
+
+fn is_of_frames(word: &str) -> bool
+    ensures { result ≡ is_of_frames word.now }
+{
+    word == "irig" || word == "irig-read"
+}
+
+/// Whose commands some words are.
+pub fn families_of_words()
+    ensures irig { family_of (words_in (codes "irig k.toml --seconds 120")) ≡ OfFrames }
+    ensures irig_read { family_of (words_in (codes "irig-read f.txt")) ≡ OfFrames }
+    ensures decode { family_of (words_in (codes "decode irig")) ≡ OfRun }
+    ensures longer { family_of (words_in (codes "irig-reads f.txt")) ≡ OfRun }
+    ensures beyond { family_of (words_in (codes "follow k.toml")) ≡ OfRun }
+    ensures none { family_of [] ≡ OfRun }
+{}
