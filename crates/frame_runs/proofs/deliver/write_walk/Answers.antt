@@ -9,7 +9,7 @@ use Rattle.frame_runs.proofs.deliver.write_walk.Goals as goal
 
 pub loop-slot-init : goal.loop-slot-init
 unfolding place_at
-loop-slot-init g c = record { place = refl; written = Writes-start output_name (g.F.Files.view c.args.files.now) (g.F.Files.output_is_there c.args.files.now) }
+loop-slot-init g c = record { place = refl; written = Writes-start output_name (g.F.Files.view c.args.files.now) (g.met.F.Files.output_is_there c.args.files.now) }
 
 pub write_frame-requires-clause-start : goal.write_frame-requires-clause-start
 write_frame-requires-clause-start g c =
