@@ -1,8 +1,8 @@
 -- Rows to which costs are added symbol by symbol.
-use Rattle.std.proofs.Common.{◌≡◌, ◌≢◌, ℕ, zero, suc, ◌+◌, ◌<◌, ◌≤◌, ◌⊎◌, inl, inr, false, replicate, List, length, get_or, set, refl, ap, sym, ◌∙◌, arith, ◌-◌, below_more, get_or-set_other, get_or-set_same, [], ◌∷◌, ◌++◌, ◌*◌, zero-add, sum_by, Option, Some, None, min, unwrap_or}
+use Rattle.std.proofs.Common.{◌≡◌, ◌≢◌, ℕ, zero, suc, ◌+◌, ◌<◌, ◌≤◌, ◌⊎◌, inl, inr, false, replicate, List, length, get_or, set, refl, ap, ◌∙◌, arith, below_more, get_or-set_other, get_or-set_same, [], ◌∷◌, ◌++◌, ◌*◌, zero-add, sum_by, Option, Some, None, min, unwrap_or}
 use Rattle.std.proofs.lemmas.Bool.{cases_lt, cases_order}
 use Rattle.std.proofs.lemmas.List.{get_or-replicate, get_or_past, length-replicate}
-use Rattle.std.proofs.lemmas.List.Sums.{sum_by-append, sum_by-cons}
+use Rattle.std.proofs.lemmas.List.Sums.{sum_by-append}
 use Rattle.std.proofs.Math.ListN.{length-set}
 use Rattle.signal_base.specs.declared.station.Station.{Station}
 use Rattle.signal_base.specs.declared.station.Station.TheVariants.{Dcf77, Msf, Wwvb, Jjy}
@@ -14,7 +14,7 @@ use Rattle.definitions.specs.heard.Receivers.{Reception, receptions}
 use Rattle.definitions.specs.heard.Costs.{second_cost, slot_cost, tenth_cost}
 use Rattle.definitions.proofs.CostLaws.{lesser_with, receptions_more}
 use Rattle.symbol_cost.specs.declared.limits.TheConstants.{RECEIVER_COST}
-use Rattle.symbol_cost.specs.Grid.{AreRows, AreSmall, cost_at}
+use Rattle.symbol_cost.specs.Grid.{cost_at}
 use Rattle.symbol_cost.specs.Rows.{Adds, heard}
 
 -- what tenth j from millisecond `from` on costs a receiver of this weight under a symbol
@@ -117,44 +117,3 @@ slot_cost_more table ts ls t l station begin k x same =
     let f = λ (r : Reception). second_cost table r (begin + r.tuning.delay + 1000 * k) (waveform station x) in
     ap (sum_by f) (receptions_more ts ls t l same) ∙ sum_by-append f (receptions ts ls) (heard t l ∷ [])
     ∙ ap (λ n. sum_by f (receptions ts ls) + n) (zero-add (f (heard t l)))
-
--- what a slot costs in a window that begins later is what a later slot costs
-pub later_slot : (table : CostTable) (rs : List Reception) (station : Station) (begin by k x : ℕ)
-    → slot_cost table rs station (begin + 1000 * by) k x ≡ slot_cost table rs station begin (k + by) x
-later_slot table [] station begin by k x = refl
-later_slot table (r ∷ rs) station begin by k x =
-    let f = λ (r : Reception). second_cost table r (begin + 1000 * by + r.tuning.delay + 1000 * k) (waveform station x) in
-    let g = λ (r : Reception). second_cost table r (begin + r.tuning.delay + 1000 * (k + by)) (waveform station x) in
-    let at : begin + 1000 * by + r.tuning.delay + 1000 * k ≡ begin + r.tuning.delay + 1000 * (k + by) = omega arith in
-    let first : f r ≡ g r = ap (λ m. second_cost table r m (waveform station x)) at in
-    omega (arith, sum_by-cons f r rs, sum_by-cons g r rs, first, later_slot table rs station begin by k x)
-
--- Rows that were moved to the front by so many places, of which `kept` stay, and behind them rows that were scored: they are small,
--- and those of the window that begins so much later.
-module _ (n by kept : ℕ) (old moved fresh new : List (List ℕ)) (count : kept ≡ n - by)
-    (shifted : (k : ℕ) → k < kept → get_or moved k [] ≡ get_or old (k + by) [])
-    (front : (k : ℕ) → k < kept → get_or new k [] ≡ get_or moved k []) (behind : (k : ℕ) → kept ≤ k → get_or new k [] ≡ get_or fresh (k - kept) []) where
-  row_before : (k : ℕ) → k < kept → get_or new k [] ≡ get_or old (k + by) []
-  row_before k within = front k within ∙ shifted k within
-
-  pub moved_small : (receivers : ℕ) → AreSmall receivers old → AreSmall receivers fresh → AreSmall receivers new
-  moved_small receivers small also k x = elim (cases_lt k kept) [
-    | inl within ↦ rw (row_before k within) (small (k + by) x)
-    | inr past ↦ rw (behind k past) (also (k - kept) x)
-  ]
-
-  pub moved_on : (table : CostTable) (rs : List Reception) (station : Station) (begin receivers : ℕ) → AreRows old station n receivers (slot_cost table rs station begin)
-      → length new ≡ n → AreRows fresh station (n - kept) receivers (slot_cost table rs station (begin + 1000 * by + 1000 * kept))
-      → AreRows new station n receivers (slot_cost table rs station (begin + 1000 * by))
-  moved_on table rs station begin receivers before long scored = record {
-    slots = long;
-    each = λ k x h s. elim (cases_lt k kept) [
-      | inl within ↦ (
-          ap (λ (r : List ℕ). get_or r x 0) (row_before k within) ∙ before.each (k + by) x (omega arith) s ∙ sym (later_slot table rs station begin by k x))
-      | inr past ↦ (
-          let same : k - kept + kept ≡ k = omega arith in
-          ap (λ (r : List ℕ). get_or r x 0) (behind k past) ∙ scored.each (k - kept) x (omega arith) s
-          ∙ later_slot table rs station (begin + 1000 * by) kept (k - kept) x ∙ ap (λ j. slot_cost table rs station (begin + 1000 * by) j x) same)
-    ];
-    small = moved_small receivers before.small scored.small;
-  }

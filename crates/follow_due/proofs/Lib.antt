@@ -1,0 +1,6 @@
+pub mod OrderLaws
+pub mod WindowLaws
+pub mod ReportLaws
+pub mod FollowDueLaws
+pub mod FollowReadLaws
+mod ExampleLaws
