@@ -8,14 +8,14 @@ CRATE ?=
 export PREFIX DESTDIR CRATE
 
 # Whether build/tsbank stands and is no older than any source.
-FRESH = test -x build/tsbank && test -z "$$(find crates.txt crates -name out -prune -o -type f \
+FRESH = test -x build/tsbank && test -x build/tsheard && test -z "$$(find crates.txt crates -name out -prune -o -type f \
 	\( -name '*.rt' -o -name '*.antt' -o -name crates.txt \) -newer build/tsbank -print)"
 
 # Goes to the crate that was named.
 IN_CRATE = test -n "$$CRATE" && test -d "crates/$$CRATE" || { echo "which crate? make $@ CRATE=pulse_log" >&2; exit 2; }; \
 	cd "crates/$$CRATE"
 
-.PHONY: help run build install test check try quick edits plant fmt bench clean toolchain contrib-test contrib-daemons
+.PHONY: help run build picture install test check try quick edits plant fmt bench clean toolchain contrib-test contrib-daemons
 
 help: ## lists these targets
 	@sed -n 's/^\([a-z-]*\):.*## \(.*\)/make \1|\2/p' Makefile | awk -F'|' '{ printf "%-21s %s\n", $$1, $$2 }'
@@ -31,17 +31,23 @@ run: ## decodes the sample over the century: by build/tsbank, or in about a minu
 			2> ../../build/quick-run.txt || { cat ../../build/quick-run.txt >&2; exit 1; }; \
 	fi
 
-build: ## proves the program's crates and leaves build/tsbank (half an hour at first)
+build: ## proves the programs' crates and leaves build/tsbank and build/tsheard (half an hour at first)
 	cd crates/tsbank && rt run -- encode wwvb 2024-02-29T12:34Z > /dev/null
+	cd crates/tsheard && rt run --data k.toml=data/k.toml --data a.log=data/a.log -- k.toml --seconds 120 > /dev/null
 	install -d build
 	install -m 755 crates/tsbank/out/tsbank build/tsbank
+	install -m 755 crates/tsheard/out/tsheard build/tsheard
 
-install: ## puts the program and its manual page under PREFIX (/usr/local), and builds it first where need be
+picture: ## draws what was heard of the sample, as docs/sample.svg
+	@$(FRESH) || $(MAKE) build
+	cd sample && ../build/tsheard dcf77.toml | ../contrib/picture > ../docs/sample.svg
+
+install: ## puts the programs and their manual pages under PREFIX (/usr/local), and builds them first where need be
 	@$(FRESH) || $(MAKE) build
 	install -d "$$DESTDIR$$PREFIX/bin"
-	install -m 755 build/tsbank "$$DESTDIR$$PREFIX/bin/tsbank"
+	install -m 755 build/tsbank build/tsheard "$$DESTDIR$$PREFIX/bin"
 	install -d "$$DESTDIR$$PREFIX/share/man/man1"
-	install -m 644 docs/tsbank.1 "$$DESTDIR$$PREFIX/share/man/man1/tsbank.1"
+	install -m 644 docs/tsbank.1 docs/tsheard.1 "$$DESTDIR$$PREFIX/share/man/man1"
 
 test: toolchain ## the gate: proves all, tries the edits, runs the tests and the program
 	.ci/run
