@@ -30,7 +30,17 @@ impl<'a> Tables<'a> {
         ensures floor { IsFloor (costs_of self.now) self.now.window day.now result }
         ensures small { IfSome result (λ n. n ≤ GREATEST_COST) }
     {
-        self.sums.floor(self.civil, day)
+        self.sums.floor(self.civil, day, false)
+    }
+
+    /// A closer one, which takes longer.
+    pub fn close_floor(&self, day: &Block) -> Option<u32>
+        requires block { IsBlock self.now.window day.now }
+        requires day { day.now.span ≡ Day }
+        ensures floor { IsFloor (costs_of self.now) self.now.window day.now result }
+        ensures small { IfSome result (λ n. n ≤ GREATEST_COST) }
+    {
+        self.sums.floor(self.civil, day, true)
     }
 }
 
@@ -38,7 +48,7 @@ impl WindowSums {
     /// A floor of a block. It is 0 where its walks may meet a minute that a station can't encode, or where it isn't known at
     /// once what walks cost that may meet a leap second.
     #[inline(always)]
-    pub fn floor(&self, civil: &Civil, block: &Block) -> Option<u32>
+    pub fn floor(&self, civil: &Civil, block: &Block, close: bool) -> Option<u32>
         requires { AreMinutesOf self.now.window block.now }
         ensures floor { IsFloor (costs_by self.now) self.now.window block.now result }
         ensures small { IfSome result (λ n. n ≤ GREATEST_COST) }
@@ -47,14 +57,14 @@ impl WindowSums {
             return None;
         }
         if self.has_regular_walks(civil, block) {
-            return self.regular_floor(block);
+            return self.regular_floor(block, close);
         }
-        self.floor_at_leap_end(civil, block)
+        self.floor_at_leap_end(civil, block, close)
     }
 
     // That of a block whose walks have 60 seconds in each minute and can be encoded by each station.
     #[inline(always)]
-    fn regular_floor(&self, block: &Block) -> Option<u32>
+    fn regular_floor(&self, block: &Block, close: bool) -> Option<u32>
         requires block { AreMinutesOf self.now.window block.now }
         requires walks { HasShortWalks self.now.window block.now }
         requires encoded { block.now.hi + reach self.now.window block.now ≤ self.now.end }
@@ -66,12 +76,12 @@ impl WindowSums {
         if block.announced && self.never_shows(block) {
             return None;
         }
-        Some(self.least_cost(block))
+        Some(self.least_cost(block, close))
     }
 
     // That of a block whose last walks may meet a leap second, as those of a day do that ends with one: what the first walks
     // cost at the least, and of the last ones what each costs.
-    fn floor_at_leap_end(&self, civil: &Civil, block: &Block) -> Option<u32>
+    fn floor_at_leap_end(&self, civil: &Civil, block: &Block, close: bool) -> Option<u32>
         requires { AreMinutesOf self.now.window block.now }
         ensures floor { IsFloor (costs_by self.now) self.now.window block.now result }
         ensures small { IfSome result (λ n. n ≤ GREATEST_COST) }
@@ -83,7 +93,7 @@ impl WindowSums {
         }
         let last = self.later_minutes(block.second) + 1;
         let cut = block.hi.saturating_sub(last).max(block.lo);
-        let mut floor = self.floor_before(civil, block, cut);
+        let mut floor = self.floor_before(civil, block, cut, close);
         for t in cut..block.hi {
             floor = lesser(floor, self.floor_of_minute(block, t));
         }
@@ -91,7 +101,7 @@ impl WindowSums {
     }
 
     // That of the minutes before this one.
-    fn floor_before(&self, civil: &Civil, block: &Block, cut: u32) -> Option<u32>
+    fn floor_before(&self, civil: &Civil, block: &Block, cut: u32, close: bool) -> Option<u32>
         requires block { AreMinutesOf self.now.window block.now }
         requires begun { block.now.lo ≤ cut }
         requires within { cut ≤ block.now.hi }
@@ -111,7 +121,7 @@ impl WindowSums {
         if !self.has_regular_walks(civil, &front) {
             return Some(0);
         }
-        self.regular_floor(&front)
+        self.regular_floor(&front, close)
     }
 
     // That of one minute, whose walk may meet a leap second.
@@ -168,7 +178,7 @@ impl WindowSums {
     }
 
     // What none of the block's sequences costs less than: the sum of the stations' floors.
-    fn least_cost(&self, block: &Block) -> u32
+    fn least_cost(&self, block: &Block, close: bool) -> u32
         requires order { block.now.lo < block.now.hi }
         requires walks { HasShortWalks self.now.window block.now }
         requires encoded { block.now.hi + reach self.now.window block.now ≤ self.now.end }
@@ -178,7 +188,7 @@ impl WindowSums {
     {
         let mut total = 0;
         for station in &self.stations {
-            total += station.floor(block);
+            total += station.floor(block, close);
         }
         total
     }

@@ -11,6 +11,7 @@ ghost use Rattle.walk_costs.specs.Walks.{last_minute};
 ghost use Rattle.field_tables.specs.Floors.{CostAtLeast};
 
 use crate::station::StationSums;
+use block_costs::Walks;
 use definitions::Block;
 use walk_costs::StationWalks;
 
@@ -25,8 +26,9 @@ struct Piece {
 
 impl StationSums {
     /// A floor of a block whose walks have 60 seconds in each minute: none of its sequences costs the station less. It is 0
-    /// where a walk goes over a change of summer time, or over the ends of two runs.
-    pub fn floor(&self, block: &Block) -> u32
+    /// where a walk goes over a change of summer time, or over the ends of two runs. A close one takes longer: each walk is
+    /// looked at that leaves its run.
+    pub fn floor(&self, block: &Block, close: bool) -> u32
         requires second { block.now.second < SECONDS_PER_MINUTE }
         requires order { block.now.lo < block.now.hi }
         requires regular { AreRegular block.now.announced block.now.lo (block.now.hi + later_minutes (length self.now.grid.rows) block.now.second) self.now.parts.end }
@@ -37,7 +39,7 @@ impl StationSums {
         let mut floor = u32::MAX;
         let mut t = block.lo;
         while t < block.hi {
-            let piece = piece_from(walks, block, t);
+            let piece = piece_from(walks, block, t, close);
             if piece.floor == 0 {
                 return 0;
             }
@@ -50,7 +52,7 @@ impl StationSums {
 
 // The piece from the minute `t` on: the minutes whose walks lie in the run of `t`, or those whose walks leave it.
 #[inline(always)]
-fn piece_from(walks: &StationWalks, block: &Block, t: u32) -> Piece
+fn piece_from(walks: &StationWalks, block: &Block, t: u32, close: bool) -> Piece
     requires second { block.now.second < SECONDS_PER_MINUTE }
     requires begun { block.now.lo ≤ t }
     requires some { t < block.now.hi }
@@ -66,6 +68,9 @@ fn piece_from(walks: &StationWalks, block: &Block, t: u32) -> Piece
     let left = parts.run_end(run) - t;
     let later = walks.later_minutes(block.second);
     if left <= later {
+        if close {
+            return piece_of_each(walks, block, t, run);
+        }
         return piece_across(walks, block, t, run);
     }
     Piece {
@@ -104,4 +109,46 @@ fn piece_across(walks: &StationWalks, block: &Block, t: u32, run: usize) -> Piec
         end,
         floor: walks.least_across(block.announced, block.second, run),
     }
+}
+
+// The same by what each sequence costs.
+fn piece_of_each(walks: &StationWalks, block: &Block, t: u32, run: usize) -> Piece
+    requires second { block.now.second < SECONDS_PER_MINUTE }
+    requires begun { block.now.lo ≤ t }
+    requires some { t < block.now.hi }
+    requires regular { AreRegular block.now.announced block.now.lo (block.now.hi + later_minutes (length walks.now.grid.rows) block.now.second) walks.now.parts.end }
+    requires here { IsInRun walks.now.parts t run }
+    ensures more { t < result.end }
+    ensures floor { CostAtLeast walks.now block.now t result.end result.floor }
+    ensures small { result.floor ≤ most_cost walks.now.grid }
+{
+    let end = block.hi.min(walks.parts().run_end(run));
+    Piece {
+        end,
+        floor: least_of_each(walks, block, t, end),
+    }
+}
+
+// What the cheapest sequence costs that begins in the minutes from `from` up to, and without, `end`.
+fn least_of_each(walks: &StationWalks, block: &Block, from: u32, end: u32) -> u32
+    requires second { block.now.second < SECONDS_PER_MINUTE }
+    requires begun { block.now.lo ≤ from }
+    requires some { from < end }
+    requires within { end ≤ block.now.hi }
+    requires regular { AreRegular block.now.announced block.now.lo (block.now.hi + later_minutes (length walks.now.grid.rows) block.now.second) walks.now.parts.end }
+    ensures floor { CostAtLeast walks.now block.now from end result }
+    ensures small { result ≤ most_cost walks.now.grid }
+{
+    let mut least = u32::MAX;
+    for t in from..end {
+        let one = Walks {
+            station: walks,
+            announced: block.announced,
+            second: block.second,
+            lo: t,
+            hi: t + 1,
+        };
+        least = least.min(one.first_cost());
+    }
+    least
 }

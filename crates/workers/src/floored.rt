@@ -5,6 +5,7 @@ ghost use Rattle.std.specs.Option.{ForSome};
 ghost use Rattle.signal_base.specs.declared.limits.TheConstants.{GREATEST_COST};
 ghost use Rattle.definitions.specs.declared.block.Span.TheVariants.{Year, Day, Minute};
 ghost use Rattle.definitions.specs.answers.Blocks.{IsBlock, children};
+ghost use Rattle.field_tables.specs.Floors.{IsFloor};
 ghost use Rattle.field_tables.specs.Scored.{costs_of};
 ghost use Rattle.race_words.specs.Views.{after_limit};
 ghost use Rattle.workers.specs.Visits.{limit_at};
@@ -64,18 +65,20 @@ impl Visitor<'_> {
     {
         children_share_the_sequences();
         let mut days = bounded_children(self.tables, year);
+        let mut latest = u64::MAX;
         while let Some(day) = days.next_block() {
-            self.visit_day(seat, &day, recorder)?;
+            self.visit_day(seat, &day, &mut latest, recorder)?;
         }
         Ok(())
     }
 
-    // Visits a day, which is passed over by its floor where that can be.
+    // Visits a day, which is passed over by its floor where that can be. `latest` is what was read last.
     #[inline(always)]
     fn visit_day<K: Recorder>(
         &self,
         seat: &mut Seat,
         day: &Block,
+        latest: &mut u64,
         recorder: &mut K,
     ) -> Result<(), K::Fault>
         requires race { seat.old.race ≡ self.now.race.now.id }
@@ -88,7 +91,7 @@ impl Visitor<'_> {
         ensures stopped { let t = self.now.tables.now in
             OnErr result (HasStopped K.told K.fails (costs_of t) t.window self.now.ceiling day.now seat.old.view seat.new.view recorder.old recorder.new) }
     {
-        let Some(seen) = self.pass_over(seat, day) else {
+        let Some(seen) = self.pass_over(seat, day, latest) else {
             return Ok(());
         };
         let found = Bounded {
@@ -105,7 +108,7 @@ impl Visitor<'_> {
     // Reads the race's limit once. None where the day's floor passes it over, and else what was read, by which the day's own
     // step is to be taken.
     #[inline(always)]
-    fn pass_over(&self, seat: &mut Seat, day: &Block) -> Option<u64>
+    fn pass_over(&self, seat: &mut Seat, day: &Block, latest: &mut u64) -> Option<u64>
         requires race { seat.old.race ≡ self.now.race.now.id }
         requires block { IsBlock self.now.tables.now.window day.now }
         requires day { day.now.span ≡ Day }
@@ -116,12 +119,28 @@ impl Visitor<'_> {
         ensures read { IfSome result (λ seen. seat.new.view ≡ after_limit seen seat.old.view) }
     {
         blocks_share_the_sequences();
-        let floor = self.tables.floor(day);
+        let floor = self.floor_of(day, *latest);
         let seen = self.look::<Brand>(seat, day, floor);
+        *latest = seen;
         if self.is_above(day, floor, seen) {
             return None;
         }
         Some(seen)
+    }
+
+    // A floor of the day: a close one, where another wouldn't pass the day over by what was read last.
+    #[inline(always)]
+    fn floor_of(&self, day: &Block, latest: u64) -> Option<u32>
+        requires block { IsBlock self.now.tables.now.window day.now }
+        requires day { day.now.span ≡ Day }
+        ensures floor { let t = self.now.tables.now in IsFloor (costs_of t) t.window day.now result }
+        ensures small { ForSome result (λ n. n ≤ GREATEST_COST) }
+    {
+        let floor = self.tables.floor(day);
+        if self.is_above(day, floor, latest) {
+            return floor;
+        }
+        self.tables.close_floor(day)
     }
 
     // Reads the race's limit. Where the day's floor passes it over, the one load counts as all reads of a visit of the day, and

@@ -12,7 +12,7 @@ look-seen-requires-clause-often c =
     let s = c.args.self.now in
     let t = s.tables.now in
     counts_as (costs_of t) t.window s.ceiling (c.blocks_share_the_sequences.ensures (costs_of t) t.window s.ceiling s.window_is_in_range.century)
-    c.args.day.now c.floor-floor.result c.requires.block c.floor-floor.ensures.floor
+    c.args.day.now c.floor_of-floor.result c.requires.block c.floor_of-floor.ensures.floor
 
 pub returns-then-is_above-clause-passed : goal.returns-then-is_above-clause-passed
 returns-then-is_above-clause-passed c =
