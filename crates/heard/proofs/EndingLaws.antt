@@ -1,5 +1,5 @@
 -- How a run ends that shows what was heard.
-use Rattle.std.proofs.Common.{◌≡◌, ℕ, ◌≤◌, ◌⊎◌, false, List, [], ◌∷◌, Result, Ok, Err, inl, inr, refl, arith}
+use Rattle.std.proofs.Common.{◌≡◌, ◌≢◌, ℕ, ◌⊎◌, false, List, [], ◌∷◌, Result, Ok, Err, inl, inr, refl, arith}
 use Rattle.bank_files.specs.Told.{output_name}
 use Rattle.bank_files.specs.Seen.{Seen, Writes}
 use Rattle.bank_files.proofs.Chaining.{OnlyReads-start, SameCounts-start}
@@ -25,9 +25,9 @@ use Rattle.heard.specs.Seen.{due_seen, kept_plan}
 use Rattle.heard.proofs.FindingLaws.{refused_reads_nothing}
 
 -- no status that is due is one of a failure
-pub due_below : (due : HeardDue PlainHearing) → code_of (heard_status due) ≤ 5
-due_below (Told due) = runs.due_below due
-due_below (Heard h) = omega arith
+pub is_no_failure : (due : HeardDue PlainHearing) → code_of (heard_status due) ≢ 6
+is_no_failure (Told due) six = runs.is_no_failure due six
+is_no_failure (Heard h) six = omega (arith, six)
 
 -- a text that is added to standard output is one output that is written
 pub text_written : {E : Type 0} (old new : Seen) (text : List ℕ) (r : Result (Unit {0}) E) → Writes output_name old new text r

@@ -4,7 +4,7 @@ use Rattle.due.specs.HeardRuns.{heard_plan}
 use Rattle.due.specs.Status.{code_of}
 use Rattle.bank_words.specs.Seen.{texts_of}
 use Rattle.bank.proofs.EndingLaws.{delivers_due, failed_file}
-use Rattle.heard.proofs.EndingLaws.{due_below}
+use Rattle.heard.proofs.EndingLaws.{is_no_failure}
 use Rattle.heard.proofs.ExactLaws.{run_exactly}
 use Rattle.heard.proofs.program.run.Goals as goal
 
@@ -19,5 +19,5 @@ returns-clause-exactly g c = λ six seven.
 
 pub returns-clause-failed : goal.returns-clause-failed
 returns-clause-failed g c =
-    failed_file (heard_plan (texts_of c.args.words.now)) due_below (g.F.Files.view c.args.files.now) (g.F.Files.view c.carry_out.new.files) c.carry_out.result c.code.result
+    failed_file (heard_plan (texts_of c.args.words.now)) is_no_failure (g.F.Files.view c.args.files.now) (g.F.Files.view c.carry_out.new.files) c.carry_out.result c.code.result
     (c.code.ensures ∙ ap code_of c.status_after.ensures) c.carry_out.ensures.ends
