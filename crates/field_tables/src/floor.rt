@@ -19,7 +19,7 @@ use crate::leaps::meets_leap_end;
 use crate::sums::WindowSums;
 use crate::tables::Tables;
 use civil::Civil;
-use definitions::{Block, MINUTES_PER_DAY, Span};
+use definitions::{Block, MINUTES_PER_DAY, MINUTES_PER_HOUR, Span};
 use slot_columns::SECONDS_PER_MINUTE;
 
 impl<'a> Tables<'a> {
@@ -93,8 +93,9 @@ impl WindowSums {
         Some(self.least_cost(block))
     }
 
-    // That of a block whose last walks may meet a leap second, as those of a day do that ends with one: what the first walks
-    // cost at the least, and of the last ones what each costs.
+    // That of a block whose last walks may meet a leap second, as those of an hour do that ends with one: what the first walks
+    // cost at the least, and of the last ones what each costs. Of a longer block it is 0, since its bound costs less to ask for
+    // than these walks, and mostly passes it over.
     fn floor_at_leap_end(&self, civil: &Civil, block: &Block) -> Option<u32>
         requires { AreMinutesOf self.now.window block.now }
         ensures floor { IsFloor (costs_by self.now) self.now.window block.now result }
@@ -103,6 +104,9 @@ impl WindowSums {
         // The range of a window ends with the century.
         self.end();
         if !block.announced || block.second as usize >= SECONDS_PER_MINUTE {
+            return Some(0);
+        }
+        if block.hi - block.lo > MINUTES_PER_HOUR {
             return Some(0);
         }
         let last = self.later_minutes(block.second) + 1;

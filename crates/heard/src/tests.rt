@@ -87,7 +87,7 @@ fn told(alloc: Global) -> Result<String, AllocError> {
                 text,
                 "slot {slot} 2024-06-10T06:{minute}Z {second} jjy sent {symbol} cost {cost} best {symbol} cost {cost}\nreceiver 1 unknown {unknown} cost {cost}\n"
             )?;
-            slot = (slot + 1) % 1000;
+            slot = slot.wrapping_add(1);
         }
     }
     write!(text, "sum receiver 1 unknown 1 cost 100\n")?;
