@@ -3,6 +3,7 @@ use Rattle.std.proofs.Common.{◌≡◌, ◌≢◌, ◌⊎◌, ℕ, zero, suc, �
 use mathlib.Core.Option.{some, some-injective, some-ne-none}
 use lib.ListN.{get_elem?}
 use Rattle.std.proofs.lemmas.Bool.{lt-ltb}
+use Rattle.std.proofs.lemmas.List.{length-append}
 use Rattle.atomic_table.proofs.Lists.{at_index, at_last, set_else, set_here, one_turn}
 use Rattle.board_entries.specs.declared.entry.Entry.{Entry}
 use Rattle.board_entries.specs.declared.told.TheConstants.{LAST_ENTRIES}
@@ -27,8 +28,7 @@ module _ {A : Type 0} where
   there (x ∷ xs) (suc n) h = there xs n (omega arith)
 
   pub one_more : (l : List A) (a : A) → length (l ++ a ∷ []) ≡ length l + 1
-  one_more [] a = refl
-  one_more (x ∷ xs) a = ap suc (one_more xs a)
+  one_more l a = length-append l (a ∷ [])
 
   pub length_set : (l : List A) (i : ℕ) (a : A) → length (set l i a) ≡ length l
   length_set [] i a = refl
@@ -68,11 +68,7 @@ shows_more s list e lt shows =
       laid = laid_more s list e shows;
     }
 
-length_both : {A : Type 0} (l m : List A) → length (l ++ m) ≡ length l + length m
-length_both [] m = refl
-length_both (x ∷ xs) m = ap suc (length_both xs m)
-
-or_this : {A : Type 0} → A → Option A → A
+abbrev or_this : {A : Type 0} → A → Option A → A
 or_this x None = x
 or_this x (Some y) = y
 
@@ -91,7 +87,7 @@ added s seen whole e lt shows after start =
     let now : Shows (with_entry s e) whole = subst (λ z. Shows z whole) (below_most s e lt) after in
     let number : s.count + 1 ≡ length whole = now.number in
     let before : s.count ≡ length seen = shows.number in
-    let long : length whole ≡ length seen + length start.0 = ap length start.1 ∙ length_both seen start.0 in
+    let long : length whole ≡ length seen + length start.0 = ap length start.1 ∙ length-append seen start.0 in
     let last = lone start.0 (omega arith) in
     let is : whole ≡ seen ++ last.0 ∷ [] = start.1 ∙ ap (λ l. seen ++ l) last.1 in
     let at : get_elem? whole s.count ≡ some last.0 = ap (λ l. get_elem? l s.count) is ∙ at_last seen last.0 s.count (sym before) in

@@ -1,11 +1,12 @@
 //! An asker, which reads the board.
 
-ghost use Rattle.std.specs.Prelude.{◌≡◌, ◌≤◌, List, IfNone, IfSome, IsNone, IsSome, IsTrue, IsFalse};
+ghost use Rattle.std.specs.Prelude.{◌≡◌, ◌≤◌, List, [], IfSome, IsNone, IsSome, IsTrue, IsFalse};
+ghost use Rattle.left_right.specs.Sides.{view};
 ghost use Rattle.board_entries.specs.declared.entry.Entry.{Entry};
-ghost use Rattle.clock_board.specs.Seats.{brought, known};
+ghost use Rattle.clock_board.specs.Seats.{brought, known, view_of};
 ghost use Rattle.clock_board.specs.Shelves.{longer, told};
 ghost use Rattle.clock_board.specs.Shown.{Shows};
-ghost use Rattle.clock_board.specs.Views.{StartsWith};
+ghost use Rattle.clock_board.specs.Views.{StartsWith, newcomer};
 
 use crate::rule::Look;
 use crate::{News, Published, Reading, Shelf, View};
@@ -21,6 +22,17 @@ pub struct Asker {
 }
 
 impl Asker {
+    /// An asker that knows of no entry, with this reader.
+    pub(crate) fn new(reader: Option<Reader<Shelf, View, Published>>) -> Asker
+        requires { view_of (λ r. view r.place) reader ≡ newcomer }
+        ensures { Shows result.kept [] × (known result ≡ newcomer) }
+    {
+        Asker {
+            reader,
+            kept: Shelf::blank(),
+        }
+    }
+
     /// What is told of a millisecond: by the board, or by the asker's own copy where it can't be read.
     pub fn ask(&mut self, civil: &Civil, ms: u64) -> Reading
         ensures told { (list : List Entry) → Shows self.new.kept list → result.told ≡ told list ms }
@@ -60,13 +72,13 @@ impl Asker {
         ensures rises { self.old.kept.count ≤ self.new.kept.count }
         ensures seen { StartsWith (known self.new).seen (known self.old).seen × ((known self.new).told ≡ (known self.old).told) }
     {
-        let Some(shelf) = self.look() else {
+        let Some(read) = self.look() else {
             return false;
         };
-        if shelf.count < self.kept.count {
+        if read.count < self.kept.count {
             return false;
         }
-        self.kept = shelf;
+        self.kept = read;
         true
     }
 

@@ -5,8 +5,8 @@ ghost use Rattle.clock_board.specs.Seats.{known, published};
 ghost use Rattle.clock_board.specs.Shown.{Shows};
 ghost use Rattle.clock_board.specs.Views.{newcomer};
 
-use crate::{Asker, Shelf, Tracker};
-use std::alloc::{AllocError, AllocFailed, Global};
+use crate::{Asker, Tracker};
+use std::alloc::{AllocError, Global};
 
 /// The most askers of a board.
 pub const MOST_READERS: u8 = 4;
@@ -34,10 +34,7 @@ pub fn make(alloc: Global, readers: u8) -> Result<(Tracker, Vec<Asker>), BoardFa
     // A place for each asker, and one for the reader of the news that it learns.
     let tracker = Tracker::new(alloc, 2 * readers as usize)?;
     for _ in 0..readers {
-        askers.push_reserved(Asker {
-            reader: tracker.reader(),
-            kept: Shelf::blank(),
-        });
+        askers.push_reserved(Asker::new(tracker.reader()));
     }
     Ok((tracker, askers))
 }

@@ -22,7 +22,8 @@ fn has(entry: &Entry, ms: u64) -> bool
 
 // The entry in this place, where it has the millisecond, or else the one before.
 fn or_before(before: Option<Entry>, laid: Option<Entry>, ms: u64) -> Option<Entry>
-    ensures { plain_or_none result ≡ or_laid ms (plain_or_none before) laid }
+    ensures last { plain_or_none result ≡ or_laid ms (plain_or_none before) laid }
+    ensures has { IfSome before (λ e. has (plain e) ms ≡ true) → IfSome result (λ e. has (plain e) ms ≡ true) }
 {
     match laid {
         None => before,

@@ -1,9 +1,12 @@
 //! What the tracker does.
 
-ghost use Rattle.std.specs.Prelude.{◌≡◌, ◌<◌, ◌≤◌, [], ◌∷◌, ◌++◌, IfOk, IfSome, MatchResult, length};
+ghost use Rattle.std.specs.Prelude.{◌≡◌, ◌<◌, ◌≤◌, [], ◌∷◌, ◌++◌, IfOk, IfSome, MatchResult, drop, fold, length};
+ghost use Rattle.crossbeam_utils.specs.Register.{TurnsAt};
 ghost use Rattle.left_right.specs.Sides.{view};
-ghost use Rattle.clock_board.specs.Shelves.{told};
-ghost use Rattle.clock_board.specs.Seats.{published};
+ghost use Rattle.clock_board.specs.declared.shelf.Shelf.{Shelf};
+ghost use Rattle.clock_board.specs.Rule.{Keeps, Sees};
+ghost use Rattle.clock_board.specs.Seats.{published, view_of};
+ghost use Rattle.clock_board.specs.Shelves.{after_entry, told};
 ghost use Rattle.clock_board.specs.Shown.{Shows};
 ghost use Rattle.clock_board.specs.Views.{informed, newcomer};
 
@@ -17,19 +20,37 @@ use left_right::writer::Writer;
 use std::alloc::{AllocError, Global};
 use std::sync::Wait;
 
+// Shows readers the entries that are pending. Adding them takes no memory, so this can't fail.
+fn show<R: Wait>(
+    writer: Writer<Shelf, Entry, View, Published>,
+    rt: &R,
+) -> Writer<Shelf, Entry, View, Published>
+    requires { (next : Shelf) → next ≡ fold after_entry writer.desk.shown.value (drop writer.behind writer.log.items) → TurnsAt Keeps writer.desk.place.id (view writer.desk.place) writer.desk.shown.value next Sees }
+    ensures value { result.desk.shown.value ≡ fold after_entry writer.desk.shown.value (drop writer.behind writer.log.items) }
+    ensures all { drop result.behind result.log.items ≡ [] }
+    ensures rule { Sees (view writer.desk.place) writer.desk.shown.value result.desk.shown.value (view result.desk.place) }
+{
+    let (writer, shown) = writer.publish_as::<Look, R>(rt);
+    let Ok(()) = shown else { unreachable!() };
+    writer
+}
+
 impl Tracker {
     /// A tracker that has published nothing, with room for so many readers.
     pub(crate) fn new(alloc: Global, readers: usize) -> Result<Tracker, AllocError>
         requires { (0 < readers) × (readers ≤ 8) }
         ensures { IfOk result (λ t. published t ≡ []) }
     {
-        let writer = Writer::new(alloc, Shelf::blank(), Shelf::blank(), readers)?;
+        let blank = Shelf::blank();
+        let writer = Writer::new(alloc, blank, blank, readers)?;
         Ok(Tracker { writer })
     }
 
     /// A reader of the board, if a place is found for it.
     pub(crate) fn reader(&self) -> Option<Reader<Shelf, View, Published>>
-        ensures { IfSome result (λ r. view r.place ≡ newcomer) }
+        ensures view { IfSome result (λ r. view r.place ≡ newcomer) }
+        ensures table { IfSome result (λ r. r.place.table_id ≡ self.now.writer.desk.place.table_id) }
+        ensures new { view_of (λ r. view r.place) result ≡ newcomer }
     {
         self.writer.factory().reader().ok()
     }
@@ -50,11 +71,10 @@ impl Tracker {
         ensures { MatchResult result.1 (λ _. published result.0 ≡ published self ++ entry ∷ []) (λ _. published result.0 ≡ published self) }
     {
         let Tracker { mut writer } = self;
-        if writer.append(entry).is_err() {
+        let Ok(()) = writer.append(entry) else {
             return (Tracker { writer }, Err(BoardFault::NoMemory));
-        }
-        let (writer, shown) = writer.publish_as::<Look, R>(rt);
-        let Ok(()) = shown else { unreachable!() };
+        };
+        let writer = show(writer, rt);
         (Tracker { writer }, Ok(()))
     }
 
