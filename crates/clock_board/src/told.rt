@@ -1,6 +1,6 @@
 //! What a shelf tells of a millisecond.
 
-ghost use Rattle.std.specs.Prelude.{◌≡◌, true, List, [], map, Some, IfSome};
+ghost use Rattle.std.specs.Prelude.{◌≡◌, ◌%◌, true, List, [], map, None, Some, IfSome, slice_index_or};
 ghost use Rattle.board_entries.specs.declared.entry.Entry.{Entry};
 ghost use Rattle.board_entries.specs.Board.{has, last_entries, last_with, told_by};
 ghost use Rattle.board_entries.specs.Plain.{plain};
@@ -76,8 +76,15 @@ impl Shelf {
     {
         let mut found = None;
         for n in self.count.saturating_sub(LAST_ENTRIES as u32)..self.count {
-            found = or_before(found, self.entries[n as usize % LAST_ENTRIES], ms);
+            found = or_before(found, self.laid(n), ms);
         }
         found
+    }
+
+    // What lies in the place of the entry of this number.
+    fn laid(&self, n: u32) -> Option<Entry>
+        ensures { result ≡ slice_index_or self.now.entries (n % LAST_ENTRIES) None }
+    {
+        self.entries[n as usize % LAST_ENTRIES]
     }
 }
