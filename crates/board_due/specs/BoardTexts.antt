@@ -1,5 +1,5 @@
 -- The lines that `board` prints.
-use Rattle.std.specs.Prelude.{ℕ, List, [], ◌∷◌, ◌++◌, codes}
+use Rattle.std.specs.Prelude.{ℕ, List, ◌∷◌, ◌++◌, codes}
 use Rattle.std.specs.Fmt.{decimal}
 use Rattle.definitions.specs.time.Spelling.{minute_text}
 use Rattle.formats.specs.Bytes.{line, space}

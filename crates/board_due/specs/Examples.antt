@@ -2,7 +2,6 @@
 use Rattle.std.specs.Prelude.{ℕ, Some, List, [], ◌∷◌}
 use Rattle.definitions.specs.declared.answer.Answer.TheVariants as answers
 use Rattle.definitions.specs.examples.Sequences.{from_place}
-use Rattle.board_entries.specs.Board.{PlainEntry}
 use Rattle.board_entries.specs.Examples.{in_june}
 use Rattle.follow_due.specs.Examples.{open_told, told_of, two_minutes}
 use Rattle.follow_due.specs.declared.window_report.WindowReport.{WindowReport}

@@ -5,7 +5,7 @@ ghost use Rattle.std.specs.Prelude.{◌≡◌, [], ◌∷◌, ◌++◌, codes};
 ghost use Rattle.definitions.specs.examples.Sequences.{from_place};
 ghost use Rattle.formats.specs.Bytes.{line};
 ghost use Rattle.board_entries.specs.Examples.{decided, in_june, two_windows};
-ghost use Rattle.board_due.specs.BoardAnswers.{AreCounts, board_text, entries_of};
+ghost use Rattle.board_due.specs.BoardAnswers.{board_text, entries_of};
 ghost use Rattle.board_due.specs.BoardTexts.{bad_query_line, too_large_line};
 ghost use Rattle.board_due.specs.Examples.{four_queries, three_reports};
 ghost use Rattle.board_due.specs.Queries.{IsRefused, IsTextOf, queries_text};

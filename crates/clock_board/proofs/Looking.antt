@@ -1,5 +1,5 @@
 -- The walk over the last entries of a shelf: what is found so far, and what the entries from n on will add.
-use Rattle.std.proofs.Common.{◌≡◌, ℕ, suc, zero, ◌+◌, ◌-◌, ◌%◌, ◌<◌, ◌≤◌, Option, None, Some, List, [], ◌∷◌, map, length, get_or, drop, fold, sym, refl, ap, ◌∙◌, arith}
+use Rattle.std.proofs.Common.{◌≡◌, ℕ, suc, zero, ◌+◌, ◌-◌, ◌%◌, ◌<◌, ◌≤◌, Option, None, Some, List, [], ◌∷◌, map, length, get_or, drop, fold, sym, ap, ◌∙◌, arith}
 use mathlib.Core.Option.{some, some-injective, some-ne-none}
 use lib.ListN.{get_elem?}
 use Rattle.std.proofs.Math.ListN.{drop_of_length-le}
@@ -9,7 +9,7 @@ use Rattle.board_entries.specs.declared.entry.Entry.{Entry}
 use Rattle.board_entries.specs.Board.{PlainEntry, last_entries, last_with, or_before}
 use Rattle.board_entries.specs.Plain.{plain}
 use Rattle.clock_board.specs.declared.shelf.Shelf.{Shelf}
-use Rattle.clock_board.specs.Shelves.{or_laid, plain_or_none}
+use Rattle.clock_board.specs.Shelves.{or_laid}
 use Rattle.clock_board.specs.Shown.{Shows}
 use Rattle.clock_board.proofs.Shelving.{there}
 

@@ -1,10 +1,10 @@
--- The rule stays through each step: the six facts that the board's methods ask for.
-use Rattle.std.proofs.Common.{◌≡◌, ◌≢◌, ◌⊎◌, ℕ, zero, suc, ◌<◌, ◌≤◌, List, [], ◌∷◌, ◌++◌, set, sym, refl, ap, subst, ◌∙◌, inl, inr, ⊎_elim, arith}
+-- The rule stays through each step: the facts that the board's methods ask for.
+use Rattle.std.proofs.Common.{◌≡◌, ◌≢◌, ◌⊎◌, ℕ, ◌<◌, List, [], ◌∷◌, ◌++◌, set, sym, refl, ap, subst, ◌∙◌, ⊎_elim}
 use Rattle.std.proofs.lemmas.List.{append-nil, append_assoc}
-use mathlib.Core.Option.{some, some-injective, some-ne-none}
+use mathlib.Core.Option.{some}
 use lib.ListN.{get_elem?}
 use Rattle.left_right.specs.Register.{Admits, TurnsAt, Forks, Merges}
-use Rattle.atomic_table.proofs.Lists.{at_set, at_snoc, set_again}
+use Rattle.atomic_table.proofs.Lists.{at_set, at_snoc}
 use Rattle.board_entries.specs.declared.entry.Entry.{Entry}
 use Rattle.clock_board.specs.declared.shelf.Shelf.{Shelf}
 use Rattle.clock_board.specs.declared.view.View.{View}

@@ -1,12 +1,11 @@
 -- What a shelf shows: after an entry is added, and of an entry that was added.
-use Rattle.std.proofs.Common.{◌≡◌, ◌≢◌, ◌⊎◌, ℕ, zero, suc, ◌+◌, ◌%◌, ◌<◌, ◌≤◌, true, nat_lt, if◌then◌else◌, Option, None, Some, List, [], ◌∷◌, ◌++◌, length, get_or, set, sym, refl, ap, subst, ◌∙◌, inl, inr, ⊎_elim, arith}
+use Rattle.std.proofs.Common.{◌≡◌, ◌≢◌, ◌⊎◌, ℕ, zero, suc, ◌+◌, ◌%◌, ◌<◌, ◌≤◌, if◌then◌else◌, Option, None, Some, List, [], ◌∷◌, ◌++◌, length, set, sym, refl, ap, subst, ◌∙◌, inl, inr, ⊎_elim, arith}
 use mathlib.Core.Option.{some, some-injective, some-ne-none}
 use lib.ListN.{get_elem?}
 use Rattle.std.proofs.lemmas.Bool.{lt-ltb}
 use Rattle.std.proofs.lemmas.List.{length-append}
-use Rattle.atomic_table.proofs.Lists.{at_index, at_last, set_else, set_here, one_turn}
+use Rattle.atomic_table.proofs.Lists.{at_last, set_else, set_here, one_turn}
 use Rattle.board_entries.specs.declared.entry.Entry.{Entry}
-use Rattle.board_entries.specs.declared.told.TheConstants.{LAST_ENTRIES}
 use Rattle.clock_board.specs.declared.shelf.Shelf.{Shelf}
 use Rattle.clock_board.specs.declared.shelf.TheConstants.{MOST_ENTRIES}
 use Rattle.clock_board.specs.Shelves.{after_entry, with_entry}

@@ -1,5 +1,5 @@
 //! What no clause says: that askers find places, that readings are fresh, and askers in threads beside a tracker.
-ghost use Rattle.std.specs.Prelude.{◌≡◌, ◌+◌, ◌<◌, ◌≤◌, [], length};
+ghost use Rattle.std.specs.Prelude.{◌≡◌, ◌+◌, ◌<◌, []};
 ghost use Rattle.std.specs.Thread.{IsSync};
 ghost use Rattle.clock_board.specs.Seats.{published};
 

@@ -1,4 +1,4 @@
-use Rattle.std.proofs.Common.{◌≡◌, ◌+◌, ◌<◌, ◌∙◌, map, drop, fold, ap, arith}
+use Rattle.std.proofs.Common.{◌+◌, ◌<◌, ◌∙◌, map, drop, fold, ap, arith}
 use Rattle.board_entries.specs.Board.{or_before}
 use Rattle.board_entries.specs.Plain.{plain}
 use Rattle.clock_board.specs.Shelves.{or_laid, plain_or_none}

@@ -1,5 +1,5 @@
 -- What is pending is the entry alone, so the shelf that is shown is the one before with it.
-use Rattle.std.proofs.Common.{◌≡◌, ◌<◌, ◌∙◌, [], ◌∷◌, ◌++◌, fold, sym, refl, ap, subst, arith}
+use Rattle.std.proofs.Common.{◌≡◌, ◌<◌, ◌∙◌, [], ◌∷◌, ◌++◌, fold, refl, ap, subst, arith}
 use Rattle.left_right.specs.Sides.{view}
 use Rattle.clock_board.specs.declared.shelf.TheConstants.{MOST_ENTRIES}
 use Rattle.clock_board.specs.Shelves.{after_entry}
