@@ -1,0 +1,4 @@
+pub mod Queries
+pub mod BoardTexts
+pub mod BoardAnswers
+pub mod Examples

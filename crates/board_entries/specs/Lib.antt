@@ -1,0 +1,4 @@
+pub mod Stays
+pub mod Board
+pub mod Plain
+pub mod Examples

@@ -1,0 +1,3 @@
+pub mod Shelving
+pub mod Looking
+pub mod Ruling

@@ -1,0 +1,5 @@
+pub mod Shelves
+pub mod Shown
+pub mod Views
+pub mod Rule
+pub mod Seats

@@ -1,0 +1,35 @@
+//! The last entries and the number of all: what each copy of the board has.
+
+ghost use Rattle.clock_board.specs.Shelves.{after_entry};
+
+use board_entries::{Entry, LAST_ENTRIES};
+use left_right::Absorb;
+use std::alloc::AllocError;
+
+/// A board takes no more entries than this.
+pub const MOST_ENTRIES: u32 = 1_000_000_000;
+
+/// The last 64 entries, in a ring: the entry of a number, counted from 0, lies at that number modulo 64. Adding one takes no memory.
+#[derive(Clone, Copy)]
+pub struct Shelf {
+    pub(crate) entries: [Option<Entry>; LAST_ENTRIES],
+    pub(crate) count: u32,
+}
+
+impl Absorb<Entry> for Shelf {
+    type State = Shelf;
+
+    ghost state = { λ s. s };
+
+    ghost applied = { after_entry };
+
+    ghost never_fails = { Unit {0} };
+
+    fn absorb_first(&mut self, operation: &Entry, _other: &Shelf) -> Result<(), AllocError> {
+        if self.count < MOST_ENTRIES {
+            self.entries[self.count as usize % LAST_ENTRIES] = Some(*operation);
+            self.count += 1;
+        }
+        Ok(())
+    }
+}
