@@ -125,7 +125,7 @@ class Judge:
         self.silent = not any(any(costs) for sets in self.sets.values() for costs in sets)
         self.encodable = END - max(AHEAD[station] for station in heard.stations)
         self.all_slots = (1 << 8 * self.seconds) - 1
-        self.unions, self.duts = {}, {}
+        self.unions, self.duts, self.bounds = {}, {}, {}
 
     def last_minute(self, announced, second, minute):
         """The minute that holds the last slot."""
@@ -214,6 +214,11 @@ class Judge:
 
     def bound(self, block):
         """The bound of a block, or None."""
+        if block not in self.bounds:
+            self.bounds[block] = self.find_bound(block)
+        return self.bounds[block]
+
+    def find_bound(self, block):
         span, announced, second, lo, _ = block
         if span == "M":
             return self.cost(announced, second, lo) if self.is_legal(announced, second, lo) else None

@@ -67,7 +67,7 @@ class Enumeration:
             for price in slots:
                 price["?"] = min(price["0"], price["1"])
                 price["*"] = 0
-        self.texts, self.bounds, self.costs, self.groups = {}, {}, {}, {}
+        self.texts, self.told, self.bounds, self.costs, self.groups = {}, {}, {}, {}, {}
 
     def find_phase(self, receivers, logs):
         offsets = []
@@ -101,23 +101,34 @@ class Enumeration:
             self.texts[place] = radio.listing(station, utc_of(minute), announced)
         return self.texts[place]
 
-    def places(self, announced, second, first):
-        """The minutes and seconds of a walk, or none where it isn't walkable."""
-        found, minute = [], first
-        while len(found) < self.seconds:
-            if minute >= CENTURY or any(encoded_year(station, utc_of(minute)) > 2099 for station in self.stations):
+    def is_told(self, minute):
+        """Whether a minute lies before the year 2100, in UTC and in what each station tells in it."""
+        if minute not in self.told:
+            self.told[minute] = minute < CENTURY and all(
+                encoded_year(station, utc_of(minute)) < 2100 for station in self.stations)
+        return self.told[minute]
+
+    def minutes(self, announced, second, first):
+        """The minutes of a walk with how many seconds each has, or none where it isn't walkable."""
+        found, slots, minute = [], -second, first
+        while slots < self.seconds:
+            if not self.is_told(minute):
                 return []
-            long = announced and radio.is_leap_end(utc_of(minute))
-            if minute == first and second == 60 and not long:
-                return []
-            found += [(minute, now) for now in range(second if minute == first else 0, 61 if long else 60)]
+            found.append((minute, 61 if announced and radio.is_leap_end(utc_of(minute)) else 60))
+            slots += found[-1][1]
             minute += 1
-        return found[:self.seconds]
+        return found if second < found[0][1] else []
+
+    def seconds_of(self, minutes, second):
+        """Which second of its minute each slot holds."""
+        found = [now for _, long in minutes for now in range(long)]
+        return found[second:second + self.seconds]
 
     def carried(self, announced, second, first):
         """What the stations may carry in the slots, or none where the sequence isn't walkable."""
-        places = self.places(announced, second, first)
-        return [[self.text(station, minute, announced)[now] for minute, now in places] for station in self.stations] if places else []
+        minutes = self.minutes(announced, second, first)
+        texts = ["".join(self.text(station, minute, announced) for minute, _ in minutes) for station in self.stations]
+        return [text[second:second + self.seconds] for text in texts] if minutes else []
 
     def cost(self, announced, second, first):
         """What a sequence costs, or None where it isn't legal."""
@@ -130,25 +141,25 @@ class Enumeration:
         carried = self.carried(announced, second, first)
         if not carried or announced and second < 60 and carried == self.carried(0, second, first):
             return None
-        places = self.places(announced, second, first)
-        one_day = utc_of(places[0][0]).date() == utc_of(places[-1][0]).date()
+        minutes = self.minutes(announced, second, first)
+        one_day = utc_of(minutes[0][0]).date() == utc_of(minutes[-1][0]).date()
         return sum(
-            self.station_cost(station, places, text, one_day) for station, text in zip(self.stations, carried)
+            self.station_cost(station, minutes, second, text, one_day) for station, text in zip(self.stations, carried)
         )
 
-    def station_cost(self, station, places, text, one_day):
+    def station_cost(self, station, minutes, second, text, one_day):
         prices, told = self.prices[station], DUT_SECONDS.get(station, ()) if one_day else ()
         if not told:
             return sum(price[symbol] for price, symbol in zip(prices, text))
-        total, bound = 0, []
-        for price, (_, now), symbol in zip(prices, places, text):
+        total, tied = 0, []
+        for price, now, symbol in zip(prices, self.seconds_of(minutes, second), text):
             if now in told:
-                bound.append((price, told.index(now)))
+                tied.append((price, told.index(now)))
             else:
                 total += price[symbol]
         most = 8 if station == "msf" else 9
         values = (dut_text(station, tenths) for tenths in range(-most, most + 1))
-        return total + min(sum(price[value[n]] for price, n in bound) for value in values)
+        return total + min(sum(price[value[n]] for price, n in tied) for value in values)
 
     def bound(self, block):
         """The bound of a block, or None."""
