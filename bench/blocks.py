@@ -8,7 +8,7 @@ from functools import lru_cache
 from operator import getitem
 
 import radio
-from banks import BEGIN, END, GREATEST_COST, written
+from banks import BEGIN, END, written
 
 UNSCORED = 1 << max(map(len, radio.LOW.values()))
 # By how many minutes what a station encodes is ahead of UTC as the year 2099 ends.

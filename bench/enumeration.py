@@ -203,18 +203,31 @@ class Enumeration:
 
     def is_valid(self, text):
         """Whether a text that is a certificate's is a valid one."""
-        lines = text.split("\n")
-        if lines[1:8] != self.head():
+        if text.split("\n")[1:8] != self.head():
             return False
-        named = [None if line.endswith("-") else int(line.split()[1]) for line in lines[8:10]]
-        limit = min([(self.ceiling << 33) + 2 ** 33 - 1] + [key for key in named[1:] if key is not None])
-        steps = [line.split() for line in lines[10:-2] if not line.startswith("worker")]
-        steps = [(kind, (span, *map(int, block)), None if bound == "-" else int(bound)) for kind, span, *block, bound in steps]
+        named, limit, steps = self.parts_of(text)
         if not all(self.is_so(step, limit) for step in steps) or not self.covers(steps):
             return False
         leaves = sorted(self.key(bound, *block[1:4]) for kind, block, bound in steps if kind == "L")
         admitted = [key for key in leaves if key <= (self.ceiling << 33) + 2 ** 33 - 1]
         return named == (admitted + [None, None])[:2]
+
+    def parts_of(self, text):
+        """The keys that a text names, the limit that they give, and its steps."""
+        lines = text.split("\n")
+        named = [None if line.endswith("-") else int(line.split()[1]) for line in lines[8:10]]
+        limit = min([(self.ceiling << 33) + 2 ** 33 - 1] + [key for key in named[1:] if key is not None])
+        steps = [line.split() for line in lines[10:-2] if not line.startswith("worker")]
+        steps = [(kind, (span, *map(int, block)), None if bound == "-" else int(bound)) for kind, span, *block, bound in steps]
+        return named, limit, steps
+
+    def is_shortest(self, text):
+        """Of a valid one: no block above the limit is opened or a leaf, and the items stand in their own order."""
+        _, limit, steps = self.parts_of(text)
+        items = [block for _, block, _ in steps if block[0] == "Y"]
+        return items == sorted(items) and all(
+            self.key(bound, *block[1:4]) <= limit for kind, block, bound in steps if kind in "OL"
+        )
 
     def is_so(self, step, limit):
         """What a step claims is so, of a block that is one of the range."""

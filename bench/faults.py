@@ -97,13 +97,27 @@ def another_byte(text, judge, chance):
 # Numbers
 
 
+def misspelt(value):
+    """What is no number that may stand in place of this one."""
+    return ["00", "0" + value, "+1", "-0", "-1", "1" * 21, str(2 ** 64 + 1), "1.0", "0x1", "", "--", "1-", "\xb2", "1_0", "1e1"]
+
+
+def with_numbers_misspelt(text):
+    """For each number of the head and of the first step of each kind each way to misspell it."""
+    lines = text.split("\n")
+    first = [steps_of(lines, kind)[0] for kind in "OPEL" if steps_of(lines, kind)]
+    for at in list(range(2, 10)) + first:
+        for place in range(2, 7) if at >= STEPS else (1,):
+            for new in misspelt(lines[at].split(" ")[place]):
+                yield spoil(lines, at, field(lines[at], place, new)), shape(at)
+
+
 @fault
 def no_number(text, judge, chance):
     lines = text.split("\n")
     at = picked(chance, steps_of(lines) + list(range(2, 10)))
     place = 2 + chance.below(5) if at >= STEPS else 1
-    value = lines[at].split(" ")[place]
-    new = picked(chance, ["00", "0" + value, "+1", "-0", "-1", "1" * 21, str(2 ** 64 + 1), "1.0", "0x1", "", "--", "1-"])
+    new = picked(chance, misspelt(lines[at].split(" ")[place]))
     return spoil(lines, at, field(lines[at], place, new)), shape(at)
 
 
