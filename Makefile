@@ -80,6 +80,7 @@ bench: ## measures the program: speed, memory, and how often its answers are wro
 	bench/search
 	bench/reading
 	bench/irig-frames
+	bench/certificate-faults
 	bench/failures
 	bench/terminal
 	bench/wrong-answers

@@ -2,7 +2,7 @@
 
 It shares nothing with the program that it serves to measure. The telegrams are written here once more from the
 descriptions by PTB (DCF77), NPL (MSF), NIST (WWVB) and NICT (JJY), with this project's own choices where these leave
-one, as docs/DEFINITIONS.md and docs/FORMATS.md have them. No leap second is announced.
+one, as docs/DEFINITIONS.md and docs/FORMATS.md have them. Logs are made without a leap second; `listing` knows them too.
 """
 import calendar
 import random
@@ -146,6 +146,47 @@ def jjy(utc):
 
 
 TELEGRAMS = {"dcf77": dcf77, "msf": msf, "wwvb": wwvb, "jjy": jjy}
+
+# The seconds of which the minute doesn't tell what they carry: what others send at DCF77, DUT1 at MSF and WWVB.
+FREE = {"dcf77": range(1, 16), "msf": range(1, 17), "wwvb": (36, 37, 38, 40, 41, 42, 43), "jjy": ()}
+
+
+def is_leap_end(utc):
+    return (utc.month, utc.day, utc.hour, utc.minute) in ((6, 30, 23, 59), (12, 31, 23, 59))
+
+
+def warn(station, utc, second):
+    """Writes that a leap second comes at the end of this June or December."""
+    if station == "dcf77" and (utc.month, utc.day, utc.hour) in ((6, 30, 23), (12, 31, 23)):
+        second[19] = "1"
+    if station == "wwvb" and utc.month in (6, 12):
+        second[56] = "1"
+    if station == "jjy" and utc.month in (6, 12) and utc.day > 1:
+        second[53] = second[54] = "1"
+
+
+def lengthen(station, second):
+    """Makes a minute one of 61 seconds."""
+    if station == "msf":
+        second.insert(17, "0")
+        return
+    if station != "wwvb":
+        second[59] = "0"
+    second.append("-" if station == "dcf77" else "M")
+
+
+def listing(station, utc, announced=False):
+    """What the station may send in a minute, second by second: ? is 0 or 1, and * a second that isn't scored."""
+    second = TELEGRAMS[station](utc)
+    for place in FREE[station]:
+        second[place] = "?"
+    if announced:
+        warn(station, utc, second)
+    if station == "jjy" and utc.minute in (15, 45):
+        second[40:49], second[50:56] = "*" * 9, "?" * 6
+    if announced and is_leap_end(utc):
+        lengthen(station, second)
+    return "".join(second)
 
 
 def symbols(station, begin, seconds):
