@@ -19,6 +19,7 @@ const ENTRIES: u32 = 1_000;
 const IN_JUNE: u32 = 12_855_256;
 
 // A minute from millisecond 0 on, of which this minute was decided.
+#[tactic(auto, using(crate::proofs::Staying::minute_stays))]
 fn entry(first: u32) -> Entry
     requires { first < 50_000_000 }
 {
