@@ -177,19 +177,17 @@ fn both_ask<R: Threads + Sync>(
     )
 }
 
-// Whether all was published, how many answers were wrong, and what the first asker then answers when it has the news.
+// Whether all was published, and how many answers were wrong.
 fn beside<R: Threads + Wait + Sync>(
     rt: &R,
     civil: &Civil,
     tracker: &mut Tracker,
-    askers: &mut [Asker],
-) -> Option<(bool, (u32, u32), Reading)>
+    one: &mut Asker,
+    other: &mut Asker,
+) -> (bool, (u32, u32))
     requires { published tracker.old ≡ [] }
 {
-    let [one, other] = askers else {
-        return None;
-    };
-    let (all, wrong) = join_mut(
+    join_mut(
         rt,
         &mut || -> bool
             requires { IsSync R.row × (published tracker.now ≡ []) }
@@ -197,7 +195,21 @@ fn beside<R: Threads + Wait + Sync>(
         &mut || -> (u32, u32)
             requires { IsSync R.row }
         { both_ask(rt, civil, one, other) },
-    );
+    )
+}
+
+// The same, and what an asker then answers when it has the news.
+fn beside_and_after<R: Threads + Wait + Sync>(
+    rt: &R,
+    civil: &Civil,
+    tracker: &mut Tracker,
+    askers: &mut Vec<Asker>,
+) -> Option<(bool, (u32, u32), Reading)>
+    requires { published tracker.old ≡ [] }
+{
+    let mut one = askers.pop()?;
+    let mut other = askers.pop()?;
+    let (all, wrong) = beside(rt, civil, tracker, &mut one, &mut other);
     one.learn(tracker.news());
     Some((all, wrong, one.ask(civil, 0)))
 }
@@ -206,7 +218,7 @@ fn beside<R: Threads + Wait + Sync>(
 fn askers_beside_the_tracker(rt: HostRuntime) -> Result<(), Fail> {
     let civil = Civil::make(rt.alloc())?;
     let (mut tracker, mut askers) = make(rt.alloc(), 2)?;
-    let seen = beside(&rt, &civil, &mut tracker, askers.as_mut_slice());
+    let seen = beside_and_after(&rt, &civil, &mut tracker, &mut askers);
     tracker.end(&rt);
     assert!(rt; seen == Some((true, (0, 0), reading(last_of(ENTRIES), ENTRIES, true))));
     Ok(())
