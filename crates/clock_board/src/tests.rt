@@ -166,15 +166,7 @@ fn both_ask<R: Threads + Sync>(
     one: &mut Asker,
     other: &mut Asker,
 ) -> (u32, u32) {
-    join_mut(
-        rt,
-        &mut || -> u32
-            requires { IsSync R.row }
-        { asks(civil, one) },
-        &mut || -> u32
-            requires { IsSync R.row }
-        { asks(civil, other) },
-    )
+    join_mut(rt, &mut || asks(civil, one), &mut || asks(civil, other))
 }
 
 // Whether all was published, and how many answers were wrong.
