@@ -1,6 +1,5 @@
 -- What words ask of `board`, and what is refused of them.
 use Rattle.std.specs.Prelude.{ℕ, ◌≡◌, List, Ok, Err}
-use Rattle.formats.specs.declared.words.Asked.{Asked}
 use Rattle.formats.specs.declared.words.WordFault.TheVariants.{Usage}
 use Rattle.formats.specs.Orders.{Order, Checked, ◌>>=◌, order_of}
 use Rattle.formats.specs.Orders.Order.{Board}
