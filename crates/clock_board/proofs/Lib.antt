@@ -1,3 +1,4 @@
 pub mod Shelving
 pub mod Looking
 pub mod Ruling
+pub mod Staying

@@ -19,6 +19,7 @@ const ENTRIES: u32 = 1_000;
 const IN_JUNE: u32 = 12_855_256;
 
 // A minute from millisecond 0 on, of which this minute was decided.
+#[tactic(auto, using(crate::proofs::Staying::minute_stays))]
 fn entry(first: u32) -> Entry
     requires { first < 50_000_000 }
 {
@@ -165,30 +166,20 @@ fn both_ask<R: Threads + Sync>(
     one: &mut Asker,
     other: &mut Asker,
 ) -> (u32, u32) {
-    join_mut(
-        rt,
-        &mut || -> u32
-            requires { IsSync R.row }
-        { asks(civil, one) },
-        &mut || -> u32
-            requires { IsSync R.row }
-        { asks(civil, other) },
-    )
+    join_mut(rt, &mut || asks(civil, one), &mut || asks(civil, other))
 }
 
-// Whether all was published, how many answers were wrong, and what the first asker then answers when it has the news.
+// Whether all was published, and how many answers were wrong.
 fn beside<R: Threads + Wait + Sync>(
     rt: &R,
     civil: &Civil,
     tracker: &mut Tracker,
-    askers: &mut [Asker],
-) -> Option<(bool, (u32, u32), Reading)>
+    one: &mut Asker,
+    other: &mut Asker,
+) -> (bool, (u32, u32))
     requires { published tracker.old ≡ [] }
 {
-    let [one, other] = askers else {
-        return None;
-    };
-    let (all, wrong) = join_mut(
+    join_mut(
         rt,
         &mut || -> bool
             requires { IsSync R.row × (published tracker.now ≡ []) }
@@ -196,7 +187,21 @@ fn beside<R: Threads + Wait + Sync>(
         &mut || -> (u32, u32)
             requires { IsSync R.row }
         { both_ask(rt, civil, one, other) },
-    );
+    )
+}
+
+// The same, and what an asker then answers when it has the news.
+fn beside_and_after<R: Threads + Wait + Sync>(
+    rt: &R,
+    civil: &Civil,
+    tracker: &mut Tracker,
+    askers: &mut Vec<Asker>,
+) -> Option<(bool, (u32, u32), Reading)>
+    requires { published tracker.old ≡ [] }
+{
+    let mut one = askers.pop()?;
+    let mut other = askers.pop()?;
+    let (all, wrong) = beside(rt, civil, tracker, &mut one, &mut other);
     one.learn(tracker.news());
     Some((all, wrong, one.ask(civil, 0)))
 }
@@ -205,7 +210,7 @@ fn beside<R: Threads + Wait + Sync>(
 fn askers_beside_the_tracker(rt: HostRuntime) -> Result<(), Fail> {
     let civil = Civil::make(rt.alloc())?;
     let (mut tracker, mut askers) = make(rt.alloc(), 2)?;
-    let seen = beside(&rt, &civil, &mut tracker, askers.as_mut_slice());
+    let seen = beside_and_after(&rt, &civil, &mut tracker, &mut askers);
     tracker.end(&rt);
     assert!(rt; seen == Some((true, (0, 0), reading(last_of(ENTRIES), ENTRIES, true))));
     Ok(())
