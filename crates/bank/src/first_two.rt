@@ -10,7 +10,7 @@ ghost use Rattle.definitions.specs.answers.FirstTwo.{AreLeastTwo, IsWindowKey};
 ghost use Rattle.field_tables.specs.Grids.{AreGrids, grid_costs};
 ghost use Rattle.workers.specs.Searches.{AreItemsOf};
 
-use bounds::{Block, ItemsFault, announced_last, items, ranked};
+use bounds::{Block, ItemsFault, announced_last, items};
 use civil::Civil;
 use field_tables::{Tables, TablesFault};
 use race_words::{Race, RaceFault};
@@ -129,6 +129,5 @@ fn search_order(
     ensures { IfOk result (λ list. AreItemsOf tables.now.window list.items) }
 {
     let items = items(alloc, civil, window)?;
-    let ranked = ranked(alloc, tables, &items)?;
-    announced_last(alloc, &ranked)
+    announced_last(alloc, tables, &items)
 }

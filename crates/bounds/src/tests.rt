@@ -109,7 +109,7 @@ fn ranks_the_years_of_the_last_minutes(rt: HostRuntime) -> Result<(), Fail> {
             (Span::Year, FROM, CENTURY)
         );
     }
-    let parted = announced_last(rt.alloc(), &order)?;
+    let parted = announced_last(rt.alloc(), &tables, &list)?;
     assert_eq!(rt; parted.len(), 121);
     for (i, block) in parted.iter().enumerate() {
         let place = if i < 60 { (false, i) } else { (true, i - 60) };
