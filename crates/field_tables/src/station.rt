@@ -14,7 +14,6 @@ ghost use Rattle.field_tables.specs.Minutes.{sequence_at};
 ghost use Rattle.field_tables.specs.Leaps.{IsLeapCost};
 ghost use Rattle.field_tables.specs.Sums.{IsOf};
 
-use crate::bound::cost_of_sets;
 use block_costs::StationBlocks;
 use civil::Civil;
 use definitions::Block;
@@ -117,7 +116,7 @@ impl StationSums {
             return None;
         }
         Some(LeapCost {
-            cost: cost_of_sets(columns, &walk.sets),
+            cost: columns.sets_cost(&walk.sets),
             shows: walk.shows,
         })
     }

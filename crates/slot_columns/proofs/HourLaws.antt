@@ -1,5 +1,5 @@
 -- Seconds that carry the same in each hour.
-use Rattle.std.proofs.Common.{◌≡◌, ℕ, ◌+◌, ◌*◌, ◌/◌, ◌%◌, ◌<◌, ◌≤◌, Bool, true, false, List, get_or, slice_index, ap, sym, ◌∙◌, subst, arith}
+use Rattle.std.proofs.Common.{◌≡◌, ℕ, ◌+◌, ◌*◌, ◌/◌, ◌%◌, ◌<◌, ◌≤◌, List, slice_index, ap, sym, ◌∙◌, arith}
 use Rattle.signal_base.specs.declared.limits.TheConstants.{MOST_RECEIVERS}
 use Rattle.symbol_cost.specs.Grid.{Grid, cost_at}
 use Rattle.symbol_cost.specs.declared.limits.TheConstants.{RECEIVER_COST}
