@@ -15,7 +15,7 @@ use civil::Civil;
 use definitions::Block;
 use signal_base::GREATEST_COST;
 
-impl WindowSums {
+impl WindowSums<'_> {
     /// What the unions of a block cost whose walks have 60 seconds in each minute. None exactly where none of its sequences
     /// is walkable.
     pub fn union_bound(&self, block: &Block) -> Option<u32>

@@ -29,7 +29,7 @@ pub fn meets_leap_end(civil: &Civil, lo: u32, end: u32) -> bool
     false
 }
 
-impl WindowSums {
+impl WindowSums<'_> {
     /// The bound of an announced minute whose walk may meet a leap second, where the stations know at once what it costs them:
     /// the sequence is legal where it shows the announcement at some station.
     pub fn leap_minute_bound(&self, minute: &Block) -> Option<Option<u32>>

@@ -66,12 +66,13 @@ fn come_to(sent: &mut Sent, civil: &Civil, station: Station, announced: bool, pl
 }
 
 // What the seconds of a minute carry, if the station can encode it.
+#[tactic(auto, using(crate::proofs::SentLaws::are_sent, crate::proofs::SentLaws::none_sent))]
 fn sent_in(civil: &Civil, station: Station, announced: bool, t: u32) -> Sent
     requires { t < century_minutes }
     ensures { AreSent station announced t result }
 {
-    match telegram(civil, station, t, announced) {
-        Some(sets) => sets,
-        None => [0; 61],
-    }
+    let Some(sets) = telegram(civil, station, t, announced) else {
+        return [0; 61];
+    };
+    sets
 }
