@@ -23,3 +23,29 @@ parted blocks front list same is =
     (IsPermutation-trans blocks (others blocks ++ announced blocks) (front ++ announced blocks)
     (IsPermutation-filter_both (λ b. not b.announced) (λ b. b.announced) (λ b. twice b.announced) blocks)
     (IsPermutation-append_left (announced blocks) (others blocks) front same))
+
+pub ranked-requires : goal.ranked-requires
+ranked-requires c =
+    let is_block = IsBlock c.args.tables.now.window in
+    let blocks = c.args.blocks.now in
+    let each = All-filter (λ (b : Block). not b.announced) is_block blocks (All-from_recursion is_block blocks c.requires) in
+    subst (λ (xs : List Block). AllByRecursion is_block xs) (sym (c.deref.ensures.value ∙ c.in_ok-others.ensures)) (recursion_from_All is_block (others blocks) each)
+
+pub returns-clause-same : goal.returns-clause-same
+returns-clause-same c =
+    let blocks = c.args.blocks.now in
+    let front = c.in_ok-front.front.items in
+    parted blocks front c.in_ok-list.list.items
+    (subst (λ (xs : List Block). IsPermutation xs front) (c.deref.ensures.value ∙ c.in_ok-others.ensures) c.in_ok-front.ensures.same)
+    (c.in_ok-list.ensures ∙ ap (λ (xs : List Block). xs ++ announced blocks) c.deref-2.ensures.value)
+
+pub returns-clause-parted : goal.returns-clause-parted
+returns-clause-parted c =
+    let blocks = c.args.blocks.now in
+    let front = c.in_ok-front.front.items in
+    record {
+      front = front;
+      same = subst (λ (xs : List Block). IsPermutation xs front) (c.deref.ensures.value ∙ c.in_ok-others.ensures) c.in_ok-front.ensures.same;
+      ranked = c.in_ok-front.ensures.in_order;
+      parted = c.in_ok-list.ensures ∙ ap (λ (xs : List Block). xs ++ announced blocks) c.deref-2.ensures.value;
+    }
