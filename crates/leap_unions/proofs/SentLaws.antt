@@ -1,5 +1,5 @@
 -- What a telegram says of the seconds of a minute.
-use Rattle.std.proofs.Common.{◌≡◌, ℕ, ◌<◌, Bool, true, nat_lt, if◌then◌else◌, List, [], get_or, map, Option, Some, None, unwrap_or, ap, ◌∙◌, arith}
+use Rattle.std.proofs.Common.{◌≡◌, ℕ, Bool, true, nat_lt, if◌then◌else◌, List, [], get_or, map, Option, Some, None, unwrap_or, ap, ◌∙◌, arith}
 use Rattle.std.specs.List.{range_with_len}
 use Rattle.std.proofs.lemmas.Bool.{lt-ltb}
 use Rattle.std.proofs.lemmas.List.FromFn.{get_or-map-range_with_len}

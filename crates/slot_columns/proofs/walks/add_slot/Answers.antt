@@ -1,4 +1,4 @@
-use Rattle.std.proofs.Common.{◌≡◌, ℕ, ◌+◌, ◌/◌, ◌%◌, ◌<◌, slice_index, ap, arith}
+use Rattle.std.proofs.Common.{◌≡◌, ◌+◌, ◌/◌, ◌%◌, ◌<◌, slice_index, ap, arith}
 use Rattle.slot_columns.proofs.HourLaws.{in_any_hour, looked_up}
 use Rattle.slot_columns.proofs.walks.add_slot.Goals as goal
 

@@ -1,4 +1,4 @@
-use Rattle.std.proofs.Common.{◌≡◌, ◌%◌, ℕ, arith}
+use Rattle.std.proofs.Common.{◌%◌, arith}
 use Rattle.definitions.proofs.CostLaws.{sum_below_none, sum_below_more}
 use Rattle.slot_columns.specs.Days.{day_cost}
 use Rattle.slot_columns.proofs.walks.walk_row.Goals as goal
