@@ -31,7 +31,7 @@ module _ (grid : Grid) (columns : List (List ℕ)) (p k : ℕ) where
       let at = there (u + m) in
       let few = bound (u + m) reached in
       let found : slice_index row (slice_index column (u + m)) ≡ cost u =
-          is.each (slice_index column (u + m)) few ∙ ap (λ set. cost_in_slot grid set k) at in
+      is.each (slice_index column (u + m)) few ∙ ap (λ set. cost_in_slot grid set k) at in
       (found, omega (arith, found, is.small (slice_index column (u + m)) few))
 
   -- and it costs in a minute of the day what it does in that minute of the first hour

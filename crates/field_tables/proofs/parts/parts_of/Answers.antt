@@ -11,9 +11,9 @@ returns c =
     let seconds = c.args.window.now.seconds in
     c.in_ok-add_if_heard-4.ensures
     ∙ ap (λ (xs : List Scope). xs ++ scope_if stations seconds Jjy)
-        (c.in_ok-add_if_heard-3.ensures
-        ∙ ap (λ (xs : List Scope). xs ++ scope_if stations seconds Wwvb)
-            (c.in_ok-add_if_heard-2.ensures
-            ∙ ap (λ (xs : List Scope). xs ++ scope_if stations seconds Msf)
-                (c.in_ok-add_if_heard.ensures ∙ ap (λ (xs : List Scope). xs ++ scope_if stations seconds Dcf77) c.in_ok-parts.ensures)))
+    (c.in_ok-add_if_heard-3.ensures
+    ∙ ap (λ (xs : List Scope). xs ++ scope_if stations seconds Wwvb)
+    (c.in_ok-add_if_heard-2.ensures
+    ∙ ap (λ (xs : List Scope). xs ++ scope_if stations seconds Msf)
+    (c.in_ok-add_if_heard.ensures ∙ ap (λ (xs : List Scope). xs ++ scope_if stations seconds Dcf77) c.in_ok-parts.ensures)))
     ∙ one_by_one stations seconds

@@ -29,9 +29,9 @@ loop-k-preserved c =
     let below = c.loop-k-test.true in
     let within : k < length tape = omega (arith, before.long, below, c.requires.count) in
     let encoded : encoded_year station place.0 ≤ 2099 =
-        subst (λ (p : ℕ × ℕ). encoded_year station p.0 ≤ 2099) (sym before.here) (c.requires.encoded k below) in
+    subst (λ (p : ℕ × ℕ). encoded_year station p.0 ≤ 2099) (sym before.here) (c.requires.encoded k below) in
     let set_is : new ≡ set_at station q k =
-        c.come_to.ensures encoded place.1 (omega (arith, before.second)) ∙ ap (allowed station q.announced) before.here in
+    c.come_to.ensures encoded place.1 (omega (arith, before.second)) ∙ ap (allowed station q.announced) before.here in
     record {
       here = on.0;
       second = on.1.second;
