@@ -45,13 +45,6 @@ fn grid(alloc: Global, station: Station, table: &CostTable) -> Result<CostGrid, 
     Ok(grid)
 }
 
-fn unions(alloc: Global, civil: &Civil, station: Station) -> Result<Unions, Fail>
-    ensures { IfOk result (λ unions. unions.station ≡ station) }
-{
-    let unions = Unions::make(alloc, Parts::make(alloc, civil, station)?)?;
-    Ok(unions)
-}
-
 fn walks<'a>(
     alloc: Global,
     unions: &'a Unions,
@@ -75,7 +68,7 @@ const RUN_END: u32 = 12_854_340 + 1440;
 #[test]
 fn the_call_sign_costs_nothing(rt: HostRuntime) -> Result<(), Fail> {
     let civil = Civil::make(rt.alloc())?;
-    let unions = unions(rt.alloc(), &civil, Station::Jjy)?;
+    let unions = Unions::make(rt.alloc(), Parts::make(rt.alloc(), &civil, Station::Jjy)?)?;
     let walks = walks(rt.alloc(), &unions, Station::Jjy, &table(20, 10))?;
     for (second, minute, cost) in [
         (40, CALL, Some(120 + 120)),
@@ -105,7 +98,7 @@ const FRIDAY: u32 = 4 * 1440;
 #[test]
 fn a_walk_to_the_next_run_costs_no_less(rt: HostRuntime) -> Result<(), Fail> {
     let civil = Civil::make(rt.alloc())?;
-    let unions = unions(rt.alloc(), &civil, Station::Jjy)?;
+    let unions = Unions::make(rt.alloc(), Parts::make(rt.alloc(), &civil, Station::Jjy)?)?;
     let walks = walks(rt.alloc(), &unions, Station::Jjy, &table(20, 10))?;
     for (second, minute, least) in [
         (0, RUN_END - 1, 180 + 120 + 180 + 120),
@@ -139,7 +132,7 @@ fn least_across(walks: &StationWalks, p: u8, t: u32) -> Option<u32> {
 #[test]
 fn one_value_of_dut1_is_told_in_a_day(rt: HostRuntime) -> Result<(), Fail> {
     let civil = Civil::make(rt.alloc())?;
-    let unions = unions(rt.alloc(), &civil, Station::Msf)?;
+    let unions = Unions::make(rt.alloc(), Parts::make(rt.alloc(), &civil, Station::Msf)?)?;
     let walks = walks(rt.alloc(), &unions, Station::Msf, &table(10, 20))?;
     // 2024-01-10T10:00Z, and the last minute of that day.
     for (minute, cost) in [(12_636_600, 180 + 190 + 180 + 190), (12_637_439, 4 * 180)] {
@@ -157,7 +150,7 @@ fn one_value_of_dut1_is_told_in_a_day(rt: HostRuntime) -> Result<(), Fail> {
 #[test]
 fn the_call_sign_hides_the_announcement(rt: HostRuntime) -> Result<(), Fail> {
     let civil = Civil::make(rt.alloc())?;
-    let unions = unions(rt.alloc(), &civil, Station::Jjy)?;
+    let unions = Unions::make(rt.alloc(), Parts::make(rt.alloc(), &civil, Station::Jjy)?)?;
     let walks = walks(rt.alloc(), &unions, Station::Jjy, &table(20, 10))?;
     for (second, minute, shown) in [
         (40, CALL, Some(false)),
@@ -192,7 +185,7 @@ const WARNED: u32 = 12_843_360;
 #[test]
 fn walks_through_two_runs_show_the_announcement(rt: HostRuntime) -> Result<(), Fail> {
     let civil = Civil::make(rt.alloc())?;
-    let unions = unions(rt.alloc(), &civil, Station::Jjy)?;
+    let unions = Unions::make(rt.alloc(), Parts::make(rt.alloc(), &civil, Station::Jjy)?)?;
     let walks = walks(rt.alloc(), &unions, Station::Jjy, &table(20, 10))?;
     for (second, minute, shown) in [
         (51, WARNED - 1, Some(false)),
@@ -227,7 +220,7 @@ fn shows_over_runs(walks: &StationWalks, civil: &Civil, p: u8, t0: u32) -> Optio
 #[test]
 fn hours_before_the_warning_never_show_it(rt: HostRuntime) -> Result<(), Fail> {
     let civil = Civil::make(rt.alloc())?;
-    let unions = unions(rt.alloc(), &civil, Station::Jjy)?;
+    let unions = Unions::make(rt.alloc(), Parts::make(rt.alloc(), &civil, Station::Jjy)?)?;
     let walks = walks(rt.alloc(), &unions, Station::Jjy, &table(20, 10))?;
     let end = walks.parts().end();
     assert!(rt; WARNED < end);
@@ -248,7 +241,7 @@ fn a_floor_is_what_the_cheapest_walk_costs(rt: HostRuntime) -> Result<(), Fail> 
         (Station::Jjy, 40, CALL, Some(2 * 120)),
         (Station::Jjy, 50, CALL + FRIDAY + 1440, Some(150 + 3 * 120)),
     ] {
-        let unions = unions(rt.alloc(), &civil, station)?;
+        let unions = Unions::make(rt.alloc(), Parts::make(rt.alloc(), &civil, station)?)?;
         let walks = walks(rt.alloc(), &unions, station, &table(20, 10))?;
         let floor = floor(&walks, second, minute);
         assert!(rt; floor.is_some());
