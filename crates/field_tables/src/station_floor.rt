@@ -7,6 +7,7 @@ ghost use Rattle.minute_parts.specs.Parts.{IsInRun};
 ghost use Rattle.minute_parts.specs.Runs.{end_of_run};
 ghost use Rattle.minute_parts.specs.Unions.{AreRegular};
 ghost use Rattle.minute_parts.specs.Walks.{later_minutes};
+ghost use Rattle.walk_costs.specs.Crossings.{IsAcross};
 ghost use Rattle.walk_costs.specs.Walks.{IsRegularIn, last_minute};
 ghost use Rattle.field_tables.specs.Floors.{CostAtLeast};
 
@@ -25,8 +26,9 @@ struct Piece {
 
 impl StationSums {
     /// A floor of a block whose walks have 60 seconds in each minute: none of its sequences costs the station less. It is 0
-    /// where a walk goes over a change of summer time, or over the ends of two runs.
-    pub fn floor(&self, block: &Block) -> u32
+    /// where a walk goes over a change of summer time, or over the ends of two runs. A close one takes longer: each walk is
+    /// looked at that leaves its run.
+    pub fn floor(&self, block: &Block, close: bool) -> u32
         requires second { block.now.second < SECONDS_PER_MINUTE }
         requires order { block.now.lo < block.now.hi }
         requires regular { AreRegular block.now.announced block.now.lo (block.now.hi + later_minutes (length self.now.grid.rows) block.now.second) self.now.parts.end }
@@ -37,7 +39,7 @@ impl StationSums {
         let mut floor = u32::MAX;
         let mut t = block.lo;
         while t < block.hi {
-            let piece = piece_from(walks, block, t);
+            let piece = piece_from(walks, block, t, close);
             if piece.floor == 0 {
                 return 0;
             }
@@ -50,7 +52,7 @@ impl StationSums {
 
 // The piece from the minute `t` on: the minutes whose walks lie in the run of `t`, or those whose walks leave it.
 #[inline(always)]
-fn piece_from(walks: &StationWalks, block: &Block, t: u32) -> Piece
+fn piece_from(walks: &StationWalks, block: &Block, t: u32, close: bool) -> Piece
     requires second { block.now.second < SECONDS_PER_MINUTE }
     requires begun { block.now.lo ≤ t }
     requires some { t < block.now.hi }
@@ -66,7 +68,7 @@ fn piece_from(walks: &StationWalks, block: &Block, t: u32) -> Piece
     let left = parts.run_end(run) - t;
     let later = walks.later_minutes(block.second);
     if left <= later {
-        return piece_across(walks, block, t, run);
+        return piece_across(walks, block, t, run, close);
     }
     let end = block.hi.min(t + (left - later));
     Piece {
@@ -85,12 +87,12 @@ fn floor_inside(walks: &StationWalks, block: &Block, run: usize, t: u32, end: u3
     if end - t <= MINUTES_PER_HOUR {
         return walks.least_among(block.announced, block.second, run, t, end);
     }
-    walks.least_in(block.announced, block.second, run)
+    walks.least_in(block.announced, block.second, run, t, end)
 }
 
 // The piece of the minutes from `t` on whose walks leave the run of `t`. Where all of them end in the next run, and the local
 // time is encoded there as before, they are asked for. All else comes on so few days that 0 will do.
-fn piece_across(walks: &StationWalks, block: &Block, t: u32, run: usize) -> Piece
+fn piece_across(walks: &StationWalks, block: &Block, t: u32, run: usize, close: bool) -> Piece
     requires second { block.now.second < SECONDS_PER_MINUTE }
     requires begun { block.now.lo ≤ t }
     requires some { t < block.now.hi }
@@ -114,8 +116,27 @@ fn piece_across(walks: &StationWalks, block: &Block, t: u32, run: usize) -> Piec
     {
         return Piece { end, floor: 0 };
     }
-    Piece {
-        end,
-        floor: walks.least_across(block.announced, block.second, run),
+    let floor = floor_across(walks, block, t, end, run, close);
+    Piece { end, floor }
+}
+
+// The floor of the minutes from `t` on whose walks go from the run to the next.
+#[inline(always)]
+fn floor_across(
+    walks: &StationWalks,
+    block: &Block,
+    t: u32,
+    end: u32,
+    run: usize,
+    close: bool,
+) -> u32
+    requires some { t < end }
+    requires walks { (t0 : ℕ) → t ≤ t0 → t0 < end → IsAcross walks.now block.now.announced block.now.second t0 run }
+    ensures floor { CostAtLeast walks.now block.now t end result }
+    ensures small { result ≤ most_cost walks.now.grid }
+{
+    if close {
+        return walks.least_of_crossing(block.announced, block.second, run, t, end);
     }
+    walks.least_across(block.announced, block.second, run, t, end)
 }

@@ -6,7 +6,7 @@ use Rattle.walk_costs.specs.Dates.{part_cost}
 use Rattle.walk_costs.specs.Kinds.{IsBegin, end_in, last_begin}
 use Rattle.walk_costs.specs.Leasts.{AreLeast, begin_count, least_at}
 use Rattle.walk_costs.specs.Walks.{ArePriced, PricedParts}
-use Rattle.walk_costs.proofs.NeighbourLaws.{both_dates, bound, least_from}
+use Rattle.walk_costs.proofs.NeighbourLaws.{both_dates, least_from}
 
 module _ (w : PricedParts) (costs : List (List ℕ)) (more : List ℕ) (priced : ArePriced w.parts w.grid costs more) (across announced : Bool) (p i : ℕ)
     (second : p < 60) (is_run : i < length w.parts.runs) (is_end : end_in across i < length w.parts.runs) (table : LeastTable)
@@ -17,22 +17,3 @@ module _ (w : PricedParts) (costs : List (List ℕ)) (more : List ℕ) (priced :
   pub no_more : (u : ℕ) → u < 1440 → IsBegin (begin_count (length w.grid.rows) across p) (last_begin w.parts across i) u
       → dates + least_at table announced p i ≤ least_from w costs more priced announced p i (end_in across i) second is_run is_end u
   no_more u day begin = omega (arith, least.each announced i p u is_end second day begin)
-
-  some : (b : Bool) → 0 < begin_count (length w.grid.rows) b p
-  some true = omega arith
-  some false = omega arith
-
-  last_day : (b : Bool) → last_begin w.parts b i < 1440
-  last_day true = omega arith
-  last_day false = omega arith
-
-  -- that is no more than the slots can cost
-  pub fits : dates + least_at table announced p i ≤ most_cost w.grid
-  fits =
-      let u : ℕ = last_begin w.parts across i in
-      let day = last_day across in
-      omega (
-        arith,
-        no_more (last_begin w.parts across i) day (0, some across, omega (arith, day)),
-        bound w costs more priced announced p i (end_in across i) second is_run is_end (last_begin w.parts across i),
-      )

@@ -10,7 +10,7 @@ ghost use Rattle.minute_parts.specs.declared.call.TheConstants.{CALL_MINUTES};
 ghost use Rattle.slot_columns.specs.Parts.{AreWalkCosts, most_cost};
 ghost use Rattle.walk_costs.specs.Dates.{AreAdded, IsAdded, date_cost, minutes_to_call};
 ghost use Rattle.minute_parts.specs.Walks.{later_minutes};
-ghost use Rattle.walk_costs.specs.Walks.{AreSmall, IsRegularIn, IsShown, ShowsAnnouncement, cost_of, last_minute};
+ghost use Rattle.walk_costs.specs.Walks.{AreSmall, IsRegularIn, IsShown, MayAdd, ShowsAnnouncement, cost_of, last_minute};
 
 use crate::date::ByMinute;
 use crate::dut::added;
@@ -244,6 +244,21 @@ impl StationWalks {
         } else {
             0
         }
+    }
+
+    // What they add to each of the walks that begin in the minutes from `lo` up to, and without, `hi`. It is nothing unless all
+    // of them lie in one UTC day.
+    pub(crate) fn added_to_all(&self, p: u8, lo: u32, hi: u32) -> u32
+        requires second { p < SECONDS_PER_MINUTE }
+        requires some { lo < hi }
+        requires century { hi ≤ century_minutes }
+        ensures { (t0 : ℕ) → lo ≤ t0 → t0 < hi → MayAdd self.now p t0 result }
+    {
+        let last = hi - 1 + self.later_minutes(p);
+        if last / MINUTES_PER_DAY != lo / MINUTES_PER_DAY {
+            return 0;
+        }
+        self.added[p as usize]
     }
 }
 

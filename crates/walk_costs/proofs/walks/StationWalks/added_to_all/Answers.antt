@@ -1,0 +1,14 @@
+use Rattle.std.proofs.Common.{◌≡◌, ℕ, ◌+◌, ◌-◌, ◌/◌, ◌<◌, ◌≤◌, ◌==◌, true, false, refl, inl, inr, sym, ◌∙◌, subst, arith}
+use Rattle.std.proofs.lemmas.Bool.{eq-eqb}
+use Rattle.walk_costs.specs.Walks.{ArePriced, PricedParts, last_minute}
+use Rattle.walk_costs.proofs.walks.StationWalks.added_to_all.Goals as goal
+
+pub returns-then : goal.returns-then
+returns-then c = λ t0 ge lt. record { one_day = λ e. inl refl; two_days = λ e. refl }
+
+pub returns : goal.returns
+returns c = λ t0 ge lt.
+    let w = c.args.self.now in
+    let own = c.self.inside in
+    let priced = subst (λ (v : PricedParts). ArePriced v.parts v.grid own.walks own.added) c.self.view_is c.self.invariant.priced in
+    record { one_day = λ e. inr (priced.added c.args.p c.requires.second); two_days = λ e. absurd cc }
