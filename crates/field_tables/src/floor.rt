@@ -196,8 +196,8 @@ impl WindowSums {
         true
     }
 
-    // What none of the block's sequences costs less than: the sum of the stations' floors, of close ones where others aren't
-    // above `enough`.
+    // What none of the block's sequences costs less than: the sum of the stations' floors, of close ones for an hour, and for a
+    // longer block of one station where another isn't above `enough`. Of several stations the hours' floors are closer.
     fn least_cost(&self, block: &Block, enough: u32) -> u32
         requires order { block.now.lo < block.now.hi }
         requires walks { HasShortWalks self.now.window block.now }
@@ -206,8 +206,11 @@ impl WindowSums {
             → result ≤ sequence_cost (costs_by self.now) self.now.window (sequence_at block.now t0) }
         ensures small { result ≤ GREATEST_COST }
     {
+        if block.hi - block.lo <= MINUTES_PER_HOUR {
+            return self.sum_of_floors(block, true);
+        }
         let total = self.sum_of_floors(block, false);
-        if total > enough {
+        if total > enough || self.stations.len() > 1 {
             return total;
         }
         self.sum_of_floors(block, true)

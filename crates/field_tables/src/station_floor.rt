@@ -1,6 +1,7 @@
 //! What the sequences of a block cost a station at the least, by pieces of its minutes.
 
 ghost use Rattle.std.specs.Prelude.{ℕ, ◌+◌, ◌<◌, ◌≤◌, length};
+ghost use Rattle.definitions.specs.time.Calendar.{century_minutes};
 ghost use Rattle.slot_columns.specs.Parts.{most_cost};
 ghost use Rattle.slot_columns.specs.declared.limits.TheConstants.{SECONDS_PER_MINUTE};
 ghost use Rattle.minute_parts.specs.Parts.{IsInRun};
@@ -12,7 +13,7 @@ ghost use Rattle.walk_costs.specs.Walks.{IsRegularIn, last_minute};
 ghost use Rattle.field_tables.specs.Floors.{CostAtLeast};
 
 use crate::station::StationSums;
-use definitions::{Block, MINUTES_PER_HOUR};
+use definitions::{Block, MINUTES_PER_DAY, MINUTES_PER_HOUR};
 use walk_costs::StationWalks;
 
 // What the sequences cost at the least that begin in a piece of a block's minutes.
@@ -26,8 +27,8 @@ struct Piece {
 
 impl StationSums {
     /// A floor of a block whose walks have 60 seconds in each minute: none of its sequences costs the station less. It is 0
-    /// where a walk goes over a change of summer time, or over the ends of two runs. A close one takes longer: each walk is
-    /// looked at that leaves its run.
+    /// where a walk goes over a change of summer time, or over the ends of two runs. A close one takes longer: walks are
+    /// looked at one by one that leave their run, and those of a piece of an hour or less.
     pub fn floor(&self, block: &Block, close: bool) -> u32
         requires second { block.now.second < SECONDS_PER_MINUTE }
         requires order { block.now.lo < block.now.hi }
@@ -70,24 +71,53 @@ fn piece_from(walks: &StationWalks, block: &Block, t: u32, close: bool) -> Piece
     if left <= later {
         return piece_across(walks, block, t, run, close);
     }
-    let end = block.hi.min(t + (left - later));
+    let most = block.hi.min(t + (left - later));
+    let end = end_of_piece(walks, block.second, t, most);
     Piece {
         end,
-        floor: floor_inside(walks, block, run, t, end),
+        floor: floor_inside(walks, block, run, t, end, close),
     }
 }
 
-// The floor of the minutes from `t` on whose walks lie in the run. They are looked at one by one where they are few.
-fn floor_inside(walks: &StationWalks, block: &Block, run: usize, t: u32, end: u32) -> u32
+// Where a piece ends that begins with the minute `t` and may go on to that end: before the walks that go on to the next UTC day,
+// since DUT1 adds nothing to these, if it adds something to that of `t`.
+#[inline(always)]
+fn end_of_piece(walks: &StationWalks, second: u8, t: u32, end: u32) -> u32
+    requires second { second < SECONDS_PER_MINUTE }
+    requires century { t < century_minutes }
+    requires some { t < end }
+    ensures more { t < result }
+    ensures within { result ≤ end }
+{
+    let next_day = t - t % MINUTES_PER_DAY + MINUTES_PER_DAY;
+    let stay = next_day - walks.later_minutes(second);
+    if stay <= t {
+        return end;
+    }
+    if walks.added_from(second, t) == 0 {
+        return end;
+    }
+    end.min(stay)
+}
+
+// The floor of the minutes from `t` on whose walks lie in the run.
+fn floor_inside(
+    walks: &StationWalks,
+    block: &Block,
+    run: usize,
+    t: u32,
+    end: u32,
+    close: bool,
+) -> u32
     requires some { t < end }
     requires walks { (t0 : ℕ) → t ≤ t0 → t0 < end → IsRegularIn walks.now block.now.announced block.now.second t0 run }
     ensures floor { CostAtLeast walks.now block.now t end result }
     ensures small { result ≤ most_cost walks.now.grid }
 {
-    if end - t <= MINUTES_PER_HOUR {
-        return walks.least_among(block.announced, block.second, run, t, end);
+    if !close || end - t > MINUTES_PER_HOUR {
+        return walks.least_in(block.announced, block.second, run, t, end);
     }
-    walks.least_in(block.announced, block.second, run, t, end)
+    walks.least_among(block.announced, block.second, run, t, end)
 }
 
 // The piece of the minutes from `t` on whose walks leave the run of `t`. Where all of them end in the next run, and the local
@@ -135,8 +165,13 @@ fn floor_across(
     ensures floor { CostAtLeast walks.now block.now t end result }
     ensures small { result ≤ most_cost walks.now.grid }
 {
-    if close {
-        return walks.least_of_crossing(block.announced, block.second, run, t, end);
+    if !close {
+        return walks.least_across(block.announced, block.second, run, t, end);
     }
-    walks.least_across(block.announced, block.second, run, t, end)
+    let crossing = walks.crossing_costs(block.announced, block.second, run);
+    let mut least = u32::MAX;
+    for t0 in t..end {
+        least = least.min(walks.cost_across(&crossing, t0));
+    }
+    least
 }

@@ -27,7 +27,7 @@ use Rattle.walk_costs.proofs.LeastLaws.{either_at, given_by_slot, given_in}
 use Rattle.walk_costs.proofs.ScoredLaws.{scored, small_set}
 use Rattle.walk_costs.proofs.SplitLaws.{call_minute, calls, tells_by}
 use Rattle.walk_costs.proofs.SumLaws.{at_second, cost_in, part_by_second, sum_le, sum_of_two}
-use Rattle.walk_costs.proofs.WalkLaws.{AreRunsOf, date_in, lost, lost_here, lost_in_slot, lost_sum, part_by, total_by_runs}
+use Rattle.walk_costs.proofs.WalkLaws.{AreRunsOf, date_in, lost, lost_here, lost_in_slot, lost_sum, part_by, total_by_runs, with_dut1}
 
 -- What is kept of two dates, together.
 module _ (station : Station) (a b : List ℕ) where
@@ -337,19 +337,7 @@ module _ (w : PricedParts) (costs : List (List ℕ)) (more : List ℕ) (priced :
 
     pub floor : (added : ℕ) → MayAdd w p t0 added
         → (least_from ((t0 + shift) % 1440) + added ≤ cost_of w announced p t0) × (cost_of w announced p t0 ≤ most_cost w.grid)
-    floor added may = by_day (last_minute w p t0 / 1440 == t0 / 1440) refl
-      where
-        by_sum : (last_minute w p t0 / 1440 == t0 / 1440) ≡ true → (added ≡ 0) ⊎ (IsAdded w.grid p added)
-            → (least_from ((t0 + shift) % 1440) + added ≤ cost_of w announced p t0) × (cost_of w announced p t0 ≤ most_cost w.grid)
-        by_sum here (inl is) =
-            let all = floor_with (get_or more p 0) (λ e. priced.added p second) (λ e. absurd cc) in
-            (omega (arith, all.0, is), all.1)
-        by_sum here (inr is) = floor_with added (λ e. is) (λ e. absurd cc)
-
-        by_day : (day : Bool) → (last_minute w p t0 / 1440 == t0 / 1440) ≡ day
-            → (least_from ((t0 + shift) % 1440) + added ≤ cost_of w announced p t0) × (cost_of w announced p t0 ≤ most_cost w.grid)
-        by_day true is = by_sum is (may.one_day is)
-        by_day false is = floor_with added (λ e. absurd cc) may.two_days
+    floor = with_dut1 w costs more priced p t0 (least_from ((t0 + shift) % 1440)) (cost_of w announced p t0) (most_cost w.grid) second floor_with
 
 -- A table of what is kept of the dates.
 pub date_costs : (w : PricedParts) (all : List (List ℕ)) (places : List ℕ) (table : LayerSums) → length places ≡ length w.parts.runs

@@ -1,6 +1,6 @@
 //! What sequences cost whose walks begin in one run and end in the next.
 
-ghost use Rattle.std.specs.Prelude.{◌≡◌, ◌+◌, ◌^◌, ◌<◌, ◌≤◌, ℕ, length};
+ghost use Rattle.std.specs.Prelude.{◌≡◌, ◌+◌, ◌^◌, ◌<◌, ◌≤◌, length};
 ghost use Rattle.symbol_cost.specs.Grid.{cost_at};
 ghost use Rattle.minute_parts.specs.Parts.{part_where};
 ghost use Rattle.minute_parts.specs.Runs.{run_at};
@@ -72,22 +72,6 @@ impl StationWalks {
         let lost = self.lost_to_call(crossing.announced, p, run, call);
         let added = self.added_from(p, t0);
         walks.cost(p, u) + (crossing.dates[front as usize] - lost) + added
-    }
-
-    /// What none of the sequences costs the station less than that begin in second `p` of the minutes from `lo` up to, and
-    /// without, `hi`, where their walks go from the run to the next: the least of their costs.
-    pub fn least_of_crossing(&self, announced: bool, p: u8, run: usize, lo: u32, hi: u32) -> u32
-        requires some { lo < hi }
-        requires walks { (t0 : ℕ) → lo ≤ t0 → t0 < hi → IsAcross self.now announced p t0 run }
-        ensures floor { (t0 : ℕ) → lo ≤ t0 → t0 < hi → result ≤ cost_of self.now announced p t0 }
-        ensures bound { result ≤ most_cost self.now.grid }
-    {
-        let crossing = self.crossing_costs(announced, p, run);
-        let mut least = u32::MAX;
-        for t0 in lo..hi {
-            least = least.min(self.cost_across(&crossing, t0));
-        }
-        least
     }
 
     // What the date of a run tells in walk minute `m` of the seconds that the call sign takes costs this.

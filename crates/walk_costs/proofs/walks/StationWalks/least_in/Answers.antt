@@ -1,10 +1,12 @@
 use Rattle.std.proofs.Common.{ℕ, ◌+◌, ◌-◌, ◌%◌, ◌<◌, ◌≤◌, false, refl, inl, subst, arith}
 use Rattle.slot_columns.specs.Parts.{most_cost}
+use Rattle.minute_parts.specs.Parts.{IsPartTable}
 use Rattle.minute_parts.specs.Runs.{run_at}
 use Rattle.walk_costs.specs.Leasts.{AreLeast}
 use Rattle.walk_costs.specs.Walks.{ArePriced, PricedParts, cost_of}
 use Rattle.walk_costs.proofs.FloorLaws.{no_more}
 use Rattle.walk_costs.proofs.NeighbourLaws.{floor}
+use Rattle.walk_costs.proofs.RunLaws.{ends, in_century}
 use Rattle.walk_costs.proofs.WalkLaws.{most_fits, one_run}
 use Rattle.walk_costs.proofs.walks.StationWalks.least_in.Goals as goal
 use Rattle.walk_costs.proofs.walks.StationWalks.least_in.Goals.{After-at}
@@ -58,3 +60,10 @@ returns-clause-floor c = λ t0 ge lt. (each (goal.at.returns-clause-floor c).Aft
 
 pub returns-clause-bound : goal.returns-clause-bound
 returns-clause-bound c = fits (goal.at.returns-clause-bound c).After-at
+
+pub added_to_all-added-requires-clause-century : goal.added_to_all-added-requires-clause-century
+added_to_all-added-requires-clause-century c =
+    let w = c.args.self.now in
+    let table = subst (λ (v : PricedParts). IsPartTable v.parts) c.self.view_is c.self.invariant.priced.table in
+    let begins = (c.requires.walks (c.args.hi - 1) (omega (arith, c.requires.some)) (omega (arith, c.requires.some))).begins in
+    omega (arith, begins.not_over, ends w.parts table c.args.run begins.is_run, in_century w.parts table)
