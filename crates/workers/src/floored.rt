@@ -124,9 +124,8 @@ impl Visitor<'_> {
     {
         children_share_the_sequences();
         let mut hours = bounded_children(self.tables, day);
-        let mut latest = u64::MAX;
         while let Some(hour) = hours.next_block() {
-            self.visit_hour(seat, &hour, &mut latest, recorder)?;
+            self.visit_hour(seat, &hour, recorder)?;
         }
         Ok(())
     }
@@ -136,7 +135,6 @@ impl Visitor<'_> {
         &self,
         seat: &mut Seat,
         hour: &Block,
-        latest: &mut u64,
         recorder: &mut K,
     ) -> Result<(), K::Fault>
         requires race { seat.old.race ≡ self.now.race.now.id }
@@ -149,7 +147,9 @@ impl Visitor<'_> {
         ensures stopped { let t = self.now.tables.now in
             OnErr result (HasStopped K.told K.fails (costs_of t) t.window self.now.ceiling hour.now seat.old.view seat.new.view recorder.old recorder.new) }
     {
-        let Some(seen) = self.pass_over(seat, hour, latest) else {
+        // An hour's floor is a close one, whatever was read before.
+        let mut latest = u64::MAX;
+        let Some(seen) = self.pass_over(seat, hour, &mut latest) else {
             return Ok(());
         };
         let found = Bounded {
