@@ -196,8 +196,7 @@ impl WindowSums {
         true
     }
 
-    // What none of the block's sequences costs less than: the sum of the stations' floors, of close ones for an hour, and for a
-    // longer block of one station where another isn't above `enough`. Of several stations the hours' floors are closer.
+    // What none of the block's sequences costs less than: the sum of the stations' floors.
     fn least_cost(&self, block: &Block, enough: u32) -> u32
         requires order { block.now.lo < block.now.hi }
         requires walks { HasShortWalks self.now.window block.now }
@@ -206,30 +205,26 @@ impl WindowSums {
             → result ≤ sequence_cost (costs_by self.now) self.now.window (sequence_at block.now t0) }
         ensures small { result ≤ GREATEST_COST }
     {
-        if block.hi - block.lo <= MINUTES_PER_HOUR {
-            return self.sum_of_floors(block, true);
-        }
-        let total = self.sum_of_floors(block, false);
-        if total > enough || self.stations.len() > 1 {
-            return total;
-        }
-        self.sum_of_floors(block, true)
-    }
-
-    // The sum of the stations' floors.
-    fn sum_of_floors(&self, block: &Block, close: bool) -> u32
-        requires order { block.now.lo < block.now.hi }
-        requires walks { HasShortWalks self.now.window block.now }
-        requires encoded { block.now.hi + reach self.now.window block.now ≤ self.now.end }
-        ensures floor { (t0 : ℕ) → block.now.lo ≤ t0 → t0 < block.now.hi
-            → result ≤ sequence_cost (costs_by self.now) self.now.window (sequence_at block.now t0) }
-        ensures small { result ≤ GREATEST_COST }
-    {
+        let enough = self.enough_for_each(block, enough);
         let mut total = 0;
         for station in &self.stations {
-            total += station.floor(block, close);
+            total += station.floor(block, enough);
         }
         total
+    }
+
+    // What is enough for the floor of one station. Of several it isn't known: in an hour nothing is, and of a longer block what
+    // comes at once, since its hours have floors too.
+    fn enough_for_each(&self, block: &Block, enough: u32) -> u32
+        requires { block.now.lo < block.now.hi }
+    {
+        if self.stations.len() == 1 {
+            return enough;
+        }
+        if block.hi - block.lo <= MINUTES_PER_HOUR {
+            return u32::MAX;
+        }
+        0
     }
 }
 

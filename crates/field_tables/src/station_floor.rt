@@ -27,9 +27,9 @@ struct Piece {
 
 impl StationSums {
     /// A floor of a block whose walks have 60 seconds in each minute: none of its sequences costs the station less. It is 0
-    /// where a walk goes over a change of summer time, or over the ends of two runs. A close one takes longer: walks are
-    /// looked at one by one that leave their run, and those of a piece of an hour or less.
-    pub fn floor(&self, block: &Block, close: bool) -> u32
+    /// where a walk goes over a change of summer time, or over the ends of two runs. Where that of a piece isn't above
+    /// `enough`, walks are looked at one by one that leave their run, and those of a piece of an hour or less.
+    pub fn floor(&self, block: &Block, enough: u32) -> u32
         requires second { block.now.second < SECONDS_PER_MINUTE }
         requires order { block.now.lo < block.now.hi }
         requires regular { AreRegular block.now.announced block.now.lo (block.now.hi + later_minutes (length self.now.grid.rows) block.now.second) self.now.parts.end }
@@ -40,7 +40,7 @@ impl StationSums {
         let mut floor = u32::MAX;
         let mut t = block.lo;
         while t < block.hi {
-            let piece = piece_from(walks, block, t, close);
+            let piece = piece_from(walks, block, t, enough);
             if piece.floor == 0 {
                 return 0;
             }
@@ -53,7 +53,7 @@ impl StationSums {
 
 // The piece from the minute `t` on: the minutes whose walks lie in the run of `t`, or those whose walks leave it.
 #[inline(always)]
-fn piece_from(walks: &StationWalks, block: &Block, t: u32, close: bool) -> Piece
+fn piece_from(walks: &StationWalks, block: &Block, t: u32, enough: u32) -> Piece
     requires second { block.now.second < SECONDS_PER_MINUTE }
     requires begun { block.now.lo ≤ t }
     requires some { t < block.now.hi }
@@ -69,13 +69,13 @@ fn piece_from(walks: &StationWalks, block: &Block, t: u32, close: bool) -> Piece
     let left = parts.run_end(run) - t;
     let later = walks.later_minutes(block.second);
     if left <= later {
-        return piece_across(walks, block, t, run, close);
+        return piece_across(walks, block, t, run, enough);
     }
     let most = block.hi.min(t + (left - later));
     let end = end_of_piece(walks, block.second, t, most);
     Piece {
         end,
-        floor: floor_inside(walks, block, run, t, end, close),
+        floor: floor_inside(walks, block, run, t, end, enough),
     }
 }
 
@@ -107,22 +107,23 @@ fn floor_inside(
     run: usize,
     t: u32,
     end: u32,
-    close: bool,
+    enough: u32,
 ) -> u32
     requires some { t < end }
     requires walks { (t0 : ℕ) → t ≤ t0 → t0 < end → IsRegularIn walks.now block.now.announced block.now.second t0 run }
     ensures floor { CostAtLeast walks.now block.now t end result }
     ensures small { result ≤ most_cost walks.now.grid }
 {
-    if !close || end - t > MINUTES_PER_HOUR {
-        return walks.least_in(block.announced, block.second, run, t, end);
+    let floor = walks.least_in(block.announced, block.second, run, t, end);
+    if floor > enough || end - t > MINUTES_PER_HOUR {
+        return floor;
     }
     walks.least_among(block.announced, block.second, run, t, end)
 }
 
 // The piece of the minutes from `t` on whose walks leave the run of `t`. Where all of them end in the next run, and the local
 // time is encoded there as before, they are asked for. All else comes on so few days that 0 will do.
-fn piece_across(walks: &StationWalks, block: &Block, t: u32, run: usize, close: bool) -> Piece
+fn piece_across(walks: &StationWalks, block: &Block, t: u32, run: usize, enough: u32) -> Piece
     requires second { block.now.second < SECONDS_PER_MINUTE }
     requires begun { block.now.lo ≤ t }
     requires some { t < block.now.hi }
@@ -146,7 +147,7 @@ fn piece_across(walks: &StationWalks, block: &Block, t: u32, run: usize, close: 
     {
         return Piece { end, floor: 0 };
     }
-    let floor = floor_across(walks, block, t, end, run, close);
+    let floor = floor_across(walks, block, t, end, run, enough);
     Piece { end, floor }
 }
 
@@ -158,15 +159,16 @@ fn floor_across(
     t: u32,
     end: u32,
     run: usize,
-    close: bool,
+    enough: u32,
 ) -> u32
     requires some { t < end }
     requires walks { (t0 : ℕ) → t ≤ t0 → t0 < end → IsAcross walks.now block.now.announced block.now.second t0 run }
     ensures floor { CostAtLeast walks.now block.now t end result }
     ensures small { result ≤ most_cost walks.now.grid }
 {
-    if !close {
-        return walks.least_across(block.announced, block.second, run, t, end);
+    let floor = walks.least_across(block.announced, block.second, run, t, end);
+    if floor > enough {
+        return floor;
     }
     let crossing = walks.crossing_costs(block.announced, block.second, run);
     let mut least = u32::MAX;

@@ -7,7 +7,7 @@ use Rattle.field_tables.specs.Minutes.{sequence_at}
 use Rattle.field_tables.specs.Sums.{AreSums, Sums, grids_of}
 use Rattle.field_tables.proofs.MinuteLaws.{regular_walks}
 use Rattle.field_tables.proofs.SumLaws.{next_less, next_within, regular, slots, small, whole}
-use Rattle.field_tables.proofs.sums.WindowSums.sum_of_floors.Goals as goal
+use Rattle.field_tables.proofs.sums.WindowSums.least_cost.Goals as goal
 
 pub floor-total-requires-clause-regular : goal.floor-total-requires-clause-regular
 floor-total-requires-clause-regular c =
