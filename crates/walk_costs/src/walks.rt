@@ -158,9 +158,9 @@ impl StationWalks {
         ensures bound { result ≤ most_cost self.now.grid }
     {
         let dates = self.date_costs(announced, p, run);
-        let added = self.added_to_all(p, lo, hi);
-        let shift = self.unions.parts().run(run).shift;
         let row = self.walks.row(p);
+        let shift = self.unions.parts().run(run).shift;
+        let added = self.added_to_all(p, lo, hi);
         let mut least = u32::MAX;
         for t0 in lo..hi {
             let u = local_time(shift, t0);

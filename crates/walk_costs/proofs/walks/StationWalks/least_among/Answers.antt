@@ -41,8 +41,8 @@ here c =
     let i = c.args.run in
     let t0 = c.loop-t0.t0 in
     let u = c.local_time-u.result in
-    let ge = omega (arith, c.loop-t0.auto.t0) in
-    let lt = omega (arith, c.loop-t0-test.true) in
+    let ge : c.args.lo ≤ t0 = omega (arith, c.loop-t0.auto.t0) in
+    let lt : t0 < c.args.hi = omega (arith, c.loop-t0-test.true) in
     let parts_is = c.parts.ensures ∙ ap (λ (v : PricedParts). v.parts) c.self.view_is in
     let run_is = c.run.ensures ∙ ap (λ (v : PartTable). run_at v.runs i) parts_is in
     let time = c.local_time-u.ensures.time ∙ ap (λ (r : Run). (t0 + r.shift) % 1440) run_is in
@@ -75,7 +75,10 @@ loop-t0-preserved c =
     }
 
 pub overflow_add-result : goal.overflow_add-result
-overflow_add-result c = omega (arith, c.loop-t0.invariant.small (omega (arith, c.requires.some, c.loop-t0-test.false)))
+overflow_add-result c =
+    let own = c.self.inside in
+    let priced_here = subst (λ (v : PricedParts). ArePriced v.parts v.grid own.walks own.added) c.self.view_is c.self.invariant.priced in
+    omega (arith, c.loop-t0.invariant.small (omega (arith, c.requires.some, c.loop-t0-test.false)), most_fits c.args.self.now own.walks own.added priced_here)
 
 pub returns-clause-floor : goal.returns-clause-floor
 returns-clause-floor c = λ t0 ge lt. c.loop-t0.invariant.floor t0 ge (omega (arith, lt, c.loop-t0-test.false))

@@ -9,17 +9,17 @@ use Rattle.walk_costs.proofs.NeighbourLaws.{floor}
 use Rattle.walk_costs.proofs.RunLaws.{ends, in_century}
 use Rattle.walk_costs.proofs.WalkLaws.{most_fits, one_run}
 use Rattle.walk_costs.proofs.walks.StationWalks.least_in.Goals as goal
-use Rattle.walk_costs.proofs.walks.StationWalks.least_in.Goals.{After-at}
+use Rattle.walk_costs.proofs.walks.StationWalks.least_in.Goals.{After-added_to_all-added}
 
-priced : (c : After-at) → ArePriced c.args.self.now.parts c.args.self.now.grid c.self.inside.walks c.self.inside.added
+priced : (c : After-added_to_all-added) → ArePriced c.args.self.now.parts c.args.self.now.grid c.self.inside.walks c.self.inside.added
 priced c = subst (λ (v : PricedParts). ArePriced v.parts v.grid c.self.inside.walks c.self.inside.added) c.self.view_is c.self.invariant.priced
 
-least : (c : After-at) → AreLeast c.args.self.now.parts c.args.self.now.grid false c.self.inside.least.inside
+least : (c : After-added_to_all-added) → AreLeast c.args.self.now.parts c.args.self.now.grid false c.self.inside.least.inside
 least c = subst (λ (v : PricedParts). AreLeast v.parts v.grid false c.self.inside.least.inside) c.self.view_is c.self.invariant.inside
 
 -- none of the walks costs less, and none more than the slots can
-each : (c : After-at) (t0 : ℕ) → c.args.lo ≤ t0 → t0 < c.args.hi
-    → (c.kept_cost_of_both-dates.result + c.at.result + c.added_to_all-added.result ≤ cost_of c.args.self.now c.args.announced c.args.p t0)
+each : (c : After-added_to_all-added) (t0 : ℕ) → c.args.lo ≤ t0 → t0 < c.args.hi
+    → (c.kept_cost_of_both-dates.result + c.at-least.result + c.added_to_all-added.result ≤ cost_of c.args.self.now c.args.announced c.args.p t0)
     × (cost_of c.args.self.now c.args.announced c.args.p t0 ≤ most_cost c.args.self.now.grid)
 each c t0 ge lt =
     let w = c.args.self.now in
@@ -35,31 +35,31 @@ each c t0 ge lt =
       omega (
         arith,
         c.kept_cost_of_both-dates.ensures,
-        c.at.ensures,
+        c.at-least.ensures,
         no_more w own.walks own.added (priced c) false c.args.announced p i regular.second is_run is_run own.least.inside (least c) u (omega arith) (1439 - u, omega arith, omega arith),
         found.0,
       ),
       found.1,
     )
 
-fits : (c : After-at) → c.kept_cost_of_both-dates.result + c.at.result + c.added_to_all-added.result ≤ most_cost c.args.self.now.grid
+fits : (c : After-added_to_all-added) → c.kept_cost_of_both-dates.result + c.at-least.result + c.added_to_all-added.result ≤ most_cost c.args.self.now.grid
 fits c = let first = each c c.args.lo (omega arith) c.requires.some in omega (arith, first.0, first.1)
 
 pub overflow_add-result : goal.overflow_add-result
 overflow_add-result c =
-    let known = (goal.at.overflow_add-result c).After-at in
+    let known = (goal.at.overflow_add-result c).After-added_to_all-added in
     omega (arith, fits known, most_fits c.args.self.now known.self.inside.walks known.self.inside.added (priced known))
 
 pub overflow_add-result-2 : goal.overflow_add-result-2
 overflow_add-result-2 c =
-    let known = (goal.at.overflow_add-result-2 c).After-at in
+    let known = (goal.at.overflow_add-result-2 c).After-added_to_all-added in
     omega (arith, fits known, most_fits c.args.self.now known.self.inside.walks known.self.inside.added (priced known))
 
 pub returns-clause-floor : goal.returns-clause-floor
-returns-clause-floor c = λ t0 ge lt. (each (goal.at.returns-clause-floor c).After-at t0 ge lt).0
+returns-clause-floor c = λ t0 ge lt. (each (goal.at.returns-clause-floor c).After-added_to_all-added t0 ge lt).0
 
 pub returns-clause-bound : goal.returns-clause-bound
-returns-clause-bound c = fits (goal.at.returns-clause-bound c).After-at
+returns-clause-bound c = fits (goal.at.returns-clause-bound c).After-added_to_all-added
 
 pub added_to_all-added-requires-clause-century : goal.added_to_all-added-requires-clause-century
 added_to_all-added-requires-clause-century c =
