@@ -64,14 +64,15 @@ loop-t0-preserved c =
     let now = here known in
     let row = known.row-row.ensures known.local_time-u.result in
     let before = c.loop-t0.invariant in
+    let cost : ℕ = get_or known.row-row.result.now known.local_time-u.result 0 + get_or known.date_costs-dates.result known.minutes_to_call.result 0 in
     record {
       floor = λ t ge lt. elim (cases_lt t c.loop-t0.t0) [
-        | inl early ↦ omega (arith, before.floor t ge early, c.min-least.ensures, min-le_left c.loop-t0.least c.cost)
+        | inl early ↦ omega (arith, before.floor t ge early, c.min-least.ensures, min-le_left c.loop-t0.least cost)
         | inr late ↦ (
             let same : t ≡ c.loop-t0.t0 = omega (arith, late, lt) in
-            omega (arith, ap (cost_of c.args.self.now c.args.announced c.args.p) same, now.0, row, c.min-least.ensures, min-le_right c.loop-t0.least c.cost))
+            omega (arith, ap (cost_of c.args.self.now c.args.announced c.args.p) same, now.0, row, c.min-least.ensures, min-le_right c.loop-t0.least cost))
       ];
-      small = λ _. omega (arith, now.0, now.1, row, c.min-least.ensures, min-le_right c.loop-t0.least c.cost);
+      small = λ _. omega (arith, now.0, now.1, row, c.min-least.ensures, min-le_right c.loop-t0.least cost);
     }
 
 pub overflow_add-result : goal.overflow_add-result
