@@ -8,3 +8,4 @@ pub mod QuietLaws
 pub mod LegalLaws
 pub mod LeapLaws
 pub mod FloorLaws
+pub mod HourLaws

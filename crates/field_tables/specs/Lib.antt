@@ -6,4 +6,5 @@ pub mod Blocks
 pub mod Minutes
 pub mod Leaps
 pub mod Floors
+pub mod HourFloors
 pub mod Quiet

@@ -1,6 +1,6 @@
 //! Floors of blocks: what no legal sequence of a block costs less than.
 
-ghost use Rattle.std.specs.Prelude.{ℕ, ◌≡◌, ◌+◌, ◌<◌, ◌≤◌, IfSome, true};
+ghost use Rattle.std.specs.Prelude.{ℕ, ◌≡◌, ◌+◌, ◌<◌, ◌≤◌, IfSome, slice_index, true};
 ghost use Rattle.signal_base.specs.declared.limits.TheConstants.{GREATEST_COST};
 ghost use Rattle.definitions.specs.answers.Blocks.{IsBlock};
 ghost use Rattle.definitions.specs.declared.sequence.Sequence.{Sequence};
@@ -15,11 +15,13 @@ ghost use Rattle.field_tables.specs.Minutes.{sequence_at};
 ghost use Rattle.field_tables.specs.Scored.{costs_of};
 ghost use Rattle.field_tables.specs.Sums.{costs_by};
 
+use crate::hour_floors::{ByHour, DAY_HOURS};
 use crate::leaps::meets_leap_end;
 use crate::sums::WindowSums;
 use crate::tables::Tables;
 use civil::Civil;
 use definitions::{Block, MINUTES_PER_DAY, MINUTES_PER_HOUR, Span};
+use signal_base::GREATEST_COST;
 use slot_columns::SECONDS_PER_MINUTE;
 
 impl<'a> Tables<'a> {
@@ -196,7 +198,8 @@ impl WindowSums {
         true
     }
 
-    // What none of the block's sequences costs less than: the sum of the stations' floors.
+    // What none of the block's sequences costs less than: the sum of the stations' floors, of several stations hour by hour where
+    // that isn't above `enough`.
     fn least_cost(&self, block: &Block, enough: u32) -> u32
         requires order { block.now.lo < block.now.hi }
         requires walks { HasShortWalks self.now.window block.now }
@@ -205,7 +208,29 @@ impl WindowSums {
             → result ≤ sequence_cost (costs_by self.now) self.now.window (sequence_at block.now t0) }
         ensures small { result ≤ GREATEST_COST }
     {
-        let enough = self.enough_for_each(block, enough);
+        let is_alone = self.stations.len() == 1;
+        if is_alone {
+            return self.sum_of_floors(block, enough);
+        }
+        if block.hi - block.lo <= MINUTES_PER_HOUR {
+            return self.sum_of_floors(block, u32::MAX);
+        }
+        let total = self.sum_of_floors(block, 0);
+        if total > enough {
+            return total;
+        }
+        self.least_of_hours(block)
+    }
+
+    // The sum of the stations' floors.
+    fn sum_of_floors(&self, block: &Block, enough: u32) -> u32
+        requires order { block.now.lo < block.now.hi }
+        requires walks { HasShortWalks self.now.window block.now }
+        requires encoded { block.now.hi + reach self.now.window block.now ≤ self.now.end }
+        ensures floor { (t0 : ℕ) → block.now.lo ≤ t0 → t0 < block.now.hi
+            → result ≤ sequence_cost (costs_by self.now) self.now.window (sequence_at block.now t0) }
+        ensures small { result ≤ GREATEST_COST }
+    {
         let mut total = 0;
         for station in &self.stations {
             total += station.floor(block, enough);
@@ -213,19 +238,42 @@ impl WindowSums {
         total
     }
 
-    // What is enough for the floor of one station. Of several it isn't known: in an hour nothing is, and of a longer block what
-    // comes at once, since its hours have floors too.
-    fn enough_for_each(&self, block: &Block, enough: u32) -> u32
-        requires { block.now.lo < block.now.hi }
+    // The least sum of the stations' floors, by the hour of the UTC day.
+    fn least_of_hours(&self, block: &Block) -> u32
+        requires order { block.now.lo < block.now.hi }
+        requires walks { HasShortWalks self.now.window block.now }
+        requires encoded { block.now.hi + reach self.now.window block.now ≤ self.now.end }
+        ensures floor { (t0 : ℕ) → block.now.lo ≤ t0 → t0 < block.now.hi
+            → result ≤ sequence_cost (costs_by self.now) self.now.window (sequence_at block.now t0) }
+        ensures small { result ≤ GREATEST_COST }
     {
-        if self.stations.len() == 1 {
-            return enough;
+        let mut totals = [0; DAY_HOURS];
+        for station in &self.stations {
+            add_hours(&mut totals, &station.hour_floors(block));
         }
-        if block.hi - block.lo <= MINUTES_PER_HOUR {
-            return u32::MAX;
-        }
-        0
+        least_hour(&totals)
     }
+}
+
+// Adds floors by the hour. A sum that is too large is of no sequence.
+fn add_hours(totals: &mut ByHour, floors: &ByHour)
+    ensures { (h : ℕ) → h < DAY_HOURS → slice_index totals.new h ≤ slice_index totals.old h + slice_index floors.now h }
+{
+    for h in 0..DAY_HOURS {
+        totals[h] = totals[h].saturating_add(floors[h]);
+    }
+}
+
+// The least of some costs, which is at most 1,920,000,000.
+fn least_hour(totals: &ByHour) -> u32
+    ensures least { (h : ℕ) → h < DAY_HOURS → result ≤ slice_index totals.now h }
+    ensures small { result ≤ GREATEST_COST }
+{
+    let mut least = GREATEST_COST;
+    for h in 0..DAY_HOURS {
+        least = least.min(totals[h]);
+    }
+    least
 }
 
 // The lesser of two floors.

@@ -4,6 +4,7 @@
 
 mod bound;
 mod floor;
+mod hour_floors;
 mod leaps;
 mod minute;
 mod quiet;

@@ -12,15 +12,18 @@ ghost use Rattle.minute_parts.specs.Walks.{later_minutes};
 ghost use Rattle.walk_costs.specs.Walks.{ShowsAnnouncement};
 ghost use Rattle.field_tables.specs.Minutes.{sequence_at};
 ghost use Rattle.field_tables.specs.Leaps.{IsLeapCost};
+ghost use Rattle.field_tables.specs.HourFloors.{IsHourLeast};
 ghost use Rattle.field_tables.specs.Sums.{IsOf};
 
 use crate::bound::cost_of_sets;
+use crate::hour_floors::{DAY_HOURS, hour_leasts};
 use block_costs::StationBlocks;
 use civil::Civil;
 use definitions::Block;
 use leap_unions::{LeapUnions, Sets};
 use minute_parts::{Parts, Unions};
 use signal_base::{Station, Window};
+use slot_columns::SECONDS_PER_MINUTE;
 use std::alloc::{AllocError, Global};
 use std::marker::Model;
 use symbol_cost::CostGrid;
@@ -40,17 +43,23 @@ pub struct LeapCost {
 pub struct StationSums {
     blocks: StationBlocks,
     leaps: LeapUnions,
+    // For each second in which a walk may begin, what no time of day costs less than, by the hours of the local day.
+    hours: Vec<u32>,
 }
 
 impl Model for StationSums {
-    ghost use Rattle.std.specs.Prelude.{◌≡◌, length};
+    ghost use Rattle.std.specs.Prelude.{◌≡◌, ◌*◌, length};
+    ghost use Rattle.slot_columns.specs.declared.limits.TheConstants.{SECONDS_PER_MINUTE};
     ghost use Rattle.walk_costs.specs.Walks.{PricedParts};
+    ghost use Rattle.field_tables.specs.HourFloors.{AreHourLeasts};
+    ghost use Rattle.field_tables.specs.declared.hour_floors.TheConstants.{DAY_HOURS};
 
     ghost Value = { PricedParts };
 
     ghost view = { λ s. s.blocks };
 
-    ghost invariant = { λ s. (s.leaps.station ≡ s.blocks.parts.station) × (s.leaps.seconds ≡ length s.blocks.grid.rows) };
+    ghost invariant = { λ s. (s.leaps.station ≡ s.blocks.parts.station) × (s.leaps.seconds ≡ length s.blocks.grid.rows)
+        × AreHourLeasts s.blocks s.hours.items (SECONDS_PER_MINUTE * DAY_HOURS) };
 }
 
 impl StationSums {
@@ -71,7 +80,21 @@ impl StationSums {
         let leaps = LeapUnions::make(alloc, civil, station, &unions, grid.seconds())?;
         let walks = StationWalks::make(alloc, unions, grid)?;
         let blocks = StationBlocks::make(alloc, walks, keep_days)?;
-        Ok(StationSums { blocks, leaps })
+        let hours = hour_leasts(alloc, blocks.walks())?;
+        Ok(StationSums {
+            blocks,
+            leaps,
+            hours,
+        })
+    }
+
+    /// What no time of day costs less than in an hour of the local day, in the walks from second `p`.
+    pub fn hour_least(&self, p: u8, h: usize) -> u32
+        requires second { p < SECONDS_PER_MINUTE }
+        requires hour { h < DAY_HOURS }
+        ensures { IsHourLeast self.now p h result }
+    {
+        self.hours[p as usize * DAY_HOURS + h]
     }
 
     /// What the station's sequences cost one by one.

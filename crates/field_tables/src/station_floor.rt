@@ -16,13 +16,13 @@ use crate::station::StationSums;
 use definitions::{Block, MINUTES_PER_DAY, MINUTES_PER_HOUR};
 use walk_costs::StationWalks;
 
-// What the sequences cost at the least that begin in a piece of a block's minutes.
+/// What the sequences cost at the least that begin in a piece of a block's minutes.
 #[derive(Clone, Copy, Debug, PartialEq, Eq)]
-struct Piece {
-    // The minute after its last one.
-    end: u32,
-    // None of them costs less.
-    floor: u32,
+pub struct Piece {
+    /// The minute after its last one.
+    pub end: u32,
+    /// None of them costs less.
+    pub floor: u32,
 }
 
 impl StationSums {
@@ -51,14 +51,15 @@ impl StationSums {
     }
 }
 
-// The piece from the minute `t` on: the minutes whose walks lie in the run of `t`, or those whose walks leave it.
+/// The piece from the minute `t` on: the minutes whose walks lie in the run of `t`, or those whose walks leave it.
 #[inline(always)]
-fn piece_from(walks: &StationWalks, block: &Block, t: u32, enough: u32) -> Piece
+pub fn piece_from(walks: &StationWalks, block: &Block, t: u32, enough: u32) -> Piece
     requires second { block.now.second < SECONDS_PER_MINUTE }
     requires begun { block.now.lo ≤ t }
     requires some { t < block.now.hi }
     requires regular { AreRegular block.now.announced block.now.lo (block.now.hi + later_minutes (length walks.now.grid.rows) block.now.second) walks.now.parts.end }
     ensures more { t < result.end }
+    ensures within { result.end ≤ block.now.hi }
     ensures floor { CostAtLeast walks.now block.now t result.end result.floor }
     ensures small { result.floor ≤ most_cost walks.now.grid }
 {
@@ -131,6 +132,7 @@ fn piece_across(walks: &StationWalks, block: &Block, t: u32, run: usize, enough:
     requires here { IsInRun walks.now.parts t run }
     requires leaves { end_of_run walks.now.parts.runs walks.now.parts.end run ≤ last_minute walks.now block.now.second t }
     ensures more { t < result.end }
+    ensures within { result.end ≤ block.now.hi }
     ensures floor { CostAtLeast walks.now block.now t result.end result.floor }
     ensures small { result.floor ≤ most_cost walks.now.grid }
 {

@@ -107,3 +107,10 @@ IsShown w announced p i Never =
 IsShown w announced p i Always =
     (t0 : ℕ) → IsRegularIn w announced p t0 i → ShowsAnnouncement w (record { first = t0; second = p; announced = announced })
 IsShown w announced p i Sometimes = Unit {0}
+
+-- no walk that lies in one run and begins in minute u of the local day costs less than n, what its date tells in the seconds that
+-- aren't given up for the call sign, and what DUT1 may add
+abbrev pub IsTimeCost : PricedParts → ℕ → ℕ → ℕ → Type 0
+IsTimeCost w p u n =
+    (announced : Bool) → (t0 i added : ℕ) → IsRegularIn w announced p t0 i → (t0 + (run_at w.parts.runs i).shift) % minutes_per_day ≡ u → MayAdd w p t0 added
+    → n + part_cost w.grid p (kept_of w.parts w.grid.station announced i) + added ≤ cost_of w announced p t0

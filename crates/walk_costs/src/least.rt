@@ -12,7 +12,7 @@ ghost use Rattle.slot_columns.specs.Parts.{AreWalkCosts, entry, most_cost};
 ghost use Rattle.walk_costs.specs.Crossings.{IsAcross};
 ghost use Rattle.walk_costs.specs.Dates.{most_given};
 ghost use Rattle.walk_costs.specs.Leasts.{AreBegins, AreHalfCosts, AreLeast, AreLeastSums, IsLeastBy, IsLeastOf, begin_count, least_at, place_of_run, split_at};
-ghost use Rattle.walk_costs.specs.Walks.{IsRegularIn, cost_of};
+ghost use Rattle.walk_costs.specs.Walks.{IsRegularIn, IsTimeCost, cost_of};
 
 use crate::date::{ByMinute, given_costs};
 use crate::halves::{Split, halves_of};
@@ -21,7 +21,7 @@ use crate::walks::{StationWalks, minutes_to_call};
 use definitions::MINUTES_PER_DAY;
 use minute_parts::{CALL_MINUTES, Parts, later_minutes};
 use signal_base::GREATEST_COST;
-use slot_columns::{SECONDS_PER_MINUTE, SlotColumns, WalkTable};
+use slot_columns::{SECONDS_PER_MINUTE, SlotColumns, WalkRow, WalkTable};
 use std::alloc::{AllocError, Global};
 
 /// What walks cost at the least, besides what the date costs in the seconds that the station doesn't give up.
@@ -139,6 +139,15 @@ impl StationWalks {
         let least = self.least.across.at(announced, p, run);
         let added = self.added_to_all(p, lo, hi);
         dates + least + added
+    }
+
+    /// What each minute of the local day costs in the walks from second `p` that begin in it. A walk that lies in one run costs
+    /// no less than that, what its date tells in the seconds that aren't given up, and what DUT1 may add, together.
+    pub fn time_costs(&self, p: u8) -> &WalkRow
+        requires { p < SECONDS_PER_MINUTE }
+        ensures { (u : ℕ) → u < minutes_per_day → IsTimeCost self.now p u (slice_index result.now u) }
+    {
+        self.walks.row(p)
     }
 }
 

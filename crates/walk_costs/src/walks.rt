@@ -239,9 +239,9 @@ impl StationWalks {
         }
     }
 
-    // What they add to each of the walks that begin in the minutes from `lo` up to, and without, `hi`. It is nothing unless all
-    // of them lie in one UTC day.
-    pub(crate) fn added_to_all(&self, p: u8, lo: u32, hi: u32) -> u32
+    /// What they add to each of the walks that begin in the minutes from `lo` up to, and without, `hi`. It is nothing unless all
+    /// of them lie in one UTC day.
+    pub fn added_to_all(&self, p: u8, lo: u32, hi: u32) -> u32
         requires second { p < SECONDS_PER_MINUTE }
         requires some { lo < hi }
         requires century { hi ≤ century_minutes }

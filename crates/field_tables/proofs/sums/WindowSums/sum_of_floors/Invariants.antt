@@ -4,7 +4,7 @@ use Rattle.symbol_cost.specs.Grid.{Grid, cost_at}
 use Rattle.field_tables.specs.Minutes.{sequence_at}
 use Rattle.field_tables.specs.Sums.{grids_of}
 use Rattle.field_tables.proofs.SumLaws.{IsWithin}
-use Rattle.field_tables.proofs.sums.WindowSums.least_cost.Given as goal
+use Rattle.field_tables.proofs.sums.WindowSums.sum_of_floors.Given as goal
 
 abbrev pub invariant-loop-station : goal.invariant-loop-station
 invariant-loop-station l = record {

@@ -1,0 +1,65 @@
+use Rattle.std.proofs.Common.{ℕ, ◌<◌, ◌≤◌, List, length, get_or, sum_by, take, refl, ap, ◌∙◌, subst, arith}
+use Rattle.signal_base.specs.declared.station.Station.{Station}
+use Rattle.definitions.specs.heard.Costs.{station_cost}
+use Rattle.symbol_cost.specs.Grid.{Grid, cost_at}
+use Rattle.walk_costs.specs.Walks.{PricedParts}
+use Rattle.field_tables.specs.Minutes.{sequence_at}
+use Rattle.field_tables.specs.Sums.{AreSums, Sums, grids_of}
+use Rattle.field_tables.proofs.MinuteLaws.{regular_walks}
+use Rattle.field_tables.proofs.SumLaws.{next_less, next_within, regular, slots, small, whole}
+use Rattle.field_tables.proofs.sums.WindowSums.sum_of_floors.Goals as goal
+
+pub floor-total-requires-clause-regular : goal.floor-total-requires-clause-regular
+floor-total-requires-clause-regular c =
+    let are = subst AreSums c.self.view_is c.self.invariant in
+    let all = c.deref-station-items.ensures.value ∙ ap (λ (s : Sums). s.stations) c.self.view_is in
+    let b = c.args.block.now in
+    let i = c.loop-station.station-index in
+    let w = c.station-item.result in
+    let lt = subst (λ (ws : List PricedParts). i < length ws) all c.loop-station-test.true in
+    let is = c.station-item.is ∙ ap (λ (ws : List PricedParts). get_or ws i w) all in
+    regular c.args.self.now are i w lt is b.announced b.second b.lo b.hi (regular_walks c.args.self.now b c.requires.walks c.requires.encoded)
+
+pub overflow_add-total : goal.overflow_add-total
+overflow_add-total c =
+    let are = subst AreSums c.self.view_is c.self.invariant in
+    let all = c.deref-station-items.ensures.value ∙ ap (λ (s : Sums). s.stations) c.self.view_is in
+    let i = c.loop-station.station-index in
+    let w = c.station-item.result in
+    let lt = subst (λ (ws : List PricedParts). i < length ws) all c.loop-station-test.true in
+    let is = c.station-item.is ∙ ap (λ (ws : List PricedParts). get_or ws i w) all in
+    omega (arith, small c.args.self.now are _ _ (next_within c.args.self.now are i w lt is c.loop-station.total c.floor-total.result c.loop-station.invariant.bound c.floor-total.ensures.small))
+
+pub loop-station-preserved : goal.loop-station-preserved
+loop-station-preserved c =
+    let sums = c.args.self.now in
+    let are = subst AreSums c.self.view_is c.self.invariant in
+    let all = c.deref-station-items.ensures.value ∙ ap (λ (s : Sums). s.stations) c.self.view_is in
+    let b = c.args.block.now in
+    let i = c.loop-station.station-index in
+    let w = c.station-item.result in
+    let lt = subst (λ (ws : List PricedParts). i < length ws) all c.loop-station-test.true in
+    let is = c.station-item.is ∙ ap (λ (ws : List PricedParts). get_or ws i w) all in
+    record {
+      none_less = λ t0 ge before.
+          let q = sequence_at b t0 in
+          let here = subst (λ n. c.floor-total.result ≤ station_cost w.grid.station (cost_at w.grid.rows) n q) (slots sums are i w lt is)
+          (c.floor-total.ensures.floor t0 ge before) in
+          next_less sums are i w lt is (λ (g : Grid). station_cost g.station (cost_at g.rows) sums.window.seconds q) _ _ (c.loop-station.invariant.none_less t0 ge before) here;
+      bound = next_within sums are i w lt is c.loop-station.total c.floor-total.result c.loop-station.invariant.bound c.floor-total.ensures.small;
+    }
+
+pub returns-clause-floor : goal.returns-clause-floor
+returns-clause-floor c = λ t0 ge lt.
+    let sums = c.args.self.now in
+    let are = subst AreSums c.self.view_is c.self.invariant in
+    let all = c.deref-station-items.ensures.value ∙ ap (λ (s : Sums). s.stations) c.self.view_is in
+    let i = c.loop-station.station-index in
+    let q = sequence_at c.args.block.now t0 in
+    let past = subst (λ (ws : List PricedParts). length ws ≤ i) all c.loop-station-test.false in
+    let cost = λ (station : Station) (costs : ℕ → ℕ → ℕ). station_cost station costs sums.window.seconds q in
+    let sum = whole sums are cost i (sum_by (λ (g : Grid). cost g.station (cost_at g.rows)) (take i (grids_of sums.stations))) past refl in
+    subst (λ n. c.loop-station.total ≤ n) sum (c.loop-station.invariant.none_less t0 ge lt)
+
+pub returns-clause-small : goal.returns-clause-small
+returns-clause-small c = small c.args.self.now (subst AreSums c.self.view_is c.self.invariant) _ _ c.loop-station.invariant.bound
