@@ -4,3 +4,4 @@ pub mod EachLaws
 pub mod KindLaws
 pub mod OutcomeLaws
 pub mod SeenLaws
+pub mod RangeLaws

@@ -5,6 +5,12 @@ pub mod DueLaws
 pub mod ReadLaws
 pub mod FileLaws
 pub mod WindowLaws
+pub mod BoundRangeLaws
+pub mod KeyExistLaws
+pub mod CertificateSizeLaws
+pub mod CertificateLaws
+pub mod CheckLaws
+pub mod CertificateDueLaws
 pub mod StationLaws
 pub mod StatusLaws
 pub mod ExampleLaws

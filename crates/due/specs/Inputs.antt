@@ -2,10 +2,11 @@
 -- may hold something else when it is read again.
 use Rattle.std.specs.Prelude.{ℕ, List}
 
--- the configuration; the log of a receiver, which are numbered from 1; and a text of frames
+-- the configuration; the log of a receiver, which are numbered from 1; a certificate; and a text of frames
 pub data Input : Type 0 where
   Configuration : Input
   LogOf : (receiver : ℕ) → Input
+  Certificate : Input
   FramesText : Input
 
 -- the bytes of each

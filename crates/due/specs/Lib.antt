@@ -6,6 +6,8 @@ pub mod Loads
 pub mod Banks
 pub mod Trials
 pub mod Status
+pub mod CheckDues
+pub mod CertificateRules
 pub mod Dues
 pub mod Outputs
 pub mod Rules

@@ -5,6 +5,9 @@
 
 mod bank_examples;
 mod bank_laws;
+mod certificate_examples;
+mod certificate_laws;
+mod check_due;
 mod due;
 mod duts;
 mod examples;
@@ -22,6 +25,16 @@ pub use bank_laws::{
     a_station_is_heard_where_a_receiver_listens, bank_has_one_answer,
     the_order_of_receivers_does_not_matter, window_is_in_range,
 };
+pub use certificate_examples::{
+    bounds_that_are_not_cheaper, certificates_of_two_workers, certificates_that_are_refused,
+    lines_of_checks, what_is_asked_of_certificates,
+};
+pub use certificate_laws::{
+    certificates_that_are_due_are_certified, certificates_that_are_due_are_valid,
+    no_block_is_opened_in_vain, one_certificate_is_due, one_thing_is_told_of_a_certificate,
+    pruned_blocks_are_not_cheaper_than_the_answer,
+};
+pub use check_due::{CertificateFault, CheckDue};
 pub use due::Due;
 pub use duts::{Duts, MOST_STATIONS};
 pub use examples::{

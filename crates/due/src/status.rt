@@ -22,6 +22,8 @@ pub enum Status {
     Failed,
     /// Memory wasn't found.
     NoMemory,
+    /// A certificate isn't valid.
+    BadCertificate,
     /// A text of frames is refused.
     BadFrames,
 }
@@ -40,6 +42,7 @@ impl Status {
             Status::BadLog => 5,
             Status::Failed => 6,
             Status::NoMemory => 7,
+            Status::BadCertificate => 8,
             Status::BadFrames => 10,
         }
     }
