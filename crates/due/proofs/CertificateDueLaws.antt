@@ -9,7 +9,6 @@ use Rattle.definitions.specs.declared.block.Block.{Block}
 use Rattle.definitions.specs.time.Calendar.{century_minutes}
 use Rattle.definitions.specs.heard.Costs.{Costs, sequence_cost}
 use Rattle.definitions.specs.heard.Logs.{Records}
-use Rattle.definitions.specs.heard.Receivers.{Receiver}
 use Rattle.definitions.specs.sequences.Windows.{IsWindow}
 use Rattle.definitions.specs.answers.Answers.{IsAdmitted, IsWindowAnswer}
 use Rattle.definitions.specs.answers.Blocks.{IsBound}
@@ -19,7 +18,6 @@ use Rattle.definitions.proofs.AnswerLaws.{walkable_sequence, window_answer_is_on
 use Rattle.definitions.proofs.EndLaws.{answer_is}
 use Rattle.race_words.specs.Keys.{two_least}
 use Rattle.block_visits.specs.Facts.{Facts}
-use Rattle.formats.specs.declared.refusal.Refusal.{Refusal}
 use Rattle.formats.specs.declared.words.Asked.{Asked}
 use Rattle.formats.specs.OrderRanges.{IsAsked}
 use Rattle.formats.specs.Orders.{Checked, Order, order_of}
@@ -38,9 +36,8 @@ use Rattle.certificates.specs.Texts.{certificate_text}
 use Rattle.certificates.specs.Validity.{IsValid, KeepsTo, leaf_keys}
 use Rattle.due.specs.Banks.{Bank, IsBankAnswer, bank_of, costs_in, receivers_of, window_of}
 use Rattle.due.specs.CertificateRules.{AsksCertificate, CertificateOrder, IsBankCertificate, IsCertificateDue, IsChecked, IsNotCheaper, Not_asked, Not_loaded, Written, certificate_name, certified, name_asked, parts_for}
-use Rattle.due.specs.Configurations.{logs_of}
 use Rattle.due.specs.Inputs.{Configuration, Contents}
-use Rattle.due.specs.Loads.{IsBankLoaded, IsBankRefused}
+use Rattle.due.specs.Loads.{IsBankLoaded}
 use Rattle.due.proofs.BoundRangeLaws.{AreTuned, bounds_small}
 use Rattle.due.proofs.CertificateLaws.{is_good, is_valid, keeps, lines_are, named, not_cheaper, one_certificate, some_certificate}
 use Rattle.due.proofs.CheckLaws.{tells_answer}

@@ -21,7 +21,7 @@ use Rattle.certificates.specs.declared.certificate.Kind.{Kind}
 use Rattle.certificates.specs.declared.certificate.Kind.TheVariants.{Opened, Pruned, Empty, Leaf}
 use Rattle.certificates.specs.declared.certificate.Line.{Line}
 use Rattle.certificates.specs.declared.limits.TheConstants.{MOST_PARTS, MOST_STEPS}
-use Rattle.certificates.specs.Certificates.{CanBeNamed, Certificate, IsLine, IsShaped, IsSpelled, lines_of}
+use Rattle.certificates.specs.Certificates.{CanBeNamed, Certificate, IsLine, IsShaped, lines_of}
 use Rattle.certificates.specs.Judged.{IsGoodCertificate}
 use Rattle.certificates.specs.Texts.{certificate_text}
 use Rattle.certificates.specs.Validity.{AreTight, AreWalks, IsValid, KeepsTo, Show, leaf_keys, limit_named, opened_as, opened_by}

@@ -1,17 +1,15 @@
 -- How many bytes a certificate has.
-use Rattle.std.proofs.Common.{◌≡◌, ℕ, zero, suc, ◌+◌, ◌*◌, ◌/◌, ◌%◌, ◌^◌, ◌<◌, ◌≤◌, Bool, true, false, nat_lt, if◌then◌else◌, List, [], ◌∷◌, ◌++◌, map, length, flat_map, Option, Some, None, codes, sum_by, refl, sym, ap, subst, arith, length-append}
+use Rattle.std.proofs.Common.{◌≡◌, ℕ, ◌+◌, ◌*◌, ◌^◌, ◌<◌, ◌≤◌, Bool, true, false, nat_lt, if◌then◌else◌, List, [], ◌∷◌, ◌++◌, map, length, flat_map, Option, Some, None, codes, refl, sym, subst, arith, length-append}
 use Rattle.std.specs.Fmt.{decimal}
 use Rattle.std.specs.List.{AllByRecursion}
 use Rattle.std.proofs.lemmas.Fmt.{length-decimal-le}
 use Rattle.std.proofs.lemmas.List.Concat.{flat_map-append, length-flat_map}
-use Rattle.signal_base.specs.declared.limits.TheConstants.{GREATEST_COST, MOST_SECONDS, START_LIMIT}
+use Rattle.signal_base.specs.declared.limits.TheConstants.{GREATEST_COST}
 use Rattle.signal_base.specs.declared.station.Station.{Station}
 use Rattle.signal_base.specs.declared.station.Stations.{Stations}
 use Rattle.definitions.specs.declared.block.Span.{Span}
 use Rattle.definitions.specs.declared.block.Span.TheVariants.{Year, Day, Hour, Minute}
 use Rattle.definitions.specs.codes.Allowed.{stations_of}
-use Rattle.definitions.specs.time.Calendar.{century_minutes}
-use Rattle.definitions.specs.sequences.Keys.{cost_of, index_end}
 use Rattle.definitions.specs.sequences.Windows.{IsWindow}
 use Rattle.formats.specs.Bytes.{line, line_feed, space, station_name}
 use Rattle.formats.specs.Refusals.{named_key}
@@ -20,9 +18,9 @@ use Rattle.certificates.specs.declared.certificate.Kind.{Kind}
 use Rattle.certificates.specs.declared.certificate.Kind.TheVariants.{Opened, Pruned, Empty, Leaf}
 use Rattle.certificates.specs.declared.certificate.Line.{Line}
 use Rattle.certificates.specs.declared.limits.TheConstants.{CERTIFICATE_LIMIT, MOST_STEPS}
-use Rattle.certificates.specs.Certificates.{CanBeNamed, Certificate, IsCost, IsLine, IsShaped, IsSpelled, lines_of}
-use Rattle.certificates.specs.Texts.{Entry, HeadLine, announced_text, certificate_text, entries_text, entry_line, entry_text, head_entries, head_text, kind_text, part_entries, span_text, stations_text, step_text, version_of}
-use Rattle.certificates.specs.Texts.Entry.{End, Part, Step, Tells}
+use Rattle.certificates.specs.Certificates.{CanBeNamed, Certificate, IsLine, IsShaped, IsSpelled, lines_of}
+use Rattle.certificates.specs.Texts.{Entry, announced_text, certificate_text, entries_text, entry_line, head_entries, kind_text, part_entries, span_text, stations_text, step_text, version_of}
+use Rattle.certificates.specs.Texts.Entry.{Part, Step, Tells}
 use Rattle.certificates.specs.Texts.HeadLine.{Ceiling, First, From, Heard, Phase, Second, Seconds, Start, To, Version}
 use Rattle.due.proofs.BoundRangeLaws.{sum_stations}
 

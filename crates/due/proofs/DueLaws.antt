@@ -17,12 +17,13 @@ use Rattle.due.specs.declared.due.Due.TheVariants as dues
 use Rattle.due.specs.Banks.{Bank, IsBankAnswer, bank_of, costs_in, window_of}
 use Rattle.due.specs.Configurations.{IsConfiguration, logs_of}
 use Rattle.due.specs.Loads.{IsBankLoaded, IsBankRefused, Bad_configuration, Bad_log}
-use Rattle.due.specs.Inputs.{Configuration, Contents}
+use Rattle.due.specs.Inputs.{Certificate, Configuration, Contents}
 use Rattle.due.specs.LogFiles.{AreGood, IsFirstBad}
-use Rattle.due.specs.Orders.{BankOrder, Report, Sentences, bank_order, built, order_in, word_refusal}
-use Rattle.due.specs.Rules.{AsksBank, IsDue, Bad_words, Listed, Tried, Bad_bank, Answered, IsReported, reported}
+use Rattle.due.specs.Orders.{BankOrder, Judgement, Report, Sentences, Wanted, bank_order, order_in, word_refusal}
+use Rattle.due.specs.Rules.{AsksBank, IsAnswered, IsDue, Bad_words, Listed, Tried, Bad_bank, Answered, IsReported, IsWanted, reported}
 use Rattle.due.specs.Trials.{trial_asked, trial_bank}
-use Rattle.due.proofs.WordLaws.{asked_of_bank, is_built, is_run}
+use Rattle.due.proofs.CheckLaws.{one_told, some_told}
+use Rattle.due.proofs.WordLaws.{asked_of_bank, is_run}
 use Rattle.due.proofs.ConfigurationLaws as configurations
 use Rattle.due.proofs.LogFileLaws.{AreJudged, all_good_once, all_good_none_bad, all_judged, first_bad_once}
 
@@ -45,7 +46,7 @@ module _ (contents : Contents) where
   abbrev IsDueOfBank : BankOrder → Due → Type 0
   IsDueOfBank o due =
       ((refusal : Refusal) × IsBankRefused contents refusal × (due ≡ dues.Refused refusal))
-      ⊎ ((config : PlainConfig) × (records : List Records) × IsBankLoaded contents config records × IsReported o (bank_of config records) due)
+      ⊎ ((config : PlainConfig) × (records : List Records) × IsBankLoaded contents config records × IsAnswered o (bank_of config records) (contents Certificate) due)
 
   -- what is due for an order
   abbrev IsDueOfOrder : Order → Due → Type 0
@@ -79,13 +80,28 @@ module _ (contents : Contents) where
   same_refusal : (r s : Refusal) (x y : Due) → r ≡ s → x ≡ dues.Refused r → y ≡ dues.Refused s → x ≡ y
   same_refusal r s x y e f g = cc
 
-  same_told : (o : BankOrder) (bank : Bank) (a b : Answer) (x y : Due) → a ≡ b → x ≡ reported o.wanted (window_of o.asked bank.receivers) bank a
-      → y ≡ reported o.wanted (window_of o.asked bank.receivers) bank b → x ≡ y
-  same_told o bank a b x y e f g = f ∙ ap (reported o.wanted (window_of o.asked bank.receivers) bank) e ∙ sym g
+  one_reported : (wanted : Wanted) (ask : Asked) (bank : Bank) (x y : Due) → ask.to ≤ century_minutes → IsReported wanted (window_of ask bank.receivers) bank x
+      → IsReported wanted (window_of ask bank.receivers) bank y → x ≡ y
+  one_reported wanted ask bank x y century h k =
+      h.2 ∙ (ap (reported wanted (window_of ask bank.receivers) bank) (bank_answer_is_one ask bank h.0 k.0 century h.1 k.1) ∙ sym k.2)
 
-  one_told : (o : BankOrder) (bank : Bank) (x y : Due) → o.asked.to ≤ century_minutes → IsReported o bank x → IsReported o bank y → x ≡ y
-  one_told o bank x y century h k =
-      same_told o bank h.0 k.0 x y (bank_answer_is_one o.asked bank h.0 k.0 century h.1 k.1) h.2 k.2
+  one_wanted : (wanted : Wanted) (ask : Asked) (bank : Bank) (bytes : List ℕ) (x y : Due) → ask.to ≤ century_minutes → IsWanted wanted (window_of ask bank.receivers) bank bytes x
+      → IsWanted wanted (window_of ask bank.receivers) bank bytes y → x ≡ y
+  one_wanted (Report certificate) ask bank bytes x y century h k = one_reported (Report certificate) ask bank x y century h k
+  one_wanted Sentences ask bank bytes x y century h k = one_reported Sentences ask bank x y century h k
+  one_wanted (Judgement certificate) ask bank bytes x y century h k =
+      h.2 ∙ (ap dues.Checked (one_told (window_of ask bank.receivers) bank bytes h.0 k.0 h.1 k.1) ∙ sym k.2)
+
+  some_wanted : (wanted : Wanted) (ask : Asked) (bank : Bank) (bytes : List ℕ) → ask.to ≤ century_minutes → (due : Due) × IsWanted wanted (window_of ask bank.receivers) bank bytes due
+  some_wanted (Report certificate) ask bank bytes century =
+      let found = bank_has_answer ask bank century in
+      (reported (Report certificate) (window_of ask bank.receivers) bank found.0, (found.0, found.1, refl))
+  some_wanted Sentences ask bank bytes century =
+      let found = bank_has_answer ask bank century in
+      (reported Sentences (window_of ask bank.receivers) bank found.0, (found.0, found.1, refl))
+  some_wanted (Judgement certificate) ask bank bytes century =
+      let found = some_told (window_of ask bank.receivers) bank bytes in
+      (dues.Checked found.0, (found.0, found.1, refl))
 
   -- a bank is refused in one way, or it is loaded, and one bank is
   pub one_refusal : (r s : Refusal) → IsBankRefused contents r → IsBankRefused contents s → r ≡ s
@@ -114,7 +130,8 @@ module _ (contents : Contents) where
   one_due_of_bank o x y century (inl h) (inr k) = absurd (not_both k.0 k.1 h.0 k.2 h.1)
   one_due_of_bank o x y century (inr h) (inl k) = absurd (not_both h.0 h.1 k.0 h.2 k.1)
   one_due_of_bank o x y century (inr h) (inr k) =
-      one_told o (bank_of k.0 k.1) x y century (subst (λ (b : Bank). IsReported o b x) (one_bank h.0 k.0 h.1 k.1 h.2 k.2) h.3) k.3
+      one_wanted o.wanted o.asked (bank_of k.0 k.1) (contents Certificate) x y century
+      (subst (λ (b : Bank). IsAnswered o b (contents Certificate) x) (one_bank h.0 k.0 h.1 k.1 h.2 k.2) h.3) k.3
 
   same_order : {A : Type 0} (a b : A) (found : Option A) → found ≡ Some a → found ≡ Some b → a ≡ b
   same_order a b found e f = cc
@@ -165,25 +182,25 @@ module _ (contents : Contents) where
       go : IsBankJudged → (due : Due) × IsDue words contents due
       go (inr bad) = (dues.Refused bad.0, Bad_bank o asks bad.0 bad.1 refl)
       go (inl good) =
-          let bank = bank_of good.0 good.1 in
-          let found = bank_has_answer o.asked bank (asked_of_bank words o asks).century in
-          (reported o.wanted (window_of o.asked bank.receivers) bank found.0, Answered o asks good.0 good.1 good.2 (found.0, found.1, refl))
+          let found = some_wanted o.wanted o.asked (bank_of good.0 good.1) (contents Certificate) (asked_of_bank words o asks).century in
+          (found.0, Answered o asks good.0 good.1 good.2 found.1)
 
-  order_owes : (words : List (List ℕ)) (order : Order) → order_in words ≡ Ok order → built order ≡ Ok order → is_run_order order ≡ true → (due : Due) × IsDue words contents due
-  order_owes words (Decode config asked workers certificate) is made run =
+  order_owes : (words : List (List ℕ)) (order : Order) → order_in words ≡ Ok order → is_run_order order ≡ true → (due : Due) × IsDue words contents due
+  order_owes words (Decode config asked workers certificate) is run =
       bank_owes words (record { config = config; asked = asked; wanted = Report certificate }) (Decode config asked workers certificate, is, refl)
-  order_owes words (Feed config asked workers) is made run =
+  order_owes words (Feed config asked workers) is run =
       bank_owes words (record { config = config; asked = asked; wanted = Sentences }) (Feed config asked workers, is, refl)
-  order_owes words (Encode station minute announced) is made run = (dues.Listing station minute announced, Listed station minute announced is refl)
-  order_owes words (Trial number workers) is made run =
+  order_owes words (Encode station minute announced) is run = (dues.Listing station minute announced, Listed station minute announced is refl)
+  order_owes words (Trial number workers) is run =
       let found = bank_has_answer trial_asked (trial_bank number) whole_century in
       (dues.Trial number (trial_station number) (trial_receivers number) (trial_sequence number) found.0, Tried number workers is found.0 found.1 refl)
-  order_owes words (Check config certificate asked) is made run = absurd cc
-  order_owes words order is made run = absurd cc
+  order_owes words (Check config certificate asked) is run =
+      bank_owes words (record { config = config; asked = asked; wanted = Judgement certificate }) (Check config certificate asked, is, refl)
+  order_owes words order is run = absurd cc
 
   pub some_due : (words : List (List ℕ)) → (due : Due) × IsDue words contents due
   some_due words = by_order (order_in words) refl
     where
       by_order : (c : Checked Order) → order_in words ≡ c → (due : Due) × IsDue words contents due
       by_order (Err fault) is = (dues.Refused (word_refusal fault), Bad_words fault is refl)
-      by_order (Ok order) is = order_owes words order is (is_built words order is).1 (is_run words order is)
+      by_order (Ok order) is = order_owes words order is (is_run words order is)

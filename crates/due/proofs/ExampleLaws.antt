@@ -14,11 +14,11 @@ use Rattle.bank_config.specs.Configuration.{PlainConfig}
 use Rattle.due.specs.declared.due.Due.TheVariants.{Refused}
 use Rattle.due.specs.Configurations.{IsConfiguration, logs_of}
 use Rattle.due.specs.Examples.{held, two_receivers}
-use Rattle.due.specs.Inputs.{Contents, LogOf}
+use Rattle.due.specs.Inputs.{Certificate, Contents, LogOf}
 use Rattle.due.specs.LogFiles.{Bad_line, IsGood, IsLogRead, Too_large}
-use Rattle.due.specs.Orders.{BankOrder, Report, Sentences, order_in, word_refusal}
+use Rattle.due.specs.Orders.{BankOrder, Judgement, Report, Sentences, Wanted, order_in, word_refusal}
 use Rattle.due.specs.Loads.{Bad_log, Reads_configuration, Reads_log}
-use Rattle.due.specs.Rules.{AsksBank, IsDue, Bad_bank, Bad_words, IsRead}
+use Rattle.due.specs.Rules.{AsksBank, IsDue, Bad_bank, Bad_words, IsJudgedFile, IsRead, Reads_bank, Reads_certificate}
 use Rattle.due.proofs.ConfigurationLaws.{one_configuration}
 use Rattle.due.proofs.LogFileLaws.{good_not_bad}
 
@@ -83,7 +83,7 @@ module _ (config : List ℕ) (is : IsConfiguration config two_receivers) where
       Bad_bank fed feed_asks (LogLine 1 (codes "north") 2 NotRising) (Bad_log two_receivers is (inl (Bad_line (omega arith) 2 NotRising second_line refl))) refl
 
   pub second_read : (second : List ℕ) → IsRead (words_in (codes "feed k.toml")) (held config good_log second) (LogOf 2) (codes "s.log")
-  second_read second = (fed, feed_asks, Reads_log two_receivers is (inr ((12, Low) ∷ [], good, inl (refl, refl))))
+  second_read second = (fed, feed_asks, Reads_bank (Reads_log two_receivers is (inr ((12, Low) ∷ [], good, inl (refl, refl)))))
 
   none_behind : (second : List ℕ) → IsLogRead (held config bad_log second) (logs_of two_receivers) (LogOf 2) (codes "s.log") → ⊥
   none_behind second (inl h) = absurd (omega (arith, same_receiver 2 1 h.0))
@@ -91,7 +91,16 @@ module _ (config : List ℕ) (is : IsConfiguration config two_receivers) where
       good_not_bad (record { receiver = 1; name = codes "north"; file = codes "n.log" }) bad_log h.0 (LogLine 1 (codes "north") 2 NotRising) h.1
       (Bad_line (omega arith) 2 NotRising second_line refl)
 
+  not_log : LogOf 2 ≡ Certificate → ⊥
+  not_log e = cc
+
+  not_judged : (wanted : Wanted) → IsJudgedFile wanted (LogOf 2) (codes "s.log") → ⊥
+  not_judged (Report certificate) read = read
+  not_judged Sentences read = read
+  not_judged (Judgement certificate) read = not_log read.0
+
   pub second_not_read : (second : List ℕ) → ¬ (IsRead (words_in (codes "feed k.toml")) (held config bad_log second) (LogOf 2) (codes "s.log"))
-  second_not_read second (o, asks, Reads_configuration e f) = absurd cc
-  second_not_read second (o, asks, Reads_log other says read) =
+  second_not_read second (o, asks, Reads_bank (Reads_configuration e f)) = absurd cc
+  second_not_read second (o, asks, Reads_certificate other records loaded read) = absurd (not_judged o.wanted read)
+  second_not_read second (o, asks, Reads_bank (Reads_log other says read)) =
       none_behind second (subst (λ (c : PlainConfig). IsLogRead (held config bad_log second) (logs_of c) (LogOf 2) (codes "s.log")) (one_configuration config other two_receivers says is) read)

@@ -1,5 +1,5 @@
 -- Something is due of the commands of frames for all words and contents, and only one thing.
-use Rattle.std.proofs.Common.{◌≡◌, ◌≢◌, ℕ, ◌<◌, ◌≤◌, ◌⊎◌, inl, inr, List, Result, Ok, Err, length, refl, sym, ◌∙◌, ap, subst, arith}
+use Rattle.std.proofs.Common.{◌≡◌, ℕ, ◌<◌, ◌≤◌, ◌⊎◌, inl, inr, List, Ok, Err, length, refl, sym, ◌∙◌, ap, subst, arith}
 use Rattle.std.proofs.lemmas.Bool.{cases_lt}
 use Rattle.definitions.specs.declared.answer.Answer.{Answer}
 use Rattle.definitions.specs.heard.Logs.{Records}
@@ -9,7 +9,7 @@ use Rattle.formats.specs.declared.frame.FrameLineFault.{FrameLineFault}
 use Rattle.formats.specs.declared.frame.TheConstants.{FRAMES_LIMIT}
 use Rattle.formats.specs.declared.refusal.Refusal.{Refusal}
 use Rattle.formats.specs.declared.words.Asked.{Asked}
-use Rattle.formats.specs.FrameTexts.{HasOutcome, IsRefused, IsTextOf}
+use Rattle.formats.specs.FrameTexts.{HasOutcome}
 use Rattle.formats.specs.OrderRanges.{IsAsked, IsInRange}
 use Rattle.formats.specs.Orders.{Checked, Order, order_of}
 use Rattle.formats.specs.Orders.Order.{Decode, Check, Feed, Encode, Trial, Follow, Sweep, Judge, Board, Irig, IrigRead}
@@ -20,11 +20,10 @@ use Rattle.bank_config.specs.Configuration.{PlainConfig}
 use Rattle.due.specs.declared.due.Due.TheVariants as dues
 use Rattle.due.specs.declared.frame_due.FrameDue.{FrameDue}
 use Rattle.due.specs.declared.frame_due.FrameDue.TheVariants as frame_dues
-use Rattle.due.specs.Banks.{Bank, IsBankAnswer, bank_of, window_of}
-use Rattle.due.specs.Configurations.{IsConfiguration, logs_of}
+use Rattle.due.specs.Banks.{Bank, bank_of, window_of}
 use Rattle.due.specs.FrameOrders.{AsksFrames, frame_order_in, of_frames}
 use Rattle.due.specs.FrameRules.{Answered, Bad_bank, Bad_line, Bad_words, Good, IsFrameDue, IsFramed, IsToldOf, Of_text, Too_large, framed}
-use Rattle.due.specs.Inputs.{Configuration, Contents, FramesText}
+use Rattle.due.specs.Inputs.{Contents, FramesText}
 use Rattle.due.specs.Loads.{IsBankLoaded, IsBankRefused}
 use Rattle.due.specs.Orders.{word_refusal}
 use Rattle.due.proofs.DueLaws.{IsBankJudged, bank_answer_is_one, bank_has_answer, bank_judged, not_both, one_bank, one_refusal}

@@ -1,11 +1,9 @@
 -- Which files the commands of frames read: none for refused words, and for a text of frames its file alone.
-use Rattle.std.proofs.Common.{◌≡◌, ℕ, List, Ok, Err, refl, sym, ◌∙◌}
+use Rattle.std.proofs.Common.{◌≡◌, ℕ, List, Ok, Err}
 use Rattle.formats.specs.declared.words.Asked.{Asked}
 use Rattle.formats.specs.declared.words.WordFault.{WordFault}
 use Rattle.formats.specs.Orders.{Checked, Order}
 use Rattle.formats.specs.Orders.Order.{Irig, IrigRead}
-use Rattle.bank_config.specs.Configuration.{PlainReceiver}
-use Rattle.due.specs.Configurations.{logs_from}
 use Rattle.due.specs.FrameOrders.{AsksFrames, AsksReading, frame_order_in}
 use Rattle.due.specs.FrameRules.{IsFrameRead, Reads_bank, Reads_frames}
 use Rattle.due.specs.Inputs.{Contents, Input}

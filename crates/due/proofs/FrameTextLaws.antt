@@ -1,5 +1,5 @@
 -- The text that is printed of a decided answer: it is that of frames in order, and it isn't too large to be read.
-use Rattle.std.proofs.Common.{◌≡◌, ℕ, ◌+◌, ◌*◌, ◌<◌, ◌≤◌, ◌==◌, Bool, true, false, if◌then◌else◌, List, [], ◌∷◌, ◌++◌, get_or, length, sum_by, refl, sym, ap, subst, arith, length-append}
+use Rattle.std.proofs.Common.{◌≡◌, ℕ, ◌+◌, ◌*◌, ◌<◌, ◌≤◌, ◌==◌, Bool, true, false, if◌then◌else◌, List, [], ◌∷◌, ◌++◌, get_or, length, sum_by, refl, sym, subst, arith, length-append}
 use Rattle.std.specs.Fmt.{decimal}
 use Rattle.std.proofs.lemmas.Fmt.{length-decimal-le}
 use Rattle.std.proofs.lemmas.List.Concat.{length-flat_map}
@@ -10,20 +10,17 @@ use Rattle.signal_base.specs.declared.limits.TheConstants.{MOST_SECONDS, START_L
 use Rattle.definitions.specs.declared.answer.Answer.{Answer}
 use Rattle.definitions.specs.declared.answer.Answer.TheVariants as answers
 use Rattle.definitions.specs.declared.sequence.Sequence.{Sequence}
-use Rattle.definitions.specs.sequences.Walks.{IsWalkable}
 use Rattle.formats.specs.declared.frame.Frame.{Frame}
 use Rattle.formats.specs.declared.frame.TheConstants.{EDGE_LIMIT, ELEMENTS, ELEMENT_TIME, FRAMES_LIMIT, FRAME_LIMIT, MOST_FRAMES}
 use Rattle.formats.specs.declared.words.Asked.{Asked}
 use Rattle.formats.specs.Bytes.{letter_h, letter_l, line_feed, space}
 use Rattle.formats.specs.Frames.{edge, element, elements, frame_text, frames_text, pulses, width}
-use Rattle.formats.specs.FrameTexts.{AreInOrder, IsTextOf}
+use Rattle.formats.specs.FrameTexts.{AreInOrder}
 use Rattle.formats.specs.FrameWalks.{walk_frames}
 use Rattle.formats.proofs.FrameWalkLaws.{walk_in_order}
 use Rattle.definitions.specs.time.Calendar.{utc_fields}
-use Rattle.due.specs.declared.due.Due.TheVariants as dues
-use Rattle.due.specs.declared.frame_due.FrameDue.{FrameDue}
 use Rattle.due.specs.declared.frame_due.FrameDue.TheVariants as frame_dues
-use Rattle.due.specs.Banks.{Bank, IsBankAnswer, bank_of, duts_of, receivers_of, start_of, window_of}
+use Rattle.due.specs.Banks.{Bank, IsBankAnswer, bank_of, start_of, window_of}
 use Rattle.due.specs.FrameDues.{frame_due_text}
 use Rattle.due.specs.FrameOrders.{AsksReading}
 use Rattle.due.specs.FrameRules.{Answered, Bad_bank, Bad_line, Bad_words, Good, IsFrameDue, Of_text, Too_large, framed}

@@ -20,10 +20,10 @@ use Rattle.due.specs.declared.heard_due.HeardDue.{HeardDue}
 use Rattle.due.specs.declared.heard_due.HeardDue.TheVariants.{Told, Heard}
 use Rattle.due.specs.Banks.{Bank, IsBankAnswer, bank_of, duts_of, is_heard, stations_heard, window_of}
 use Rattle.due.specs.HeardRuns.{AsksHeard, IsHeardDue, Bad_words as Words_refused, Bad_bank as Bank_refused, Answered as Shown, IsShown, decode_words, hearing_of, names_left_out}
-use Rattle.due.specs.Inputs.{Contents}
+use Rattle.due.specs.Inputs.{Certificate, Contents}
 use Rattle.due.specs.Loads.{IsBankLoaded}
 use Rattle.due.specs.Orders.{BankOrder, Wanted}
-use Rattle.due.specs.Rules.{IsDue, Answered, Bad_bank, Bad_words, reported}
+use Rattle.due.specs.Rules.{IsDue, Answered, Bad_bank, Bad_words, IsWanted}
 use Rattle.due.proofs.HeardWordLaws.{asks_decode, none_named, report_wanted}
 use Rattle.due.proofs.WindowLaws.{station_is_heard}
 
@@ -65,7 +65,8 @@ module _ (words : List (List ℕ)) (contents : Contents) where
       let bank = bank_of config records in
       let window = window_of o.asked bank.receivers in
       let wanted = report_wanted words o asks in
-      Answered o (asks_decode words o asks) config records loaded (answer, is, sym (ap (λ (w : Wanted). reported w window bank answer) wanted.1))
+      Answered o (asks_decode words o asks) config records loaded
+      (subst (λ (w : Wanted). IsWanted w window bank (contents Certificate) (dues.Report window answer (duts_of window bank answer))) (sym wanted.1) (answer, is, refl))
 
   told_of : (o : BankOrder) → AsksHeard words o → (config : PlainConfig) (records : List Records) → IsBankLoaded contents config records
       → (due : Due) → IsShown o (bank_of config records) (Told due) → IsDue (decode_words words) contents due

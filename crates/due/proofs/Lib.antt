@@ -3,6 +3,7 @@ pub mod LogFileLaws
 pub mod ConfigurationLaws
 pub mod DueLaws
 pub mod ReadLaws
+pub mod OwedLaws
 pub mod FileLaws
 pub mod WindowLaws
 pub mod BoundRangeLaws

@@ -1,14 +1,21 @@
 -- Contents that agree on what is read owe the same, and lead to the same files.
-use Rattle.std.proofs.Common.{◌≡◌, ◌↔◌, ℕ, inl, inr, List, [], ◌∷◌, refl, sym, subst}
+use Rattle.std.proofs.Common.{◌≡◌, ◌↔◌, ℕ, inl, inr, List, [], ◌∷◌, Option, Some, refl, sym, subst}
+use Rattle.signal_base.specs.declared.window.Window.{Window}
 use Rattle.definitions.specs.heard.Logs.{Records}
 use Rattle.formats.specs.declared.refusal.Refusal.{Refusal}
+use Rattle.formats.specs.Orders.Order.{Decode}
 use Rattle.bank_config.specs.Configuration.{PlainConfig}
 use Rattle.due.specs.declared.due.Due.{Due}
 use Rattle.due.specs.Configurations.{IsBadConfiguration, IsConfiguration, logs_of}
-use Rattle.due.specs.Inputs.{Configuration, Contents, Input, LogOf}
+use Rattle.certificates.specs.Certificates.{Certificate as PlainCertificate}
+use Rattle.due.specs.Banks.{Bank, bank_of, window_of}
+use Rattle.due.specs.CertificateRules.{AsksCertificate, CertificateOrder, IsCertificateDue, Not_asked, Not_loaded, Written}
+use Rattle.due.specs.Inputs.{Certificate, Configuration, Contents, Input, LogOf}
 use Rattle.due.specs.LogFiles.{AreGood, IsBad, IsFirstBad, IsGood, IsLogRead, LogFile}
 use Rattle.due.specs.Loads.{IsBankLoaded, IsBankRead, IsBankRefused, Bad_configuration, Bad_log, Reads_configuration, Reads_log}
-use Rattle.due.specs.Rules.{IsDue, Bad_words, Listed, Tried, Bad_bank, Answered, IsRead}
+use Rattle.due.specs.Orders.{BankOrder, Judgement, Report, Sentences, Wanted}
+use Rattle.due.specs.Owed.{IsOwed, Owed}
+use Rattle.due.specs.Rules.{AsksBank, IsDue, Bad_words, Listed, Tried, Bad_bank, Answered, IsJudged, IsJudgedFile, IsRead, IsWanted, Reads_bank, Reads_certificate}
 
 module _ (some other : Contents) where
   -- they agree on the logs that are read
@@ -64,6 +71,18 @@ module _ (name : List ℕ) (some other : Contents) (agree : (input : Input) (fil
   pub loaded_too : (config : PlainConfig) (records : List Records) → IsBankLoaded some config records → IsBankLoaded other config records
   loaded_too config records is = record { says = is_too config is.says; good = good_too some other (logs_of config) records (on_logs config is.says) is.good }
 
+  pub loaded_back : (config : PlainConfig) (records : List Records) → IsBankLoaded other config records → IsBankLoaded some config records
+  loaded_back config records is =
+      let here = is_back config is.says in
+      record { says = here; good = good_back (logs_of config) records (on_logs config here) is.good }
+    where
+      good_back : (logs : List LogFile) (all : List Records) → AgreeOnLogs some other logs → AreGood other logs all → AreGood some logs all
+      good_back [] all agrees h = h
+      good_back (log ∷ logs) [] agrees h = h
+      good_back (log ∷ logs) (first ∷ rest) agrees h =
+          let good = subst (λ bytes. IsGood bytes first) (sym (first_agrees some other log logs agrees)) h.0 in
+          (good, good_back logs rest (rest_agrees some other log logs first good agrees) h.1)
+
   pub refused_too : (refusal : Refusal) → IsBankRefused some refusal → IsBankRefused other refusal
   refused_too refusal (Bad_configuration bad) = Bad_configuration (subst (λ bytes. IsBadConfiguration bytes refusal) same_configuration bad)
   refused_too refusal (Bad_log config is bad) = Bad_log config (is_too config is) (bad_too some other (logs_of config) refusal (on_logs config is) bad)
@@ -82,20 +101,53 @@ module _ (name : List ℕ) (some other : Contents) (agree : (input : Input) (fil
 abbrev pub Agree : List (List ℕ) → Contents → Contents → Type 0
 Agree words some other = (input : Input) (file : List ℕ) → IsRead words some input file → some input ≡ other input
 
+-- what is wanted of a bank rests on the certificate where it is judged
+wanted_too : (wanted : Wanted) (window : Window) (bank : Bank) (some other : List ℕ) (due : Due) → ((file : List ℕ) → IsJudgedFile wanted Certificate file → some ≡ other)
+    → IsWanted wanted window bank some due → IsWanted wanted window bank other due
+wanted_too (Report certificate) window bank some other due same h = h
+wanted_too Sentences window bank some other due same h = h
+wanted_too (Judgement certificate) window bank some other due same h = subst (λ bytes. IsJudged window bank bytes due) (same certificate (refl, refl)) h
+
+-- who asks for a certificate asks something of a bank
+abbrev pub bank_of_order : CertificateOrder → BankOrder
+bank_of_order o = record { config = o.config; asked = o.asked; wanted = Report (Some o.name) }
+
+pub asks_of_bank : (words : List (List ℕ)) (o : CertificateOrder) → AsksCertificate words o → AsksBank words (bank_of_order o)
+asks_of_bank words o asks = (Decode o.config o.asked o.workers (Some o.name), asks, refl)
+
 module _ (words : List (List ℕ)) (some other : Contents) (agree : Agree words some other) where
+  on_bank : (o : BankOrder) → AsksBank words o → (input : Input) (file : List ℕ) → IsBankRead o.config some input file → some input ≡ other input
+  on_bank o asks input file read = agree input file (o, asks, Reads_bank read)
+
   due_too : (due : Due) → IsDue words some due → IsDue words other due
   due_too due (Bad_words fault is e) = Bad_words fault is e
   due_too due (Listed station minute announced is e) = Listed station minute announced is e
   due_too due (Tried number workers is answer of e) = Tried number workers is answer of e
-  due_too due (Bad_bank o asks refusal bad e) = Bad_bank o asks refusal (refused_too o.config some other (λ input file read. agree input file (o, asks, read)) refusal bad) e
-  due_too due (Answered o asks config records loaded reported) =
-      Answered o asks config records (loaded_too o.config some other (λ input file read. agree input file (o, asks, read)) config records loaded) reported
+  due_too due (Bad_bank o asks refusal bad e) = Bad_bank o asks refusal (refused_too o.config some other (on_bank o asks) refusal bad) e
+  due_too due (Answered o asks config records loaded answered) =
+      Answered o asks config records (loaded_too o.config some other (on_bank o asks) config records loaded)
+      (wanted_too o.wanted (window_of o.asked (bank_of config records).receivers) (bank_of config records) (some Certificate) (other Certificate) due
+      (λ file is. agree Certificate file (o, asks, Reads_certificate config records loaded is)) answered)
+
+  certificate_too : (owed : Option PlainCertificate) → IsCertificateDue words some owed → IsCertificateDue words other owed
+  certificate_too owed (Not_asked none e) = Not_asked none e
+  certificate_too owed (Not_loaded o asks refusal bad e) =
+      Not_loaded o asks refusal (refused_too o.config some other (on_bank (bank_of_order o) (asks_of_bank words o asks)) refusal bad) e
+  certificate_too owed (Written o asks config records loaded c is e) =
+      Written o asks config records (loaded_too o.config some other (on_bank (bank_of_order o) (asks_of_bank words o asks)) config records loaded) c is e
+
+  owed_too : (owed : Owed) → IsOwed words some owed → IsOwed words other owed
+  owed_too owed is = record { due_is = due_too owed.due is.due_is; certificate_is = certificate_too owed.certificate is.certificate_is }
 
   reads_too : (input : Input) (file : List ℕ) → IsRead words some input file → IsRead words other input file
-  reads_too input file (o, asks, read) = (o, asks, bank_read_too o.config some other (λ n f r. agree n f (o, asks, r)) input file read)
+  reads_too input file (o, asks, Reads_bank read) = (o, asks, Reads_bank (bank_read_too o.config some other (on_bank o asks) input file read))
+  reads_too input file (o, asks, Reads_certificate config records loaded is) =
+      (o, asks, Reads_certificate config records (loaded_too o.config some other (on_bank o asks) config records loaded) is)
 
   reads_back : (input : Input) (file : List ℕ) → IsRead words other input file → IsRead words some input file
-  reads_back input file (o, asks, read) = (o, asks, bank_read_back o.config some other (λ n f r. agree n f (o, asks, r)) input file read)
+  reads_back input file (o, asks, Reads_bank read) = (o, asks, Reads_bank (bank_read_back o.config some other (on_bank o asks) input file read))
+  reads_back input file (o, asks, Reads_certificate config records loaded is) =
+      (o, asks, Reads_certificate config records (loaded_back o.config some other (on_bank o asks) config records loaded) is)
 
 -- it is the same the other way round
 turned : (words : List (List ℕ)) (some other : Contents) → Agree words some other → Agree words other some
@@ -103,6 +155,9 @@ turned words some other agree input file is = sym (agree input file (reads_back 
 
 pub same_due : (words : List (List ℕ)) (some other : Contents) → Agree words some other → (due : Due) → IsDue words some due ↔ IsDue words other due
 same_due words some other agree due = (due_too words some other agree due, due_too words other some (turned words some other agree) due)
+
+pub same_owed : (words : List (List ℕ)) (some other : Contents) → Agree words some other → (owed : Owed) → IsOwed words some owed ↔ IsOwed words other owed
+same_owed words some other agree owed = (owed_too words some other agree owed, owed_too words other some (turned words some other agree) owed)
 
 pub same_reads : (words : List (List ℕ)) (some other : Contents) → Agree words some other → (input : Input) (file : List ℕ)
     → IsRead words some input file ↔ IsRead words other input file

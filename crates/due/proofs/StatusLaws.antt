@@ -1,24 +1,17 @@
--- Which statuses are due, and which words are refused although the grammar has them.
-use Rattle.std.proofs.Common.{◌≡◌, ◌≢◌, ℕ, List, Some, Ok, refl, ap}
+-- Which statuses are due.
+use Rattle.std.proofs.Common.{◌≢◌}
 use Rattle.definitions.specs.declared.answer.Answer.{Answer}
 use Rattle.definitions.specs.declared.answer.Answer.TheVariants as answers
 use Rattle.formats.specs.declared.refusal.Refusal.{Refusal}
 use Rattle.formats.specs.declared.refusal.Refusal.TheVariants.{WordsUsage, WordsBad, WordsEmptyRange, ConfigTooLarge, ConfigNotToml, ConfigMissing, ConfigWrongKind, ConfigOutOfRange, ConfigUnknownKey, LogTooLarge, LogLine}
-use Rattle.formats.specs.declared.words.Asked.{Asked}
-use Rattle.formats.specs.declared.words.WordFault.TheVariants.{Usage}
-use Rattle.formats.specs.Orders.{◌>>=◌, order_of}
-use Rattle.formats.specs.Orders.Order.{Check, Decode}
-use Rattle.formats.specs.Words.{run_commands}
+use Rattle.due.specs.declared.check_due.CheckDue.TheVariants.{Certified, NotCertified}
 use Rattle.due.specs.declared.due.Due.{Due}
-use Rattle.due.specs.declared.due.Due.TheVariants.{Refused, Report, Feed, Listing, Trial}
+use Rattle.due.specs.declared.due.Due.TheVariants.{Checked, Refused, Report, Feed, Listing, Trial}
 use Rattle.due.specs.declared.status.Status.TheVariants.{Failed, NoMemory}
 use Rattle.due.specs.declared.frame_due.FrameDue.{FrameDue}
 use Rattle.due.specs.declared.frame_due.FrameDue.TheVariants as frame_dues
 use Rattle.due.specs.FrameDues.{frame_status}
 use Rattle.due.specs.Dues.{answer_status, refusal_status, status_of}
-use Rattle.due.specs.Inputs.{Contents}
-use Rattle.due.specs.Orders.{built}
-use Rattle.due.specs.Rules.{IsDue, Bad_words}
 
 refusal_is_due : (r : Refusal) → (refusal_status r ≢ Failed) × (refusal_status r ≢ NoMemory)
 refusal_is_due WordsUsage = (λ e. cc, λ e. cc)
@@ -44,6 +37,8 @@ no_failure_is_due (Report window answer duts) = answer_is_due answer
 no_failure_is_due (Feed window q) = (λ e. cc, λ e. cc)
 no_failure_is_due (Listing station minute announced) = (λ e. cc, λ e. cc)
 no_failure_is_due (Trial number station receivers sent answer) = answer_is_due answer
+no_failure_is_due (Checked (Certified window answer duts)) = (λ e. cc, λ e. cc)
+no_failure_is_due (Checked (NotCertified fault)) = (λ e. cc, λ e. cc)
 
 pub no_frame_failure_is_due : (due : FrameDue) → (frame_status due ≢ Failed) × (frame_status due ≢ NoMemory)
 no_frame_failure_is_due (frame_dues.Told due) = no_failure_is_due due
@@ -51,12 +46,3 @@ no_frame_failure_is_due (frame_dues.Frames window q) = (λ e. cc, λ e. cc)
 no_frame_failure_is_due (frame_dues.Read frames) = (λ e. cc, λ e. cc)
 no_frame_failure_is_due frame_dues.TooLarge = (λ e. cc, λ e. cc)
 no_frame_failure_is_due (frame_dues.BadLine line fault) = (λ e. cc, λ e. cc)
-
--- orders that speak of a certificate
-pub check_is_refused : (words : List (List ℕ)) (contents : Contents) (config certificate : List ℕ) (asked : Asked)
-    → order_of run_commands words ≡ Ok (Check config certificate asked) → IsDue words contents (Refused WordsUsage)
-check_is_refused words contents config certificate asked e = Bad_words Usage (ap (λ c. c >>= built) e) refl
-
-pub certificate_is_refused : (words : List (List ℕ)) (contents : Contents) (config certificate : List ℕ) (asked : Asked) (workers : ℕ)
-    → order_of run_commands words ≡ Ok (Decode config asked workers (Some certificate)) → IsDue words contents (Refused WordsUsage)
-certificate_is_refused words contents config certificate asked workers e = Bad_words Usage (ap (λ c. c >>= built) e) refl

@@ -1,40 +1,18 @@
 -- What accepted words ask for: an order of a run, in its ranges; and of a bank one thing.
-use Rattle.std.proofs.Common.{◌≡◌, true, List, ℕ, Some, None, Result, Ok, ◌∙◌, ap, subst}
+use Rattle.std.proofs.Common.{◌≡◌, true, List, ℕ, Some, Result, Ok, subst}
 use Rattle.formats.specs.OrderRanges.{IsAsked, IsInRange, is_run_order}
-use Rattle.formats.specs.Orders.{Order, order_of}
-use Rattle.formats.specs.Orders.Order.{Decode, Check, Feed, Encode, Trial, Follow, Sweep, Judge, Board, Irig, IrigRead}
+use Rattle.formats.specs.Orders.{Order}
+use Rattle.formats.specs.Orders.Order.{Decode, Check, Feed}
 use Rattle.formats.specs.Words.{run_commands}
-use Rattle.formats.proofs.OrderRangeLaws.{along, order_in_range, run_order}
-use Rattle.due.specs.Orders.{BankOrder, bank_order, built, order_in}
+use Rattle.formats.proofs.OrderRangeLaws.{order_in_range, run_order}
+use Rattle.due.specs.Orders.{BankOrder, bank_order, order_in}
 use Rattle.due.specs.Rules.{AsksBank}
 
--- an order that is built stays as it is
-built_keeps : (o order : Order) → built o ≡ Ok order → o ≡ order
-built_keeps (Decode config asked workers None) order e = cc
-built_keeps (Decode config asked workers (Some certificate)) order e = absurd cc
-built_keeps (Check config certificate asked) order e = absurd cc
-built_keeps (Feed config asked workers) order e = cc
-built_keeps (Encode station minute leap) order e = cc
-built_keeps (Trial number workers) order e = cc
-built_keeps (Follow config asked workers step count) order e = cc
-built_keeps (Sweep config asked workers certificate) order e = cc
-built_keeps (Judge config certificate asked) order e = cc
-built_keeps (Board config queries asked workers step count readers) order e = cc
-built_keeps (Irig config asked workers) order e = cc
-built_keeps (IrigRead file) order e = cc
-
--- accepted words give an order that is built
-pub is_built : (words : List (List ℕ)) (order : Order) → order_in words ≡ Ok order → (order_of run_commands words ≡ Ok order) × (built order ≡ Ok order)
-is_built words order e =
-    along (order_of run_commands words) built order e (λ o is made.
-    let same = built_keeps o order made in
-    (is ∙ ap Ok same, subst (λ p. built p ≡ Ok order) same made))
-
 pub in_range : (words : List (List ℕ)) (order : Order) → order_in words ≡ Ok order → IsInRange order
-in_range words order e = order_in_range run_commands words order (is_built words order e).0
+in_range words order e = order_in_range run_commands words order e
 
 pub is_run : (words : List (List ℕ)) (order : Order) → order_in words ≡ Ok order → is_run_order order ≡ true
-is_run words order e = run_order words order (is_built words order e).0
+is_run words order e = run_order words order e
 
 -- the minutes that are asked for are of the century
 some_same : {A : Type 0} (a b : A) → Some a ≡ Some b → a ≡ b
@@ -43,6 +21,7 @@ some_same a b e = cc
 asked_by : (order : Order) (o : BankOrder) → IsInRange order → bank_order order ≡ Some o → IsAsked o.asked
 asked_by (Decode config asked workers certificate) o r e = subst (λ (b : BankOrder). IsAsked b.asked) (some_same _ _ e) r.1
 asked_by (Feed config asked workers) o r e = subst (λ (b : BankOrder). IsAsked b.asked) (some_same _ _ e) r.1
+asked_by (Check config certificate asked) o r e = subst (λ (b : BankOrder). IsAsked b.asked) (some_same _ _ e) r.2
 asked_by other o r e = absurd cc
 
 pub asked_of_bank : (words : List (List ℕ)) (o : BankOrder) → AsksBank words o → IsAsked o.asked

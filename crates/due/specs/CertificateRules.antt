@@ -9,14 +9,12 @@ use Rattle.definitions.specs.answers.Blocks.{items}
 use Rattle.definitions.specs.answers.FirstTwo.{AreLeastTwo, IsWindowKey, answer_from}
 use Rattle.formats.specs.declared.words.Asked.{Asked}
 use Rattle.formats.specs.declared.refusal.Refusal.{Refusal}
-use Rattle.formats.specs.Orders.{Checked, Order, order_of}
-use Rattle.formats.specs.Orders.Order.{Check, Decode}
-use Rattle.formats.specs.Words.{run_commands}
+use Rattle.formats.specs.Orders.{Checked, Order}
+use Rattle.formats.specs.Orders.Order.{Decode}
 use Rattle.bank_config.specs.Configuration.{PlainConfig}
 use Rattle.certificates.specs.declared.certificate.Line.{Line}
 use Rattle.certificates.specs.Certificates.{Certificate}
 use Rattle.certificates.specs.Judged.{IsBadCertificate, IsGoodCertificate}
-use Rattle.certificates.specs.Texts.{certificate_text}
 use Rattle.certificates.specs.Validity.{AreTight, AreWalks, limit_named}
 use Rattle.due.specs.declared.check_due.CertificateFault.{CertificateFault}
 use Rattle.due.specs.declared.check_due.CheckDue.{CheckDue}
@@ -25,6 +23,7 @@ use Rattle.due.specs.Banks.{Bank, bank_of, costs_in, duts_of, window_of}
 use Rattle.due.specs.CheckDues.{fault_of}
 use Rattle.due.specs.Inputs.{Contents}
 use Rattle.due.specs.Loads.{IsBankLoaded, IsBankRefused}
+use Rattle.due.specs.Orders.{order_in}
 
 -- as many parts as workers: the first has all lines, and the others have none
 abbrev pub parts_for : ℕ → List Line → List (List Line)
@@ -67,7 +66,7 @@ pub record CertificateOrder : Type 0 where
   pub name : List ℕ
 
 abbrev pub AsksCertificate : List (List ℕ) → CertificateOrder → Type 0
-AsksCertificate words o = order_of run_commands words ≡ Ok (Decode o.config o.asked o.workers (Some o.name))
+AsksCertificate words o = order_in words ≡ Ok (Decode o.config o.asked o.workers (Some o.name))
 
 -- the file for a certificate, where words ask for one
 abbrev pub name_asked : Checked Order → Option (List ℕ)
@@ -75,7 +74,7 @@ name_asked (Ok (Decode config asked workers certificate)) = certificate
 name_asked other = None
 
 abbrev pub certificate_name : List (List ℕ) → Option (List ℕ)
-certificate_name words = name_asked (order_of run_commands words)
+certificate_name words = name_asked (order_in words)
 
 -- The certificate that is due, by the first rule that fits: none where no one asks for it; none where the configuration or a log
 -- is refused; and that of the bank, whatever the answer is.
@@ -88,15 +87,6 @@ pub data IsCertificateDue (words : List (List ℕ)) (contents : Contents) (owed 
       → (c : Certificate) → IsBankCertificate (window_of o.asked (bank_of config records).receivers) (bank_of config records) o.workers c
       → owed ≡ Some c → IsCertificateDue words contents owed
 
--- what words ask for that ask for a check: the configuration's file, the certificate's, and the window
-pub record CheckOrder : Type 0 where
-  pub config : List ℕ
-  pub certificate : List ℕ
-  pub asked : Asked
-
-abbrev pub AsksCheck : List (List ℕ) → CheckOrder → Type 0
-AsksCheck words o = order_of run_commands words ≡ Ok (Check o.config o.certificate o.asked)
-
 -- the report of an answer that is certified
 abbrev pub certified : Window → Bank → Answer → CheckDue
 certified window bank answer = Certified window answer (duts_of window bank answer)
@@ -108,8 +98,3 @@ pub data IsChecked (window : Window) (bank : Bank) (bytes : List ℕ) (due : Che
       → due ≡ NotCertified fault → IsChecked window bank bytes due
   Good : (first second : Option ℕ) → IsGoodCertificate (costs_in window bank) window bank.ceiling bytes first second
       → due ≡ certified window bank (answer_from first second) → IsChecked window bank bytes due
-
--- the bytes of a certificate that is due
-abbrev pub owed_text : Option Certificate → Option (List ℕ)
-owed_text None = None
-owed_text (Some c) = Some (certificate_text c)

@@ -10,9 +10,10 @@ use Rattle.formats.specs.Refusals.{refusal_text}
 use Rattle.formats.specs.Reports.{report}
 use Rattle.formats.specs.Trials.{trial_summary}
 use Rattle.due.specs.declared.due.Due.{Due}
-use Rattle.due.specs.declared.due.Due.TheVariants.{Refused, Report, Feed, Listing, Trial}
+use Rattle.due.specs.declared.due.Due.TheVariants.{Checked, Refused, Report, Feed, Listing, Trial}
 use Rattle.due.specs.declared.status.Status.{Status}
 use Rattle.due.specs.declared.status.Status.TheVariants.{Done, Undecided, Nothing, BadWords, BadConfiguration, BadLog}
+use Rattle.due.specs.CheckDues.{check_status, check_text}
 
 abbrev pub refusal_status : Refusal → Status
 refusal_status WordsUsage = BadWords
@@ -39,6 +40,7 @@ status_of (Report window answer duts) = answer_status answer
 status_of (Feed window q) = Done
 status_of (Listing station minute announced) = Done
 status_of (Trial number station receivers sent answer) = answer_status answer
+status_of (Checked told) = check_status told
 
 -- the bytes that a run adds to standard output
 abbrev pub text_of : Due → List ℕ
@@ -47,3 +49,4 @@ text_of (Report window answer duts) = report window duts answer
 text_of (Feed window q) = feed q window.seconds
 text_of (Listing station minute announced) = listing station announced minute
 text_of (Trial number station receivers sent answer) = trial_summary number station receivers sent answer
+text_of (Checked told) = check_text told

@@ -1,23 +1,17 @@
 -- What the words of a run ask for, and what is refused of them.
-use Rattle.std.specs.Prelude.{ℕ, List, Option, Some, None, Ok, Err}
+use Rattle.std.specs.Prelude.{ℕ, List, Option, Some, None}
 use Rattle.formats.specs.declared.words.Asked.{Asked}
 use Rattle.formats.specs.declared.words.WordFault.{WordFault}
 use Rattle.formats.specs.declared.words.WordFault.TheVariants.{Usage, BadNumber, BadMinute, EmptyRange}
 use Rattle.formats.specs.declared.refusal.Refusal.{Refusal}
 use Rattle.formats.specs.declared.refusal.Refusal.TheVariants.{WordsUsage, WordsBad, WordsEmptyRange}
-use Rattle.formats.specs.Orders.{Order, Checked, ◌>>=◌, order_of}
+use Rattle.formats.specs.Orders.{Order, Checked, order_of}
 use Rattle.formats.specs.Orders.Order.{Decode, Check, Feed}
 use Rattle.formats.specs.Words.{run_commands}
 
--- Certificates aren't built yet, so that an order that speaks of one is refused, as words are that no command takes.
-abbrev pub built : Order → Checked Order
-built (Check config certificate asked) = Err Usage
-built (Decode config asked workers (Some certificate)) = Err Usage
-built order = Ok order
-
 -- what the words ask for, or why they are refused
 abbrev pub order_in : List (List ℕ) → Checked Order
-order_in words = order_of run_commands words >>= built
+order_in words = order_of run_commands words
 
 -- the line that a refused order gets
 abbrev pub word_refusal : WordFault → Refusal
@@ -26,10 +20,12 @@ word_refusal (BadNumber option) = WordsBad option
 word_refusal (BadMinute option) = WordsBad option
 word_refusal EmptyRange = WordsEmptyRange
 
--- what is wanted of a bank: the report of its answer, with a certificate of this name or without, or the answer's sentences
+-- What is wanted of a bank: the report of its answer, with a certificate of this name or without; the answer's sentences; or what
+-- is found of the certificate of this name.
 pub data Wanted : Type 0 where
   Report : (certificate : Option (List ℕ)) → Wanted
   Sentences : Wanted
+  Judgement : (certificate : List ℕ) → Wanted
 
 -- what is asked about the bank of a configuration: the configuration's file, the window, and what is wanted
 pub record BankOrder : Type 0 where
@@ -41,4 +37,5 @@ pub record BankOrder : Type 0 where
 abbrev pub bank_order : Order → Option BankOrder
 bank_order (Decode config asked workers certificate) = Some (record { config = config; asked = asked; wanted = Report certificate })
 bank_order (Feed config asked workers) = Some (record { config = config; asked = asked; wanted = Sentences })
+bank_order (Check config certificate asked) = Some (record { config = config; asked = asked; wanted = Judgement certificate })
 bank_order other = None

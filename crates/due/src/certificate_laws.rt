@@ -18,8 +18,12 @@ ghost use Rattle.due.specs.declared.check_due.CheckDue.{CheckDue};
 ghost use Rattle.due.specs.declared.check_due.CheckDue.TheVariants.{Certified};
 ghost use Rattle.due.specs.Banks.{Bank, IsBankAnswer, bank_of, costs_in, duts_of, window_of};
 ghost use Rattle.due.specs.CertificateRules.{AsksCertificate, CertificateOrder, IsCertificateDue, IsChecked, IsNotCheaper, certified, parts_for};
-ghost use Rattle.due.specs.Inputs.{Contents};
-ghost use Rattle.due.specs.Loads.{IsBankLoaded};
+ghost use Rattle.due.specs.declared.due.Due.TheVariants.{Checked, Report};
+ghost use Rattle.due.specs.Inputs.{Certificate as TheCertificate, Contents, Input};
+ghost use Rattle.due.specs.Loads.{IsBankLoaded, IsBankRead};
+ghost use Rattle.due.specs.Orders.{Judgement};
+ghost use Rattle.due.specs.Owed.{IsOwed};
+ghost use Rattle.due.specs.Rules.{AsksBank, IsDue};
 
 use block_visits::blocks_share_the_sequences;
 use certificates::bytes_have_one_judgement;
@@ -54,6 +58,21 @@ pub fn certificates_that_are_due_are_certified()
         → length (lines_of c) ≤ MOST_STEPS → IsBankAnswer (window_of o.asked (bank_of config records).receivers) (bank_of config records) answer
         → IsChecked (window_of o.asked (bank_of config records).receivers) (bank_of config records) (certificate_text c)
         (certified (window_of o.asked (bank_of config records).receivers) (bank_of config records) answer) }
+{
+    blocks_share_the_sequences();
+    bytes_have_one_judgement();
+}
+
+/// What a decode wrote, with at most 2,000,000 steps, is certified for words that ask for a check of the same configuration and
+/// window, where its files hold the same, and what is told is what the decode told.
+pub fn what_a_decode_wrote_is_certified()
+    ensures { (words reading : List (List ℕ)) (contents later : Contents) (o : CertificateOrder) (name : List ℕ) (c : Certificate) (window : Window)
+        (answer : Answer) (duts : List StationDut) → AsksCertificate words o
+        → AsksBank reading (record { config = o.config; asked = o.asked; wanted = Judgement name })
+        → IsOwed words contents (record { due = Report window answer duts; certificate = Some c })
+        → ((input : Input) (file : List ℕ) → IsBankRead o.config contents input file → contents input ≡ later input)
+        → later TheCertificate ≡ certificate_text c → length (lines_of c) ≤ MOST_STEPS
+        → IsDue reading later (Checked (Certified window answer duts)) }
 {
     blocks_share_the_sequences();
     bytes_have_one_judgement();

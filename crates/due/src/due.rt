@@ -3,7 +3,7 @@
 ghost use Rattle.std.specs.Prelude.{◌≡◌};
 ghost use Rattle.due.specs.Dues.{answer_status, refusal_status, status_of};
 
-use crate::{Duts, Status};
+use crate::{CheckDue, Duts, Status};
 use definitions::{Answer, Sequence};
 use formats::Refusal;
 use signal_base::{Station, Window};
@@ -54,6 +54,11 @@ pub enum Due {
         /// What was decoded.
         answer: Answer,
     },
+    /// What is found of a certificate.
+    Checked {
+        /// It, or what is wrong with it.
+        told: CheckDue,
+    },
 }
 
 impl Due {
@@ -67,6 +72,7 @@ impl Due {
             Due::Feed { .. } => Status::Done,
             Due::Listing { .. } => Status::Done,
             Due::Trial { answer, .. } => answer_status(answer),
+            Due::Checked { told } => told.status(),
         }
     }
 }

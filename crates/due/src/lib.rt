@@ -32,7 +32,7 @@ pub use certificate_examples::{
 pub use certificate_laws::{
     certificates_that_are_due_are_certified, certificates_that_are_due_are_valid,
     no_block_is_opened_in_vain, one_certificate_is_due, one_thing_is_told_of_a_certificate,
-    pruned_blocks_are_not_cheaper_than_the_answer,
+    pruned_blocks_are_not_cheaper_than_the_answer, what_a_decode_wrote_is_certified,
 };
 pub use check_due::{CertificateFault, CheckDue};
 pub use due::Due;
@@ -58,8 +58,8 @@ pub use heard_examples::{
 };
 pub use heard_laws::{one_hearing_is_due, reads_decide_what_is_shown, what_a_decode_would_tell};
 pub use laws::{
-    certificates_are_refused, configuration_has_one_outcome, configuration_is_read_first,
-    due_is_one, logs_have_one_outcome, no_failure_is_due, reads_decide, something_is_due,
-    words_ask_one_thing,
+    certificate_is_read_last, configuration_has_one_outcome, configuration_is_read_first,
+    due_is_one, logs_have_one_outcome, no_failure_is_due, one_thing_is_owed, reads_decide,
+    something_is_due, words_ask_one_thing,
 };
 pub use status::Status;

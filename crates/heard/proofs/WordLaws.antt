@@ -2,20 +2,20 @@
 use Rattle.std.proofs.Common.{◌≡◌, ℕ, false, List, Option, Ok, Err, Bor, sym, ap, ◌∙◌, refl}
 use Rattle.formats.specs.declared.words.Asked.{Asked}
 use Rattle.formats.specs.declared.words.WordFault.TheVariants.{Usage}
-use Rattle.formats.specs.Orders.{Order as PlainOrder, ◌>>=◌, order_of}
+use Rattle.formats.specs.Orders.{Order as PlainOrder, order_of}
 use Rattle.formats.specs.Words.{run_commands}
 use Rattle.bank_words.specs.declared.order.Order.{Order}
 use Rattle.bank_words.specs.declared.order.Order.TheVariants as order
 use Rattle.bank_words.specs.Seen.{order_seen}
 use Rattle.due.specs.HeardRuns.{decode_words, heard_order, names_left_out}
-use Rattle.due.specs.Orders.{built, order_in}
+use Rattle.due.specs.Orders.{order_in}
 use Rattle.due.proofs.HeardWordLaws.{is_decode, none_named}
 
 module _ (words all : List (List ℕ)) (none : names_left_out words ≡ false) (is : all ≡ decode_words words) where
-  ordered : (o : PlainOrder) → order_of run_commands all ≡ Ok o → order_in (decode_words words) ≡ built o
-  ordered o gives = ap order_in (sym is) ∙ ap (λ check. check >>= built) gives
+  ordered : (o : PlainOrder) → order_of run_commands all ≡ Ok o → order_in (decode_words words) ≡ Ok o
+  ordered o gives = ap order_in (sym is) ∙ gives
 
-  pub heard_is : (o : PlainOrder) → order_of run_commands all ≡ Ok o → heard_order words ≡ built o
+  pub heard_is : (o : PlainOrder) → order_of run_commands all ≡ Ok o → heard_order words ≡ Ok o
   heard_is o gives = none_named words none ∙ ordered o gives
 
   -- an order of a decode, and of another command
@@ -25,7 +25,8 @@ module _ (words all : List (List ℕ)) (none : names_left_out words ≡ false) (
 
   pub no_decode : (o : Order) → NotDecode o → order_of run_commands all ≡ Ok (order_seen o) → heard_order words ≡ Err Usage
   no_decode (order.Decode config asked workers certificate) not gives = absurd not
-  no_decode (order.Check config certificate asked) not gives = heard_is (order_seen (order.Check config certificate asked)) gives
+  no_decode (order.Check config certificate asked) not gives =
+      absurd (is_decode words (order_seen (order.Check config certificate asked)) (ordered (order_seen (order.Check config certificate asked)) gives))
   no_decode (order.Feed config asked workers) not gives =
       absurd (is_decode words (order_seen (order.Feed config asked workers)) (ordered (order_seen (order.Feed config asked workers)) gives))
   no_decode (order.Encode station minute leap) not gives =

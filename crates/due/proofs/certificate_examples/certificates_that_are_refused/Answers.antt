@@ -1,5 +1,5 @@
 -- The number of bytes, the first line, and the window decide, in this order.
-use Rattle.std.proofs.Common.{◌≡◌, ℕ, [], inl, inr, refl, ap, arith}
+use Rattle.std.proofs.Common.{◌≡◌, inl, inr, refl, ap, arith}
 use Rattle.signal_base.specs.declared.window.Window.{Window}
 use Rattle.definitions.specs.examples.Sequences.{window_of}
 use Rattle.certificates.specs.declared.fault.CertificateLineFault.TheVariants.{Shape}

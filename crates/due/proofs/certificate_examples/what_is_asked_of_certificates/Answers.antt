@@ -8,10 +8,6 @@ pub returns-clause-decode : goal.returns-clause-decode
 unfolding digits number_of
 returns-clause-decode c = refl
 
-pub returns-clause-check : goal.returns-clause-check
-unfolding digits number_of
-returns-clause-check c = refl
-
 pub returns-clause-named : goal.returns-clause-named
 unfolding digits number_of
 returns-clause-named c = refl

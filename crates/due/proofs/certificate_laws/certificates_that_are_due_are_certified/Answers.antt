@@ -1,5 +1,4 @@
 -- Its text is a good one, which names the answer.
-use Rattle.due.specs.Banks.{bank_of, costs_in, window_of}
 use Rattle.due.proofs.CertificateDueLaws.{certified_owed}
 use Rattle.due.proofs.certificate_laws.certificates_that_are_due_are_certified.Goals as goal
 

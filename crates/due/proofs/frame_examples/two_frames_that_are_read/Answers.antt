@@ -1,5 +1,5 @@
 -- The words name one file.
-use Rattle.std.proofs.Common.{codes, refl}
+use Rattle.std.proofs.Common.{refl}
 use Rattle.std.specs.Fmt.{digits}
 use Rattle.definitions.specs.time.Calendar.{day_at}
 use Rattle.due.specs.FrameRules.{Reads_frames}
