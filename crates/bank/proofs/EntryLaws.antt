@@ -18,7 +18,14 @@ use Rattle.bank_config.specs.Configuration.{PlainConfig, PlainReceiver, plain_re
 use Rattle.due.specs.declared.due.Due.{Due}
 use Rattle.due.specs.declared.due.Due.TheVariants as dues
 use Rattle.due.specs.Banks.{Bank, IsBankAnswer, bank_of, by_station, duts_of, ordered, receivers_of, window_of}
-use Rattle.due.specs.Orders.{BankOrder, Report, Sentences, Wanted}
+use Rattle.due.specs.Orders.{Judgement, Report, Sentences, Wanted}
+use Rattle.due.specs.declared.check_due.CheckDue.{CheckDue}
+use Rattle.due.specs.declared.check_due.CheckDue.TheVariants.{Certified}
+use Rattle.due.specs.CertificateRules.{IsBankCertificate, IsCertificateFor, IsChecked, Bad, Good}
+use Rattle.due.specs.CheckDues.{fault_of}
+use Rattle.certificates.specs.Certificates.{Certificate}
+use Rattle.certificates.specs.Judged.{IsBadCertificate, IsGoodCertificate}
+use Rattle.definitions.specs.answers.FirstTwo.{answer_from}
 use Rattle.due.specs.Rules.{IsReported, reported}
 use Rattle.due.proofs.StationLaws.{same_costs, same_window}
 use Rattle.bank.specs.Order.{IsInOrder, entries_in_order, in_station_order}
@@ -97,6 +104,7 @@ same_report : (wanted : Wanted) (window : Window) (bank : Bank) (answer : Answer
 same_report Sentences window bank answers.Nothing = refl
 same_report Sentences window bank (answers.Decided cost q next) = refl
 same_report Sentences window bank (answers.Undecided cost q r) = refl
+same_report (Judgement certificate) window bank answer = ap (λ duts. dues.Report window answer duts) (same_duts window bank answer)
 same_report (Report certificate) window bank answer = ap (λ duts. dues.Report window answer duts) (same_duts window bank answer)
 
 -- the answer for it is the bank's
@@ -106,9 +114,30 @@ answer_in_order asked bank answer is =
     subst (λ (costs : Costs). IsWindowAnswer (window_of asked bank.receivers) costs bank.ceiling answer) (same_costs (window_of asked bank.receivers) bank)
     (subst (λ (w : Window). IsBankAnswer w (ordered bank) answer) (same_window asked bank.receivers) is)
 
-pub reported_in_order : (o : BankOrder) (bank : Bank) (due : Due) → IsReported o (ordered bank) due → IsReported o bank due
-reported_in_order o bank due is = (
+pub reported_in_order : (wanted : Wanted) (asked : Asked) (bank : Bank) (due : Due) → IsReported wanted (window_of asked (ordered bank).receivers) (ordered bank) due
+    → IsReported wanted (window_of asked bank.receivers) bank due
+reported_in_order wanted asked bank due is = (
   is.0,
-  answer_in_order o.asked bank is.0 is.1,
-  is.2 ∙ ap (λ (w : Window). reported o.wanted w (ordered bank) is.0) (same_window o.asked bank.receivers) ∙ same_report o.wanted (window_of o.asked bank.receivers) bank is.0,
+  answer_in_order asked bank is.0 is.1,
+  is.2 ∙ ap (λ (w : Window). reported wanted w (ordered bank) is.0) (same_window asked bank.receivers) ∙ same_report wanted (window_of asked bank.receivers) bank is.0,
 )
+
+-- so are its certificate, and what is found of one
+in_window_order : (window : Window) (bank : Bank) (bytes : List ℕ) (told : CheckDue) → IsChecked window (ordered bank) bytes told → IsChecked window bank bytes told
+in_window_order window bank bytes told (Bad fault bad e) =
+    Bad fault (subst (λ (costs : Costs). IsBadCertificate costs window bank.ceiling bytes (fault_of fault)) (same_costs window bank) bad) e
+in_window_order window bank bytes told (Good first second good e) =
+    Good first second (subst (λ (costs : Costs). IsGoodCertificate costs window bank.ceiling bytes first second) (same_costs window bank) good)
+    (e ∙ ap (λ duts. Certified window (answer_from first second) duts) (same_duts window bank (answer_from first second)))
+
+pub checked_in_order : (asked : Asked) (bank : Bank) (bytes : List ℕ) (told : CheckDue) → IsChecked (window_of asked (ordered bank).receivers) (ordered bank) bytes told
+    → IsChecked (window_of asked bank.receivers) bank bytes told
+checked_in_order asked bank bytes told is =
+    in_window_order (window_of asked bank.receivers) bank bytes told (subst (λ (w : Window). IsChecked w (ordered bank) bytes told) (same_window asked bank.receivers) is)
+
+pub certificate_in_order : (asked : Asked) (bank : Bank) (workers : ℕ) (c : Certificate) → IsBankCertificate (window_of asked (ordered bank).receivers) (ordered bank) workers c
+    → IsBankCertificate (window_of asked bank.receivers) bank workers c
+certificate_in_order asked bank workers c is =
+    let w = window_of asked bank.receivers in
+    subst (λ (costs : Costs). IsCertificateFor costs w bank.ceiling workers c) (same_costs w bank)
+    (subst (λ (v : Window). IsBankCertificate v (ordered bank) workers c) (same_window asked bank.receivers) is)

@@ -7,11 +7,12 @@ use Rattle.formats.specs.declared.refusal.Refusal.{Refusal}
 use Rattle.formats.specs.declared.refusal.Refusal.TheVariants.{WordsUsage, WordsBad, WordsEmptyRange, ConfigTooLarge, ConfigNotToml, ConfigMissing, ConfigWrongKind, ConfigOutOfRange, ConfigUnknownKey, LogTooLarge, LogLine}
 use Rattle.formats.specs.declared.words.Asked.{Asked}
 use Rattle.trial_log.specs.Trials.{trial_receivers, trial_sequence, trial_station}
+use Rattle.due.specs.declared.check_due.CheckDue.TheVariants as checks
 use Rattle.due.specs.declared.due.Due.{Due}
 use Rattle.due.specs.declared.due.Due.TheVariants as dues
 use Rattle.due.specs.Banks.{Bank, IsBankAnswer, window_of}
 use Rattle.due.specs.Dues.{refusal_status, status_of}
-use Rattle.due.specs.Orders.{BankOrder}
+use Rattle.due.specs.Orders.{Wanted}
 use Rattle.due.specs.Rules.{IsReported, reported}
 use Rattle.due.specs.Status.{code_of}
 use Rattle.due.specs.Trials.{trial_asked, trial_bank}
@@ -19,11 +20,11 @@ use Rattle.bank.specs.declared.decoding.Decoded.{Decoded}
 use Rattle.bank.specs.Finding.{IsTried, IsDecoded}
 
 -- the answer for a bank, reported as it is asked for
-pub decoded_reported : (o : BankOrder) (bank seen : Bank) (decoded : Decoded) (due : Due) → seen ≡ bank → IsDecoded o.asked seen decoded
-    → due ≡ reported o.wanted decoded.window seen decoded.answer → IsReported o bank due
-decoded_reported o bank seen decoded due same is e =
-    subst (λ (b : Bank). IsReported o b due) same
-    (decoded.answer, subst (λ w. IsBankAnswer w seen decoded.answer) is.window_is is.answer_is, e ∙ ap (λ w. reported o.wanted w seen decoded.answer) is.window_is)
+pub decoded_reported : (asked : Asked) (wanted : Wanted) (bank seen : Bank) (decoded : Decoded) (due : Due) → seen ≡ bank → IsDecoded asked seen decoded
+    → due ≡ reported wanted decoded.window seen decoded.answer → IsReported wanted (window_of asked bank.receivers) bank due
+decoded_reported asked wanted bank seen decoded due same is e =
+    subst (λ (b : Bank). IsReported wanted (window_of asked b.receivers) b due) same
+    (decoded.answer, subst (λ w. IsBankAnswer w seen decoded.answer) is.window_is is.answer_is, e ∙ ap (λ w. reported wanted w seen decoded.answer) is.window_is)
 
 -- the summary of a trial
 pub tried : (number : ℕ) (asked : Asked) (bank : Bank) (decoded : Decoded) (station : Station) (receivers : ℕ) (sent : Sequence) → asked ≡ trial_asked → bank ≡ trial_bank number
@@ -50,16 +51,15 @@ refusal_below (LogTooLarge receiver name) = omega arith
 refusal_below (LogLine receiver name line fault) = omega arith
 
 -- no due status is one of a failure
-due_below : (due : Due) → code_of (status_of due) ≤ 5
-due_below (dues.Refused refusal) = refusal_below refusal
-due_below (dues.Report window (answers.Decided c q next) duts) = omega arith
-due_below (dues.Report window (answers.Undecided c q r) duts) = omega arith
-due_below (dues.Report window answers.Nothing duts) = omega arith
-due_below (dues.Feed window q) = omega arith
-due_below (dues.Listing station minute announced) = omega arith
-due_below (dues.Trial number station receivers sent (answers.Decided c q next)) = omega arith
-due_below (dues.Trial number station receivers sent (answers.Undecided c q r)) = omega arith
-due_below (dues.Trial number station receivers sent answers.Nothing) = omega arith
-
 pub is_no_failure : (due : Due) → code_of (status_of due) ≢ 6
-is_no_failure due six = omega (arith, six, due_below due)
+is_no_failure (dues.Refused refusal) = λ six. omega (arith, six, refusal_below refusal)
+is_no_failure (dues.Report window (answers.Decided c q next) duts) = λ six. omega (arith, six)
+is_no_failure (dues.Report window (answers.Undecided c q r) duts) = λ six. omega (arith, six)
+is_no_failure (dues.Report window answers.Nothing duts) = λ six. omega (arith, six)
+is_no_failure (dues.Feed window q) = λ six. omega (arith, six)
+is_no_failure (dues.Listing station minute announced) = λ six. omega (arith, six)
+is_no_failure (dues.Trial number station receivers sent (answers.Decided c q next)) = λ six. omega (arith, six)
+is_no_failure (dues.Trial number station receivers sent (answers.Undecided c q r)) = λ six. omega (arith, six)
+is_no_failure (dues.Trial number station receivers sent answers.Nothing) = λ six. omega (arith, six)
+is_no_failure (dues.Checked (checks.Certified window answer duts)) = λ six. omega (arith, six)
+is_no_failure (dues.Checked (checks.NotCertified fault)) = λ six. omega (arith, six)

@@ -6,9 +6,10 @@ ghost use Rattle.bank.specs.Finding.{CanBeWritten};
 
 use crate::deliver::deliver_due;
 use crate::job::Job;
+use crate::told::Told;
 use bank_files::{Failed, Files};
 use civil::Civil;
-use due::{Due, Status};
+use due::Status;
 
 /// A run for these words.
 #[derive(Drop)]
@@ -18,17 +19,17 @@ pub struct Command<'a> {
 }
 
 impl Job for Command<'_> {
-    type Due = Due;
+    type Due = Told;
 
     ghost plan = { λ command. run_plan (texts_of command.words.now) };
 
-    ghost can_be_written = { CanBeWritten };
+    ghost can_be_written = { λ owed. CanBeWritten owed.due };
 
-    fn deliver<F: Files>(&self, files: &mut F, due: &Due) -> Result<(), Failed> {
-        deliver_due(files, self.civil, due)
+    fn deliver<F: Files>(&self, files: &mut F, told: &Told) -> Result<(), Failed> {
+        deliver_due(files, self.civil, &told.due)
     }
 
-    fn status(&self, due: &Due) -> Status {
-        due.status()
+    fn status(&self, told: &Told) -> Status {
+        told.due.status()
     }
 }

@@ -7,6 +7,7 @@ ghost use Rattle.due.specs.Outputs.{outputs_of};
 ghost use Rattle.bank.specs.Ending.{WritesAll};
 ghost use Rattle.bank.specs.Finding.{CanBeWritten};
 
+use crate::checked::write_checked;
 use bank_files::{Failed, Files};
 use civil::Civil;
 use due::Due;
@@ -45,5 +46,6 @@ pub fn print<F: Files>(files: &mut F, civil: &Civil, due: &Due) -> Result<(), Fa
             sent,
             answer,
         } => write_trial(files, civil, *number, *station, *receivers, sent, answer),
+        Due::Checked { told } => write_checked(files, civil, told),
     }
 }

@@ -7,13 +7,15 @@ ghost use Rattle.due.specs.Plans.{run_plan};
 ghost use Rattle.due.specs.Rules.{reported};
 ghost use Rattle.texts.specs.Reportable.{IsReportable};
 ghost use Rattle.bank.specs.Ending.{IsFound, SomeReadFails};
-ghost use Rattle.bank.specs.Finding.{CanBeWritten};
+ghost use Rattle.bank.specs.Finding.{CanBeWritten, IsToldUnloaded};
 ghost use Rattle.bank.specs.Tasks.{Asks, IsInRange, wanted_seen};
 
 use crate::decoding::{Decoded, decode};
 use crate::hearing::bank_of;
+use crate::judge::judge;
 use crate::loading::{Unloaded, load};
 use crate::stop::Stop;
+use crate::told::Told;
 use crate::trial::trial_due;
 use crate::words::{Task, Wanted};
 use bank_files::Files;
@@ -33,10 +35,10 @@ pub fn find_due<R: Threads + Sync, F: Files, G: Gate + Sync>(
     task: &Task,
     files: &mut F,
     gate: &G,
-) -> Result<Due, Stop>
+) -> Result<Told, Stop>
     requires { IsInRange task.now }
-    ensures due { IfOk result (λ due. (words : List (List ℕ)) → Asks words task.now → IsFound (run_plan words) (F.view files.old) due) }
-    ensures can_be_written { IfOk result CanBeWritten }
+    ensures due { IfOk result (λ owed. (words : List (List ℕ)) → Asks words task.now → IsFound (run_plan words) (F.view files.old) owed) }
+    ensures can_be_written { IfOk result (λ owed. CanBeWritten owed.due) }
     ensures failed { IsErrOf result Stop.Failed → (words : List (List ℕ)) → Asks words task.now → SomeReadFails (run_plan words) (F.view files.old) (F.view files.new) }
     ensures same_counts { result ≢ Err Stop.Failed → SameCounts (F.view files.old) (F.view files.new) }
     ensures only { OnlyReads (F.view files.old) (F.view files.new) }
@@ -46,12 +48,16 @@ pub fn find_due<R: Threads + Sync, F: Files, G: Gate + Sync>(
             station,
             minute,
             announced,
-        } => Ok(Due::Listing {
-            station: *station,
-            minute: *minute,
-            announced: *announced,
+        } => Ok(Told {
+            due: Due::Listing {
+                station: *station,
+                minute: *minute,
+                announced: *announced,
+            },
         }),
-        Task::Try { number, workers } => trial_due(rt, alloc, civil, *number, *workers, gate),
+        Task::Try { number, workers } => Ok(Told {
+            due: trial_due(rt, alloc, civil, *number, *workers, gate)?,
+        }),
         Task::Decode {
             config,
             asked,
@@ -61,14 +67,39 @@ pub fn find_due<R: Threads + Sync, F: Files, G: Gate + Sync>(
             Ok(loaded) => {
                 let bank = bank_of(alloc, loaded)?;
                 let decoded = decode(rt, alloc, civil, &bank, asked, *workers, gate)?;
-                Ok(reported(*wanted, decoded))
+                Ok(Told {
+                    due: reported(*wanted, decoded),
+                })
             }
-            Err(unloaded) => match unloaded {
-                Unloaded::Refused { refusal } => Ok(Due::Refused { refusal }),
-                Unloaded::Failed => Err(Stop::Failed),
-                Unloaded::NoMemory => Err(Stop::NoMemory),
-            },
+            Err(unloaded) => not_loaded(unloaded),
         },
+        Task::Check {
+            config,
+            asked,
+            certificate,
+        } => match load(alloc, files, config) {
+            Ok(loaded) => {
+                let bank = bank_of(alloc, loaded)?;
+                let told = judge(alloc, civil, &bank, asked, files, certificate)?;
+                Ok(Told {
+                    due: Due::Checked { told },
+                })
+            }
+            Err(unloaded) => not_loaded(unloaded),
+        },
+    }
+}
+
+/// What is due where nothing is loaded: the refusal.
+pub fn not_loaded(unloaded: Unloaded) -> Result<Told, Stop>
+    ensures { IsToldUnloaded unloaded result }
+{
+    match unloaded {
+        Unloaded::Refused { refusal } => Ok(Told {
+            due: Due::Refused { refusal },
+        }),
+        Unloaded::Failed => Err(Stop::Failed),
+        Unloaded::NoMemory => Err(Stop::NoMemory),
     }
 }
 

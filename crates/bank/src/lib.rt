@@ -3,6 +3,8 @@
 
 #[cfg(test)]
 mod bank_tests;
+mod certify;
+mod checked;
 mod command;
 mod decoding;
 mod deliver;
@@ -11,6 +13,7 @@ mod first_two;
 mod grids;
 mod hearing;
 mod job;
+mod judge;
 mod loading;
 mod order;
 mod program;
@@ -19,6 +22,7 @@ mod station_tests;
 mod stop;
 #[cfg(test)]
 mod tests;
+mod told;
 mod trial;
 mod words;
 

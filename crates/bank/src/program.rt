@@ -3,19 +3,22 @@
 ghost use Rattle.std.specs.Prelude.{◌≡◌, ◌≢◌, ◌⊎◌, Err};
 ghost use Rattle.bank_files.specs.Seen.{SameCounts};
 ghost use Rattle.bank_words.specs.Seen.{texts_of};
-ghost use Rattle.due.specs.declared.due.Due.{Due};
 ghost use Rattle.due.specs.Inputs.{Contents};
+ghost use Rattle.due.specs.CertificateRules.{AsksCertificate};
 ghost use Rattle.due.specs.Orders.{order_in};
+ghost use Rattle.due.specs.Owed.{IsOwed, Owed};
 ghost use Rattle.due.specs.Plans.{run_plan};
-ghost use Rattle.due.specs.Rules.{IsDue};
 ghost use Rattle.bank.specs.Ending.{AreTold, Delivers, DeliversDue, Ends, OnlyWritesAmong, SomeReadFails, SomeWriteFails, WritesFront, WritesNothing};
-ghost use Rattle.bank.specs.Tasks.{Asks, IsInRange};
+ghost use Rattle.bank.specs.Tasks.{Asks, IsCertifyInRange, IsInRange, certificate_order};
 
+use crate::certify::decode_certified;
 use crate::command::Command;
-use crate::find::find_due;
+use crate::find::{find_due, not_loaded};
+use crate::hearing::bank_of;
 use crate::job::{perform, status_after};
+use crate::loading::load;
 use crate::stop::Stop;
-use crate::words::{Task, task_of, word_refusal};
+use crate::words::{Certify, Task, Work, word_refusal, work_of};
 use bank_files::Files;
 use civil::Civil;
 use due::Status;
@@ -30,14 +33,17 @@ use workers::Gate;
 ///
 /// | Status | Comes | Standard output got |
 /// |---|---|---|
-/// | 0 | where one sequence costs less than every other, or a minute is listed | the report, the sentences, the summary or the listing |
+/// | 0 | where one sequence costs less than every other, a certificate is valid, or a minute is listed | the report, the sentences, the summary or the listing; of a valid certificate a line and the report |
 /// | 1 | where the two cheapest sequences cost the same | the report or the summary |
 /// | 2 | where no sequence is admitted | the report or the summary |
-/// | 3 | where the words aren't of the grammar, or speak of a certificate | the refusal |
+/// | 3 | where the words aren't of the grammar | the refusal |
 /// | 4 | where the configuration is refused | the refusal |
 /// | 5 | where a log is refused | the refusal of the first |
-/// | 6 | only where reading a file or writing standard output has failed | nothing, or a front of the text due |
+/// | 6 | only where reading a file, or writing a certificate or standard output has failed | nothing, or a front of the text due |
 /// | 7 | where memory wasn't found | nothing |
+/// | 8 | where a certificate isn't valid | the refusal |
+///
+/// A certificate that is asked for is written before standard output is.
 pub fn run<R: Threads + Sync, F: Files, G: Gate + Sync>(
     rt: &R,
     alloc: Global,
@@ -51,8 +57,8 @@ pub fn run<R: Threads + Sync, F: Files, G: Gate + Sync>(
     // Where the contents of these files are told, nothing else is written or answered.
     ensures exactly { result ≢ 6 → result ≢ 7
         → (contents : Contents) → AreTold (run_plan (texts_of words.now)) (F.view files.old) contents
-        → (due : Due) → IsDue (texts_of words.now) contents due
-        → Delivers (run_plan (texts_of words.now)) (F.view files.old) (F.view files.new) due result }
+        → (owed : Owed) → IsOwed (texts_of words.now) contents owed
+        → Delivers (run_plan (texts_of words.now)) (F.view files.old) (F.view files.new) owed result }
 
     // 6 stands for a failed file, and each failed file ends the run with 6.
     ensures failed { result ≡ 6 → SomeWriteFails (run_plan (texts_of words.now)) (F.view files.old) (F.view files.new)
@@ -79,9 +85,12 @@ fn carry_out<R: Threads + Sync, F: Files, G: Gate + Sync>(
     ensures ends { Ends (run_plan (texts_of words.now)) (F.view files.old) (F.view files.new) result }
     ensures only { OnlyWritesAmong (run_plan (texts_of words.now)).files (F.view files.old) (F.view files.new) }
 {
-    match task_of(words) {
+    match work_of(words) {
         Err(fault) => refuse(words, fault, files),
-        Ok(task) => carry_out_task(rt, alloc, words, &task, files, gate),
+        Ok(work) => match work {
+            Work::Tell { task } => carry_out_task(rt, alloc, words, &task, files, gate),
+            Work::Certify { certify } => carry_out_certify(rt, alloc, words, &certify, files, gate),
+        },
     }
 }
 
@@ -116,4 +125,44 @@ fn carry_out_task<R: Threads + Sync, F: Files, G: Gate + Sync>(
         civil: &civil,
     };
     perform(&command, files, found)
+}
+
+// Loads what is asked about, and decodes it with a certificate; or tells what is refused of it.
+fn carry_out_certify<R: Threads + Sync, F: Files, G: Gate + Sync>(
+    rt: &R,
+    alloc: Global,
+    words: &[String],
+    certify: &Certify,
+    files: &mut F,
+    gate: &G,
+) -> Result<Status, Stop>
+    requires asks { AsksCertificate (texts_of words.now) (certificate_order certify.now) }
+    requires in_range { IsCertifyInRange certify.now }
+    ensures ends { Ends (run_plan (texts_of words.now)) (F.view files.old) (F.view files.new) result }
+    ensures only { OnlyWritesAmong (run_plan (texts_of words.now)).files (F.view files.old) (F.view files.new) }
+{
+    let civil = Civil::make(alloc)?;
+    match load(alloc, files, certify.config) {
+        Ok(loaded) => {
+            let bank = bank_of(alloc, loaded)?;
+            decode_certified(
+                rt,
+                alloc,
+                &civil,
+                &bank,
+                &certify.asked,
+                certify.workers,
+                certify.name,
+                files,
+                gate,
+            )
+        }
+        Err(unloaded) => {
+            let command = Command {
+                words,
+                civil: &civil,
+            };
+            perform(&command, files, not_loaded(unloaded))
+        }
+    }
 }
