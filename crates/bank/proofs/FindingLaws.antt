@@ -153,26 +153,24 @@ module _ (words : List (List ℕ)) (o : BankOrder) (asks : AsksBank words o) whe
       subst (λ (i : Input). MayHold (old.told file) (with_certificate base (held_in (old.told certificate)) i)) (sym is.0)
       (subst (λ (f : List ℕ). MayHold (old.told f) (held_in (old.told certificate))) (sym is.1) (may_hold (old.told certificate)))
 
+  abbrev bytes_for : Seen → List ℕ
+  bytes_for old = held_in (old.told (judged_name o.wanted))
+
   pub failure_found : (old new : Seen) → FailsLoading old new o.config → SomeReadFails (run_plan words) old new
-  failure_found old new (base, input, file, may, read, fails) =
-      let bytes = held_in (old.told (judged_name o.wanted)) in
-      let contents = with_certificate base bytes in (
-        contents,
-        input,
-        file,
-        λ n f r. here n f (asked_read contents n f r),
-        (o, asks, Reads_bank (read_on input file read)),
-        fails,
-      )
+  failure_found old new (base, input, file, may, read, fails) = (
+    with_certificate base (bytes_for old),
+    input,
+    file,
+    λ n f r. here n f (asked_read contents n f r),
+    (o, asks, Reads_bank (read_on input file read)),
+    fails,
+  )
     where
-      abbrev bytes_here : List ℕ
-      bytes_here = held_in (old.told (judged_name o.wanted))
+      read_on : (n : Input) (f : List ℕ) → IsBankRead o.config base n f → IsBankRead o.config (with_certificate base (bytes_for old)) n f
+      read_on = bank_read_too o.config base (with_certificate base (bytes_for old)) (same_bank o.config base (bytes_for old))
 
-      read_on : (n : Input) (f : List ℕ) → IsBankRead o.config base n f → IsBankRead o.config (with_certificate base bytes_here) n f
-      read_on = bank_read_too o.config base (with_certificate base bytes_here) (same_bank o.config base bytes_here)
-
-      here : (n : Input) (f : List ℕ) → IsAskedRead o (with_certificate base bytes_here) n f → MayHold (old.told f) (with_certificate base bytes_here n)
-      here n f (Reads_bank r) = subst (MayHold (old.told f)) (same_bank o.config base bytes_here n f (read_with o.config base bytes_here n f r)) (may n f (read_with o.config base bytes_here n f r))
+      here : (n : Input) (f : List ℕ) → IsAskedRead o (with_certificate base (bytes_for old)) n f → MayHold (old.told f) (with_certificate base (bytes_for old) n)
+      here n f (Reads_bank r) = subst (MayHold (old.told f)) (same_bank o.config base (bytes_for old) n f (read_with o.config base (bytes_for old) n f r)) (may n f (read_with o.config base (bytes_for old) n f r))
       here n f (Reads_certificate c r l is) = judged_may o.wanted old base n f is
 
   -- what is found of a certificate that was read behind the bank
