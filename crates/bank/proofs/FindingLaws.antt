@@ -161,7 +161,7 @@ module _ (words : List (List ℕ)) (o : BankOrder) (asks : AsksBank words o) whe
     with_certificate base (bytes_for old),
     input,
     file,
-    λ n f r. here n f (asked_read contents n f r),
+    λ n f r. here n f (asked_read (with_certificate base (bytes_for old)) n f r),
     (o, asks, Reads_bank (read_on input file read)),
     fails,
   )
