@@ -105,7 +105,7 @@ or_false true b e = absurd cc
 none_behind : (pairs : List (List ℕ)) → list_any is_left_out pairs ≡ false → value_behind certificate_option pairs ≡ None
 none_behind [] e = refl
 none_behind (word ∷ []) e = refl
-none_behind (word ∷ value ∷ words) e = by_word (bytes_eq word certificate_option) refl
+none_behind (word ∷ value ∷ words) e = by_word (bytes_eq word certificate_option) refl (none_behind words rest)
   where
     first : is_left_out word ≡ false
     first = (or_false (is_left_out word) (list_any is_left_out (value ∷ words)) e).0
@@ -116,12 +116,13 @@ none_behind (word ∷ value ∷ words) e = by_word (bytes_eq word certificate_op
     other : bytes_eq word certificate_option ≡ false
     other = (or_false (bytes_eq word certificate_option) false (or_false (bytes_eq word (option_text Workers)) (bytes_eq word certificate_option || false) first).1).0
 
-    by_word : (b : Bool) → bytes_eq word certificate_option ≡ b → (if b then Some value else value_behind certificate_option words) ≡ None
-    by_word true f = absurd (differ (sym f ∙ other))
+    by_word : (b : Bool) → bytes_eq word certificate_option ≡ b → value_behind certificate_option words ≡ None
+        → (if b then Some value else value_behind certificate_option words) ≡ None
+    by_word true f later = absurd (differ (sym f ∙ other))
       where
         differ : true ≡ false → ⊥
         differ g = cc
-    by_word false f = none_behind words rest
+    by_word false f later = later
 
 -- the order of a decode names the certificate of its line
 abbrev NamesAsLine : Line → Order → Type 0
