@@ -88,7 +88,7 @@ bank_in_order config logs other others is =
     same_bank e f g = cc
 
 -- what is reported of it is reported of the bank
-same_duts : (window : Window) (bank : Bank) (answer : Answer) → duts_of window (ordered bank) answer ≡ duts_of window bank answer
+pub same_duts : (window : Window) (bank : Bank) (answer : Answer) → duts_of window (ordered bank) answer ≡ duts_of window bank answer
 same_duts window bank answers.Nothing = refl
 same_duts window bank (answers.Decided cost q next) = ap (λ (costs : Costs). map (λ station. record { station = station; dut = dut_of station (costs station) window.seconds q }) (stations_of window.stations)) (same_costs window bank)
 same_duts window bank (answers.Undecided cost q r) = refl

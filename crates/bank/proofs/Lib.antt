@@ -19,3 +19,4 @@ pub mod EndingLaws
 pub mod ExactLaws
 pub mod RunLaws
 pub mod TrialLaws
+pub mod MovedLaws

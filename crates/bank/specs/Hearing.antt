@@ -1,5 +1,5 @@
 -- A bank as the rules see it, and the grids of its stations.
-use Rattle.std.specs.Prelude.{ℕ, suc, ◌≡◌, ◌+◌, ◌==◌, nat_lt, ◌≤◌, Bool, if◌then◌else◌, List, [], ◌∷◌, All, drop, filter, length, map, sum_by, take, min, Option, Some, None}
+use Rattle.std.specs.Prelude.{ℕ, suc, ◌≡◌, ◌+◌, ◌*◌, ◌==◌, nat_lt, ◌≤◌, Bool, if◌then◌else◌, List, [], ◌∷◌, All, drop, filter, length, map, sum_by, take, min, Option, Some, None}
 use Rattle.std.specs.List.{flat_map, list_any}
 use Rattle.std.specs.List.Sorted.{IsNonDecreasingBy}
 use Rattle.signal_base.specs.declared.limits.TheConstants.{GREATEST_COST, MOST_RECEIVERS}
@@ -15,7 +15,8 @@ use Rattle.definitions.specs.heard.Logs.{Records}
 use Rattle.definitions.specs.heard.Receivers.{Reception, receptions}
 use Rattle.align.specs.Receivers.{receivers}
 use Rattle.symbol_cost.specs.Grid.{Grid, HasCosts}
-use Rattle.due.specs.Banks.{Bank as PlainBank, bit_where, first_times}
+use Rattle.field_tables.specs.Grids.{AreGrids, HaveCosts}
+use Rattle.due.specs.Banks.{Bank as PlainBank, bit_where, costs_in, first_times}
 use Rattle.bank.specs.declared.hearing.Bank.{Bank}
 
 -- the bank that is scored
@@ -83,3 +84,25 @@ pub record AreGridsOf (window : Window) (costs : Costs) (stations : List Station
   pub slots : All (λ g. length g.rows ≡ window.seconds) grids
   pub costs_are : All (λ g. HasCosts g g.station window.seconds (costs g.station)) grids
   pub few : sum_by (λ g. g.receivers) grids ≤ n
+
+-- each grid is made from the receivers of its station
+abbrev pub AreOfBank : Bank → List Grid → Type 0
+AreOfBank b grids = All (λ g. g.receivers ≡ count_of g.station b.stations.items) grids
+
+-- the grids of a bank's window: one for each of its stations, with what symbols cost in it
+pub record AreBankGrids (b : Bank) (window : Window) (grids : List Grid) : Type 0 where
+  pub are_grids : AreGrids window grids
+  pub costs_are : HaveCosts window grids (costs_in window (bank_seen b))
+  pub of_bank : AreOfBank b grids
+
+-- the window that starts so many seconds later, with the same phase
+abbrev pub later_window : Window → ℕ → Window
+later_window window by = record window { start = window.start + 1000 * by }
+
+-- a grid was moved to that window: where it had the costs of the one, it has those of the other, and all else is as before
+pub record IsMoved (b : Bank) (window : Window) (by : ℕ) (old new : Grid) : Type 0 where
+  pub station_is : new.station ≡ old.station
+  pub receivers_are : new.receivers ≡ old.receivers
+  pub slots_are : length new.rows ≡ length old.rows
+  pub costs_are : (n : ℕ) → HasCosts old old.station n (costs_in window (bank_seen b) old.station)
+      → HasCosts new old.station n (costs_in (later_window window by) (bank_seen b) old.station)

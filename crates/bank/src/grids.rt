@@ -1,13 +1,14 @@
 //! The grids of a window's stations, each made from what its receivers heard.
 
-ghost use Rattle.std.specs.Prelude.{◌≡◌, ◌+◌, ◌-◌, ◌≤◌, ◌∷◌, [], ◌++◌, IfErr, IfOk, List, OnOk, drop, length, take, ℕ};
+ghost use Rattle.std.specs.Prelude.{◌≡◌, ◌+◌, ◌-◌, ◌*◌, ◌<◌, ◌≤◌, ◌∷◌, [], ◌++◌, IfErr, IfOk, List, OnOk, drop, length, take, ℕ};
+ghost use Rattle.signal_base.specs.declared.limits.TheConstants.{START_LIMIT};
 ghost use Rattle.signal_base.specs.declared.station.Station.{Station};
 ghost use Rattle.definitions.specs.heard.Costs.{Costs, slot_cost};
 ghost use Rattle.definitions.specs.sequences.Windows.{IsWindow};
 ghost use Rattle.field_tables.specs.Grids.{AreGrids, HaveCosts};
 ghost use Rattle.due.specs.Banks.{costs_in};
 ghost use Rattle.bank.specs.declared.stop.Stop.TheVariants.{NoMemory};
-ghost use Rattle.bank.specs.Hearing.{AreGridsOf, IsBank, bank_seen, count_before, count_of, heard_in};
+ghost use Rattle.bank.specs.Hearing.{AreBankGrids, AreGridsOf, AreOfBank, IsBank, IsMoved, bank_seen, count_before, count_of, heard_in, later_window};
 
 use crate::hearing::Bank;
 use crate::stop::Stop;
@@ -22,6 +23,7 @@ pub fn grids_of(alloc: Global, bank: &Bank, window: &Window) -> Result<Vec<CostG
     requires window { IsWindow window.now }
     ensures grids { IfOk result (λ grids. AreGrids window.now grids.items) }
     ensures costs { IfOk result (λ grids. HaveCosts window.now grids.items (costs_in window.now (bank_seen bank.now))) }
+    ensures receivers { IfOk result (λ grids. AreOfBank bank.now grids.items) }
     ensures memory { IfErr result (λ stop. stop ≡ NoMemory) }
 {
     let mut grids = Vec::new(alloc);
@@ -46,6 +48,7 @@ fn add_grid(
         → costs station ≡ slot_cost bank.now.table (heard_in station bank.now) station (window.now.start + window.now.phase)
         → AreGridsOf window.now costs stations n grids.old.items
         → AreGridsOf window.now costs (stations ++ station ∷ []) (n + count_of station bank.now.stations.items) grids.new.items) }
+    ensures receivers { OnOk result (AreOfBank bank.now grids.old.items → AreOfBank bank.now grids.new.items) }
     ensures memory { IfErr result (λ stop. stop ≡ NoMemory) }
 {
     if window.stations.has(station) {
@@ -63,6 +66,39 @@ fn add_grid(
         grids.push(grid)?;
     }
     Ok(())
+}
+
+/// Moves the grids of a bank's window to the window that starts `by` seconds later, with the same phase. It takes no memory.
+pub fn advance_grids(grids: &mut [CostGrid], bank: &Bank, window: &Window, by: u16)
+    requires bank { IsBank bank.now }
+    requires window { IsWindow window.now }
+    requires start { window.now.start + 1000 * by < START_LIMIT }
+    requires grids { AreBankGrids bank.now window.now grids.old }
+    ensures many { length grids.new ≡ length grids.old }
+    ensures grids { AreBankGrids bank.now (later_window window.now by) grids.new }
+{
+    for i in 0..grids.len() {
+        advance_one(&mut grids[i], bank, window, by);
+    }
+}
+
+// Moves the grid of a station.
+fn advance_one(grid: &mut CostGrid, bank: &Bank, window: &Window, by: u16)
+    requires bank { IsBank bank.now }
+    requires window { IsWindow window.now }
+    requires start { window.now.start + 1000 * by < START_LIMIT }
+    requires receivers { grid.old.receivers ≡ count_of grid.old.station bank.now.stations.items }
+    ensures { IsMoved bank.now window.now by grid.old grid.new }
+{
+    let (from, behind) = places_of(bank.stations.as_slice(), grid.station());
+    grid.advance(
+        part(bank.tunings.as_slice(), from, behind),
+        &bank.table,
+        part(bank.logs.as_slice(), from, behind),
+        window.start,
+        window.phase,
+        by,
+    );
 }
 
 // The entries of a list from one place up to another.

@@ -6,8 +6,9 @@ use Rattle.definitions.specs.heard.Costs.{slot_cost}
 use Rattle.definitions.specs.heard.Receivers.{Reception}
 use Rattle.symbol_cost.specs.Grid.{Grid}
 use Rattle.due.specs.Banks.{costs_in}
-use Rattle.bank.specs.Hearing.{AreGridsOf, bank_seen, count_of}
+use Rattle.bank.specs.Hearing.{AreGridsOf, AreOfBank, bank_seen, count_of}
 use Rattle.bank.proofs.GridLaws.{all_added, no_grids}
+use Rattle.bank.proofs.MovedLaws.{none_of_bank}
 use Rattle.bank.proofs.PartLaws.{counts_add_up, heard_in_bank}
 use Rattle.bank.proofs.grids.grids_of.Goals as goal
 
@@ -41,3 +42,8 @@ returns-clause-costs c =
     let three = c.in_ok-add_grid-3.ensures.adds costs (Dcf77 ∷ Msf ∷ []) (0 + count_of Dcf77 ss + count_of Msf ss) (same Wwvb) two in
     let four = c.in_ok-add_grid-4.ensures.adds costs (Dcf77 ∷ Msf ∷ Wwvb ∷ []) (0 + count_of Dcf77 ss + count_of Msf ss + count_of Wwvb ss) (same Jjy) three in
     four.costs_are
+
+pub returns-clause-receivers : goal.returns-clause-receivers
+returns-clause-receivers c =
+    let none = subst (λ (gs : List Grid). AreOfBank c.args.bank.now gs) (sym c.new-grids.ensures.items) (none_of_bank c.args.bank.now) in
+    c.in_ok-add_grid-4.ensures.receivers (c.in_ok-add_grid-3.ensures.receivers (c.in_ok-add_grid-2.ensures.receivers (c.in_ok-add_grid.ensures.receivers none)))
