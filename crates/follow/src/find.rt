@@ -10,6 +10,7 @@ ghost use Rattle.bank.specs.declared.stop.Stop.TheVariants as stops;
 ghost use Rattle.follow.specs.Finding.{CanBeWritten};
 ghost use Rattle.follow.specs.Tasks.{Asks, IsInRange, order_seen};
 
+use crate::window_gate::WindowGate;
 use crate::windows::{decode_windows, starts_too_late};
 use crate::words::FollowTask;
 use bank::{Bank, Stop, Unloaded, bank_of, load, window_of};
@@ -23,7 +24,7 @@ use std::thread::Threads;
 use workers::Gate;
 
 /// What is due for what is to be done. All files are read here, and all memory but the calendar's is taken here.
-pub fn find_due<R: Threads + Sync, F: Files, G: Gate + Sync>(
+pub fn find_due<R: Threads + Sync, F: Files, G: Gate + WindowGate + Sync>(
     rt: &R,
     alloc: Global,
     civil: &Civil,
@@ -55,7 +56,7 @@ pub fn find_due<R: Threads + Sync, F: Files, G: Gate + Sync>(
 }
 
 // What is told of a bank: the reports of its windows, or that there are so many that the last one starts too late.
-fn follow_bank<R: Threads + Sync, G: Gate + Sync>(
+fn follow_bank<R: Threads + Sync, G: Gate + WindowGate + Sync>(
     rt: &R,
     alloc: Global,
     civil: &Civil,

@@ -13,6 +13,7 @@ ghost use Rattle.follow.specs.Tasks.{Asks, IsInRange};
 
 use crate::command::FollowCommand;
 use crate::find::find_due;
+use crate::window_gate::WindowGate;
 use crate::words::{FollowTask, task_of};
 use bank::{Stop, perform, status_after, word_refusal};
 use bank_files::Files;
@@ -25,7 +26,7 @@ use texts::write_refusal;
 use workers::Gate;
 
 /// Runs the words of `follow` over the files, and answers the status. The words don't include the program's name. The workers
-/// that search pass the gate. Neither their number nor how they come to what changes what is printed or answered.
+/// that search pass the gate, and it is passed at each window. Neither their number nor how they come to what changes what is printed or answered.
 ///
 /// | Status | Comes | Standard output got |
 /// |---|---|---|
@@ -36,7 +37,7 @@ use workers::Gate;
 /// | 5 | where a log is refused | the refusal of the first |
 /// | 6 | only where reading a file or writing standard output has failed | nothing, or a front of the text due |
 /// | 7 | where memory wasn't found | nothing |
-pub fn follow<R: Threads + Sync, F: Files, G: Gate + Sync>(
+pub fn follow<R: Threads + Sync, F: Files, G: Gate + WindowGate + Sync>(
     rt: &R,
     alloc: Global,
     words: &[String],
@@ -67,7 +68,7 @@ pub fn follow<R: Threads + Sync, F: Files, G: Gate + Sync>(
 }
 
 // Judges the words, and does what they ask for.
-fn carry_out<R: Threads + Sync, F: Files, G: Gate + Sync>(
+fn carry_out<R: Threads + Sync, F: Files, G: Gate + WindowGate + Sync>(
     rt: &R,
     alloc: Global,
     words: &[String],
@@ -94,7 +95,7 @@ fn refuse<F: Files>(words: &[String], fault: WordFault, files: &mut F) -> Result
 }
 
 // Finds what is due for what the words ask, and delivers it.
-fn carry_out_task<R: Threads + Sync, F: Files, G: Gate + Sync>(
+fn carry_out_task<R: Threads + Sync, F: Files, G: Gate + WindowGate + Sync>(
     rt: &R,
     alloc: Global,
     words: &[String],

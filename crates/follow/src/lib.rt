@@ -7,7 +7,9 @@ mod find;
 mod follow_run;
 #[cfg(test)]
 mod tests;
+mod window_gate;
 mod windows;
 mod words;
 
 pub use follow_run::follow;
+pub use window_gate::WindowGate;

@@ -1,8 +1,7 @@
-//! Runs of `follow` over files in memory, with ample memory. The texts are worked out by hand from docs/FORMATS.md and the code
-//! descriptions.
+//! Runs of `follow` over files in memory, with ample memory. The texts are worked out from docs/FORMATS.md and the code
+//! descriptions, by hand and by a program that tries one sequence after the other.
 
 use crate::follow;
-use bank::run;
 use bank_files::{MemoryFiles, OneByte};
 use std::alloc::{AllocError, Global};
 use std::test::Fail;
@@ -24,77 +23,82 @@ fn printed(files: &MemoryFiles, text: &str) -> bool {
         .is_some_and(|found| found == text.as_bytes())
 }
 
-// The three minutes from 2024-06-10T06:16Z on, as JJY sends them.
-const MINUTES: [&str; 3] = [
-    "M00100110M000100101M000100110M001000110M000100100M001000000M",
-    "M00100111M000100101M000100110M001000100M000100100M001000000M",
-    "M00101000M000100101M000100110M001000100M000100100M001000000M",
-];
-
-// The log of a receiver that hears them from millisecond 0 on.
-fn clean_log(alloc: Global) -> Result<String, AllocError> {
-    let mut text = String::new(alloc);
-    let mut ms = 0u64;
-    for minute in MINUTES {
-        for symbol in minute.bytes() {
-            // Never reached: it bounds the sums.
-            if ms > 1_000_000 {
-                return Ok(text);
-            }
-            let fall = match symbol {
-                b'0' => ms + 800,
-                b'1' => ms + 500,
-                _ => ms + 200,
-            };
-            write!(text, "{ms} H\n{fall} L\n")?;
-            ms += 1_000;
-        }
-    }
-    write!(text, "{ms} H\n")?;
-    Ok(text)
-}
-
-// The minutes of DCF77 around the end of summer time, from 2024-10-27T00:58Z on, and the last minute of 2016, which has 61
-// seconds. What its weather bits tell is left 0.
-const CHANGE: [&str; 3] = [
-    "00000000000000001100110011010010000111100111100001001001000-",
-    "00000000000000001010100000000010000111100111100001001001000-",
-    "00000000000000000010110000001010000111100111100001001001000-",
-];
-
-const LEAP: [&str; 1] = ["000000000000000000111000000001000001100000111100001110100010-"];
-
-// The log of a receiver that hears these minutes of DCF77 from millisecond 0 on. In the last second of a minute the carrier
-// doesn't fall.
-fn falling_log(alloc: Global, minutes: &[&str]) -> Result<String, AllocError> {
-    let mut text = String::new(alloc);
-    let mut ms = 0u64;
-    write!(text, "{ms} H\n")?;
-    for minute in minutes {
-        for symbol in minute.bytes() {
-            // Never reached: it bounds the sums.
-            if ms > 1_000_000 {
-                return Ok(text);
-            }
-            let rise = match symbol {
-                b'0' => ms + 100,
-                b'1' => ms + 200,
-                _ => ms,
-            };
-            if rise > ms {
-                write!(text, "{} L\n{rise} H\n", ms + 1)?;
-            }
-            ms += 1_000;
-        }
-    }
-    write!(text, "{} H\n", ms + 1)?;
-    Ok(text)
-}
-
-// One receiver, named a, whose log is a.log.
+// A station with its one receiver, named a, whose log is a.log.
 const JJY: &str = "station = \"jjy\"\n[[receiver]]\nname = \"a\"\nlog = \"a.log\"\n";
 
 const DCF77: &str = "station = \"dcf77\"\n[[receiver]]\nname = \"a\"\nlog = \"a.log\"\n";
+
+const MSF: &str = "station = \"msf\"\n[[receiver]]\nname = \"a\"\nlog = \"a.log\"\n";
+
+// What is low and high in the ten tenths of a second, by symbol.
+const JJY_WAVES: [(u8, &str); 3] = [
+    (b'0', "HHHHHHHHLL"),
+    (b'1', "HHHHHLLLLL"),
+    (b'M', "HHLLLLLLLL"),
+];
+
+const DCF77_WAVES: [(u8, &str); 3] = [
+    (b'0', "LHHHHHHHHH"),
+    (b'1', "LLHHHHHHHH"),
+    (b'-', "HHHHHHHHHH"),
+];
+
+const MSF_WAVES: [(u8, &str); 5] = [
+    (b'0', "LHHHHHHHHH"),
+    (b'1', "LHLHHHHHHH"),
+    (b'2', "LLHHHHHHHH"),
+    (b'3', "LLLHHHHHHH"),
+    (b'M', "LLLLLHHHHH"),
+];
+
+// How many tenths a log has at most.
+const MOST_TENTHS: u64 = 12_000;
+
+fn wave_of(waves: &[(u8, &'static str)], symbol: u8) -> &'static str {
+    for wave in waves {
+        if wave.0 == symbol {
+            return wave.1;
+        }
+    }
+    "XXXXXXXXXX"
+}
+
+fn name_of(level: u8) -> &'static str {
+    match level {
+        b'L' => "L",
+        b'H' => "H",
+        _ => "X",
+    }
+}
+
+// The log of a receiver without noise that hears these minutes from millisecond 0 on.
+fn heard(
+    alloc: Global,
+    waves: &[(u8, &'static str)],
+    minutes: &[&str],
+) -> Result<String, AllocError> {
+    let mut text = String::new(alloc);
+    let mut tenth = 0u64;
+    let mut last = b'-';
+    for minute in minutes {
+        for symbol in minute.bytes() {
+            for level in wave_of(waves, symbol).bytes() {
+                // Never reached: it bounds the sums.
+                if tenth >= MOST_TENTHS {
+                    return Ok(text);
+                }
+                if level != last {
+                    let name = name_of(level);
+                    write!(text, "{} {name}\n", 100 * tenth)?;
+                }
+                last = level;
+                tenth += 1;
+            }
+        }
+    }
+    write!(text, "{} X\n", 100 * tenth.min(MOST_TENTHS))?;
+    Ok(text)
+}
 
 // A configuration and its log a.log.
 fn files_of(alloc: Global, config: &str, log: &str) -> Result<MemoryFiles, Fail> {
@@ -119,20 +123,22 @@ fn tells<R: Threads + Sync + AllocGlobal>(
     Ok(ended == status && printed(&files, text))
 }
 
-const TWO_MINUTES: &str =
+// The three minutes from 2024-06-10T06:16Z on, as JJY sends them.
+const MINUTES: [&str; 3] = [
+    "M00100110M000100101M000100110M001000110M000100100M001000000M",
+    "M00100111M000100101M000100110M001000100M000100100M001000000M",
+    "M00101000M000100101M000100110M001000100M000100100M001000000M",
+];
+
+const TWO_WINDOWS: &str =
     "window 0\ndecided 0\nphase 0\nsequence 2024-06-10T06:16Z 0 no\nnext 1200\nminute 2024-06-10T06:16Z at 0\nminute 2024-06-10T06:17Z at 60000\nwindow 60000\ndecided 0\nphase 0\nsequence 2024-06-10T06:17Z 0 no\nnext 1200\nminute 2024-06-10T06:17Z at 60000\nminute 2024-06-10T06:18Z at 120000\n";
 
-// Over the whole century, for each number of workers.
+// Over the whole century.
 #[test]
 fn follows_two_windows(rt: HostRuntime) -> Result<(), Fail> {
-    let log = clean_log(rt.alloc())?;
-    for line in [
-        "follow k.toml --seconds 120 --count 2",
-        "follow k.toml --seconds 120 --count 2 --workers 1",
-        "follow k.toml --seconds 120 --count 2 --workers 8",
-    ] {
-        assert!(rt; tells(&rt, JJY, &log, line, 0, TWO_MINUTES)?, "{line}");
-    }
+    let log = heard(rt.alloc(), &JJY_WAVES, &MINUTES)?;
+    let line = "follow k.toml --seconds 120 --count 2";
+    assert!(rt; tells(&rt, JJY, &log, line, 0, TWO_WINDOWS)?);
     Ok(())
 }
 
@@ -140,22 +146,32 @@ fn follows_two_windows(rt: HostRuntime) -> Result<(), Fail> {
 const HOUR: &str =
     "follow k.toml --seconds 120 --count 2 --from 2024-06-10T06:00Z --to 2024-06-10T06:59Z";
 
+#[test]
+fn any_number_of_workers_tells_the_same(rt: HostRuntime) -> Result<(), Fail> {
+    let log = heard(rt.alloc(), &JJY_WAVES, &MINUTES)?;
+    for workers in [1u8, 2, 4, 8] {
+        let line = format!(in rt.alloc(); "{HOUR} --workers {workers}")?;
+        assert!(rt; tells(&rt, JJY, &log, &line, 0, TWO_WINDOWS)?, "{workers}");
+    }
+    Ok(())
+}
+
 // Files that read and write a byte a call.
 #[test]
 fn prints_the_same_byte_by_byte(rt: HostRuntime) -> Result<(), Fail> {
-    let log = clean_log(rt.alloc())?;
+    let log = heard(rt.alloc(), &JJY_WAVES, &MINUTES)?;
     let words = words(rt.alloc(), HOUR)?;
     let inner = files_of(rt.alloc(), JJY, &log)?;
     let mut files = OneByte { inner };
     assert_eq!(rt; follow(&rt, rt.alloc(), &words, &mut files, &NoGate), 0);
-    assert!(rt; printed(&files.inner, TWO_MINUTES));
+    assert!(rt; printed(&files.inner, TWO_WINDOWS));
     Ok(())
 }
 
 // The configuration and the log are read in two calls each, and each window is written in two.
 #[test]
 fn ends_at_a_failing_file(rt: HostRuntime) -> Result<(), Fail> {
-    let log = clean_log(rt.alloc())?;
+    let log = heard(rt.alloc(), &JJY_WAVES, &MINUTES)?;
     let words = words(rt.alloc(), HOUR)?;
     for call in 1..9 {
         let mut files = files_of(rt.alloc(), JJY, &log)?;
@@ -166,16 +182,132 @@ fn ends_at_a_failing_file(rt: HostRuntime) -> Result<(), Fail> {
             "call {call}"
         );
         let front = files.contents("-").unwrap_or(b"");
-        assert!(rt; TWO_MINUTES.as_bytes().starts_with(front), "call {call}");
-        assert!(rt; front.len() < TWO_MINUTES.len(), "call {call}");
+        assert!(rt; TWO_WINDOWS.as_bytes().starts_with(front), "call {call}");
+        assert!(rt; front.len() < TWO_WINDOWS.len(), "call {call}");
     }
+    Ok(())
+}
+
+// The second window starts a minute behind the end of the first.
+#[test]
+fn a_step_may_be_longer_than_a_window(rt: HostRuntime) -> Result<(), Fail> {
+    let log = heard(rt.alloc(), &JJY_WAVES, &MINUTES)?;
+    assert!(rt;
+        tells(
+            &rt,
+            JJY,
+            &log,
+            "follow k.toml --seconds 60 --step 120 --count 2 --from 2024-06-10T06:16Z --to 2024-06-10T06:19Z",
+            0,
+            "window 0\ndecided 0\nphase 0\nsequence 2024-06-10T06:16Z 0 no\nnext 600\nminute 2024-06-10T06:16Z at 0\nwindow 120000\ndecided 0\nphase 0\nsequence 2024-06-10T06:18Z 0 no\nnext 600\nminute 2024-06-10T06:18Z at 120000\n",
+        )?
+    );
+    Ok(())
+}
+
+// The minutes of DCF77 from 2016-12-31T23:58Z on. The second of them has 61 seconds.
+const LEAP: [&str; 3] = [
+    "00000000000000000011110011010000000010000011110000111010001-",
+    "000000000000000000111000000001000001100000111100001110100010-",
+    "00000000000000000010110000001100000110000011110000111010001-",
+];
+
+// The third window begins with the leap second, and may as well begin with the last second of a minute that has none.
+#[test]
+fn follows_over_a_leap_second(rt: HostRuntime) -> Result<(), Fail> {
+    let log = heard(rt.alloc(), &DCF77_WAVES, &LEAP)?;
+    for (line, status, text) in [
+        (
+            "follow k.toml --seconds 90 --count 2 --from 2016-12-31T23:50Z --to 2017-01-01T00:09Z",
+            0,
+            "window 0\ndecided 0\nphase 0\nsequence 2016-12-31T23:58Z 0 yes\nnext 200\nminute 2016-12-31T23:58Z at 0\nminute 2016-12-31T23:59Z at 60000\nwindow 60000\ndecided 0\nphase 0\nsequence 2016-12-31T23:59Z 0 yes\nnext 800\nminute 2016-12-31T23:59Z at 60000\nminute 2017-01-01T00:00Z at 121000\n",
+        ),
+        (
+            "follow k.toml --seconds 60 --count 3 --from 2016-12-31T23:50Z --to 2017-01-01T00:09Z",
+            1,
+            "window 0\ndecided 0\nphase 0\nsequence 2016-12-31T23:58Z 0 yes\nnext 100\nminute 2016-12-31T23:58Z at 0\nwindow 60000\ndecided 0\nphase 0\nsequence 2016-12-31T23:59Z 0 yes\nnext 200\nminute 2016-12-31T23:59Z at 60000\nwindow 120000\nundecided 0\nphase 0\nsequence 2016-12-31T23:59Z 59 no\nsequence 2016-12-31T23:59Z 60 yes\n",
+        ),
+    ] {
+        assert!(rt; tells(&rt, DCF77, &log, line, status, text)?, "{line}");
+    }
+    Ok(())
+}
+
+// The minutes of DCF77 from 2024-10-27T00:58Z on. They tell 02:59 in summer time, then 02:00 and 02:01 in winter time.
+const CHANGE: [&str; 3] = [
+    "00000000000000001100110011010010000111100111100001001001000-",
+    "00000000000000001010100000000010000111100111100001001001000-",
+    "00000000000000000010110000001010000111100111100001001001000-",
+];
+
+#[test]
+fn follows_over_the_end_of_summer_time(rt: HostRuntime) -> Result<(), Fail> {
+    let log = heard(rt.alloc(), &DCF77_WAVES, &CHANGE)?;
+    assert!(rt;
+        tells(
+            &rt,
+            DCF77,
+            &log,
+            "follow k.toml --seconds 60 --count 3 --from 2024-10-27T00:00Z --to 2024-10-27T01:59Z",
+            0,
+            "window 0\ndecided 0\nphase 0\nsequence 2024-10-27T00:58Z 0 no\nnext 200\nminute 2024-10-27T00:58Z at 0\nwindow 60000\ndecided 0\nphase 0\nsequence 2024-10-27T00:59Z 0 no\nnext 300\nminute 2024-10-27T00:59Z at 60000\nwindow 120000\ndecided 0\nphase 0\nsequence 2024-10-27T01:00Z 0 no\nnext 200\nminute 2024-10-27T01:00Z at 120000\n",
+        )?
+    );
+    Ok(())
+}
+
+// The minutes of MSF from 2024-07-15T23:58Z on. DUT1 is -2 tenths before midnight, and -3 behind it.
+const MIDNIGHT: [&str; 3] = [
+    "M00000000110000000020020000222020220020000000202200202332330",
+    "M00000000110000000020020000222020220020000002000000002332230",
+    "M00000000111000000020020000222020220020000002000000202332330",
+];
+
+// The fourth window reaches over midnight in UTC.
+#[test]
+fn follows_over_midnight(rt: HostRuntime) -> Result<(), Fail> {
+    let log = heard(rt.alloc(), &MSF_WAVES, &MIDNIGHT)?;
+    assert!(rt;
+        tells(
+            &rt,
+            MSF,
+            &log,
+            "follow k.toml --seconds 60 --step 30 --count 5 --from 2024-07-15T23:50Z --to 2024-07-16T00:09Z",
+            0,
+            "window 0\ndecided 0\nphase 0\nsequence 2024-07-15T23:58Z 0 no\nnext 200\ndut1 -2\nminute 2024-07-15T23:58Z at 0\nwindow 30000\ndecided 0\nphase 0\nsequence 2024-07-15T23:58Z 30 no\nnext 200\ndut1 -2\nminute 2024-07-15T23:59Z at 60000\nwindow 60000\ndecided 0\nphase 0\nsequence 2024-07-15T23:59Z 0 no\nnext 200\ndut1 -2\nminute 2024-07-15T23:59Z at 60000\nwindow 90000\ndecided 0\nphase 0\nsequence 2024-07-15T23:59Z 30 no\nnext 200\ndut1 free\nminute 2024-07-16T00:00Z at 120000\nwindow 120000\ndecided 0\nphase 0\nsequence 2024-07-16T00:00Z 0 no\nnext 200\ndut1 -3\nminute 2024-07-16T00:00Z at 120000\n",
+        )?
+    );
+    Ok(())
+}
+
+// The last three minutes that JJY encodes, from 2099-12-31T14:57Z on. In Japan the last of them is 23:59.
+const LAST: [&str; 3] = [
+    "M10100111M001000011M001100110M010100110M010011001M100000000M",
+    "M10101000M001000011M001100110M010100110M010011001M100000000M",
+    "M10101001M001000011M001100110M010100100M010011001M100000000M",
+];
+
+// No sequence tells the last of them and goes on behind it. The log ends with it.
+#[test]
+fn follows_over_the_end_of_the_century(rt: HostRuntime) -> Result<(), Fail> {
+    let log = heard(rt.alloc(), &JJY_WAVES, &LAST)?;
+    assert!(rt;
+        tells(
+            &rt,
+            JJY,
+            &log,
+            "follow k.toml --seconds 120 --count 4 --from 2099-12-31T14:50Z --to 2099-12-31T14:59Z",
+            1,
+            "window 0\ndecided 0\nphase 0\nsequence 2099-12-31T14:57Z 0 no\nnext 1200\nminute 2099-12-31T14:57Z at 0\nminute 2099-12-31T14:58Z at 60000\nwindow 60000\ndecided 0\nphase 0\nsequence 2099-12-31T14:58Z 0 no\nnext 1200\nminute 2099-12-31T14:58Z at 60000\nminute 2099-12-31T14:59Z at 120000\nwindow 120000\nundecided 600\nphase 0\nsequence 2099-12-31T14:50Z 0 no\nsequence 2099-12-31T14:51Z 0 no\nwindow 180000\nundecided 0\nphase 0\nsequence 2099-12-31T14:50Z 0 no\nsequence 2099-12-31T14:51Z 0 no\n",
+        )?
+    );
     Ok(())
 }
 
 // The last window starts too late, which is told once all logs are good.
 #[test]
 fn refuses_a_count_behind_the_logs(rt: HostRuntime) -> Result<(), Fail> {
-    let log = clean_log(rt.alloc())?;
+    let log = heard(rt.alloc(), &JJY_WAVES, &MINUTES)?;
     let late = "follow k.toml --seconds 120 --count 2 --start 999999999999";
     assert!(rt; tells(&rt, JJY, &log, late, 3, "words: bad --count\n")?);
     assert!(rt;
@@ -216,7 +348,7 @@ fn tells_what_is_not_decided(rt: HostRuntime) -> Result<(), Fail> {
             "window 0\nundecided 0\nphase 0\nsequence 2000-01-01T00:00Z 0 no\nsequence 2000-01-01T00:01Z 0 no\n",
         )?
     );
-    let log = clean_log(rt.alloc())?;
+    let log = heard(rt.alloc(), &JJY_WAVES, &MINUTES)?;
     let strict = format!(in rt.alloc(); "ceiling = 0\n{JJY}")?;
     assert!(rt;
         tells(
@@ -245,69 +377,6 @@ fn refuses_words(rt: HostRuntime) -> Result<(), Fail> {
         ("decode k.toml", "words: usage\n"),
     ] {
         assert!(rt; tells(&rt, JJY, "", line, 3, text)?, "{line}");
-    }
-    Ok(())
-}
-
-// What a decode prints that starts at this millisecond.
-fn decoded<R: Threads + Sync + AllocGlobal>(
-    rt: &R,
-    config: &str,
-    log: &str,
-    start: u64,
-    options: &str,
-) -> Result<String, Fail> {
-    let mut files = files_of(rt.alloc(), config, log)?;
-    let line = format!(in rt.alloc(); "decode k.toml --start {start} {options}")?;
-    let words = words(rt.alloc(), &line)?;
-    run(rt, rt.alloc(), &words, &mut files, &NoGate);
-    let mut text = String::new(rt.alloc());
-    if let Some(Ok(found)) = files.contents("-").map(|bytes| str::from_utf8(bytes)) {
-        text.push_str(found)?;
-    }
-    Ok(text)
-}
-
-// Of a clean log each window has the same phase, so that it is told as a decode tells it that starts there: by steps longer than
-// the windows, over the end of summer time, and into a leap second.
-#[test]
-fn tells_each_window_as_a_decode_does(rt: HostRuntime) -> Result<(), Fail> {
-    let clean = clean_log(rt.alloc())?;
-    let change = falling_log(rt.alloc(), &CHANGE)?;
-    let leap = falling_log(rt.alloc(), &LEAP)?;
-    for (config, log, step, count, options) in [
-        (
-            JJY,
-            &clean,
-            120,
-            2,
-            "--seconds 60 --from 2024-06-10T06:00Z --to 2024-06-10T06:59Z",
-        ),
-        (
-            DCF77,
-            &change,
-            60,
-            3,
-            "--seconds 60 --from 2024-10-27T00:00Z --to 2024-10-27T01:59Z",
-        ),
-        (
-            DCF77,
-            &leap,
-            1,
-            2,
-            "--seconds 60 --from 2016-12-31T23:00Z --to 2016-12-31T23:59Z",
-        ),
-    ] {
-        let mut text = String::new(rt.alloc());
-        for i in 0..count {
-            let start = 1000 * step * i;
-            let report = decoded(&rt, config, log, start, options)?;
-            write!(text, "window {start}\n{report}")?;
-        }
-        let line = format!(in rt.alloc();
-            "follow k.toml --step {step} --count {count} --start 0 {options}"
-        )?;
-        assert!(rt; tells(&rt, config, log, &line, 0, &text)?, "{text}");
     }
     Ok(())
 }

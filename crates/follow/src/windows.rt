@@ -9,6 +9,7 @@ ghost use Rattle.bank.specs.Hearing.{AreBankGrids, IsBank, bank_seen};
 ghost use Rattle.bank.specs.Tasks.{AreWorkers};
 ghost use Rattle.follow.specs.Finding.{CanBeReported};
 
+use crate::window_gate::WindowGate;
 use bank::{Bank, Stop, advance_grids, decode_window, grids_of};
 use civil::Civil;
 use follow_due::{Reports, WindowReport};
@@ -32,7 +33,7 @@ pub fn starts_too_late(first: &Window, step: u16, count: u16) -> bool
 
 /// Decodes so many windows of a bank, from the first one on, each a step after the one before. The grids are made once, and
 /// moved from window to window.
-pub fn decode_windows<R: Threads + Sync, G: Gate + Sync>(
+pub fn decode_windows<R: Threads + Sync, G: Gate + WindowGate + Sync>(
     rt: &R,
     alloc: Global,
     civil: &Civil,
@@ -56,6 +57,7 @@ pub fn decode_windows<R: Threads + Sync, G: Gate + Sync>(
     let mut grids = grids_of(alloc, bank, first)?;
     let mut reports = Vec::new(alloc);
     for i in 0..count {
+        gate.come_to(i + 1, count);
         let window = move_to(&mut grids, bank, first, step, i);
         let told = report_of(
             rt,
