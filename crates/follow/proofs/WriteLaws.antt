@@ -9,30 +9,31 @@ use Rattle.follow_due.specs.declared.window_report.WindowReport.{WindowReport}
 use Rattle.follow_due.specs.FollowDues.{window_text, windows_text}
 
 -- one more window
-one_more : (reports : List WindowReport) (k : ℕ) (told : WindowReport) → k < length reports
-    → windows_text (take (k + 1) reports) ≡ windows_text (take k reports) ++ window_text (get_or reports k told)
-one_more reports k told within =
+one_more : (reports : List WindowReport) (k : ℕ) (told : WindowReport) → k < length reports → told ≡ get_or reports k told
+    → windows_text (take (k + 1) reports) ≡ windows_text (take k reports) ++ window_text told
+one_more reports k told within is =
     ap windows_text (take_more reports k told within)
-    ∙ flat_map-append window_text (take k reports) (get_or reports k told ∷ [])
-    ∙ ap (λ l. windows_text (take k reports) ++ l) (append-nil (window_text (get_or reports k told)))
+    ∙ (flat_map-append window_text (take k reports) (get_or reports k told ∷ [])
+    ∙ (ap (λ l. windows_text (take k reports) ++ l) (append-nil (window_text (get_or reports k told)))
+    ∙ ap (λ (r : WindowReport). windows_text (take k reports) ++ window_text r) (sym is)))
 
 -- and what comes behind
 rest_of : (reports : List WindowReport) (k : ℕ) → windows_text (take k reports) ++ windows_text (drop k reports) ≡ windows_text reports
 rest_of reports k = sym (flat_map-append window_text (take k reports) (drop k reports)) ∙ ap windows_text (take-append-drop k reports)
 
 module _ {E : Type 0} (reports : List WindowReport) (k : ℕ) (old mid new : Seen) (told : WindowReport) (within : k < length reports)
-    (so_far : Writes {E = E} output_name old mid (windows_text (take k reports)) (Ok tt)) where
-  pub window_goes_on : Writes {E = E} output_name mid new (window_text (get_or reports k told)) (Ok tt)
+    (is : told ≡ get_or reports k told) (so_far : Writes {E = E} output_name old mid (windows_text (take k reports)) (Ok tt)) where
+  pub window_goes_on : Writes {E = E} output_name mid new (window_text told) (Ok tt)
       → Writes {E = E} output_name old new (windows_text (take (k + 1) reports)) (Ok tt)
   window_goes_on written =
-      subst (λ (text : List ℕ). Writes {E = E} output_name old new text (Ok tt)) (sym (one_more reports k told within))
-      (Writes-then {E = E} output_name old mid new (windows_text (take k reports)) (window_text (get_or reports k told)) (Ok tt) so_far written)
+      subst (λ (text : List ℕ). Writes {E = E} output_name old new text (Ok tt)) (sym (one_more reports k told within is))
+      (Writes-then {E = E} output_name old mid new (windows_text (take k reports)) (window_text told) (Ok tt) so_far written)
 
   -- or a front of it, which is a front of the whole
-  pub window_fails : (e : E) → Writes output_name mid new (window_text (get_or reports k told)) (Err e)
+  pub window_fails : (e : E) → Writes output_name mid new (window_text told) (Err e)
       → Writes output_name old new (windows_text reports) (Err e)
   window_fails e written =
       subst (λ (text : List ℕ). Writes output_name old new text (Err e)) (rest_of reports (k + 1))
       (Writes-failed output_name old new (windows_text (take (k + 1) reports)) (windows_text (drop (k + 1) reports)) e
-      (subst (λ (text : List ℕ). Writes output_name old new text (Err e)) (sym (one_more reports k told within))
-      (Writes-then output_name old mid new (windows_text (take k reports)) (window_text (get_or reports k told)) (Err e) so_far written)))
+      (subst (λ (text : List ℕ). Writes output_name old new text (Err e)) (sym (one_more reports k told within is))
+      (Writes-then output_name old mid new (windows_text (take k reports)) (window_text told) (Err e) so_far written)))
