@@ -8,8 +8,8 @@ use Rattle.machine_files.specs.Disk.{Disk}
 use Rattle.machine_files.specs.Seeing.{IsSeenThrough, seen_of}
 use Rattle.program.specs.Families.{plan_for}
 
--- All that `bank::run` promises for its plan, and `frame_runs::irig` for its own, clause by clause: `old` and `new` are the files as
--- the run found them and as it left them.
+-- All that `bank::run` promises for its plan, and `frame_runs::irig` and `follow::follow` for their own, clause by clause: `old` and
+-- `new` are the files as the run found them and as it left them.
 pub record HasRun {D : Type 0} (plan : Plan D) (old new : Seen) (status : ℕ) : Type 0 where
   pub due : status ≢ 6 → status ≢ 7 → DeliversDue plan old new status
   pub exactly : status ≢ 6 → status ≢ 7 → (contents : Contents) → AreTold plan old contents

@@ -3,8 +3,8 @@
 ghost use Rattle.std.specs.Prelude.{◌≡◌, [], codes};
 ghost use Rattle.bank_words.specs.Seen.{texts_of};
 ghost use Rattle.formats.specs.WordExamples.{words_in};
-ghost use Rattle.program.specs.declared.family.Family.TheVariants.{OfFrames, OfRun};
-ghost use Rattle.program.specs.Families.{family_of, is_of_frames};
+ghost use Rattle.program.specs.declared.family.Family.TheVariants.{OfFollow, OfFrames, OfRun};
+ghost use Rattle.program.specs.Families.{family_of, family_of_word, is_follow, is_of_frames};
 
 use crate::family::Family;
 
@@ -14,12 +14,20 @@ pub fn family_of(words: &[String]) -> Family
 {
     match words {
         [] => Family::OfRun,
-        [first, ..] => if is_of_frames(first.as_str()) {
-            Family::OfFrames
-        } else {
-            Family::OfRun
-        },
+        [first, ..] => family_of_word(first.as_str()),
     }
+}
+
+fn family_of_word(word: &str) -> Family
+    ensures { result ≡ family_of_word word.now }
+{
+    if is_of_frames(word) {
+        return Family::OfFrames;
+    }
+    if is_follow(word) {
+        return Family::OfFollow;
+    }
+    Family::OfRun
 }
 
 fn is_of_frames(word: &str) -> bool
@@ -28,12 +36,19 @@ fn is_of_frames(word: &str) -> bool
     word == "irig" || word == "irig-read"
 }
 
+fn is_follow(word: &str) -> bool
+    ensures { result ≡ is_follow word.now }
+{
+    word == "follow"
+}
+
 /// Whose commands some words are.
 pub fn families_of_words()
     ensures irig { family_of (words_in (codes "irig k.toml --seconds 120")) ≡ OfFrames }
     ensures irig_read { family_of (words_in (codes "irig-read f.txt")) ≡ OfFrames }
     ensures decode { family_of (words_in (codes "decode irig")) ≡ OfRun }
     ensures longer { family_of (words_in (codes "irig-reads f.txt")) ≡ OfRun }
-    ensures beyond { family_of (words_in (codes "follow k.toml")) ≡ OfRun }
+    ensures follow { family_of (words_in (codes "follow k.toml --count 2")) ≡ OfFollow }
+    ensures beyond { family_of (words_in (codes "sweep follow")) ≡ OfRun }
     ensures none { family_of [] ≡ OfRun }
 {}

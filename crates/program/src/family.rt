@@ -8,4 +8,6 @@ pub enum Family {
     OfRun,
     /// Those of frames: `irig` and `irig-read`.
     OfFrames,
+    /// That of windows that follow one another: `follow`.
+    OfFollow,
 }

@@ -1,22 +1,25 @@
-//! How far a search has come, on standard error. Nothing of it touches the answer.
+//! How far a run has come, on standard error. Nothing of it touches the answer.
 
 use crate::messages::Speaker;
+use follow::WindowGate;
 use std::rt::Clock;
 use std::sync::atomic::{AtomicU64, Ordering};
 use std::time::Instant;
 use workers::Gate;
 
-// A search that ends within that many milliseconds shows nothing.
+// A run that ends within that many milliseconds shows nothing.
 const FIRST_AFTER: u64 = 1000;
 
 // At least so many milliseconds lie between two lines.
 const PERIOD: u64 = 200;
 
-// Goes over a line with a number of at most eight digits; a search has some ten thousand items.
+// Goes over a line with a number of at most eight digits, or with two of at most four; a search has some ten thousand items,
+// and there are at most a thousand windows.
 pub(crate) const BLANK: &str = "\r                                \r";
 
-/// A gate that holds nobody, and shows the latest number that was drawn, which is how many items were drawn before it.
-/// The line is written over the one before it. All workers share it: at each time one of them writes at most.
+/// A gate that holds nobody, and shows the latest number that was drawn, which is how many items were drawn before it; where
+/// there are several windows, it shows at which of them the run is. The line is written over the one before it. All workers
+/// share it: at each time one of them writes at most.
 #[derive(Drop)]
 pub struct Progress<'a, S: Clock + Eprint> {
     screen: &'a S,
@@ -28,6 +31,9 @@ pub struct Progress<'a, S: Clock + Eprint> {
     due: AtomicU64,
     // The greatest number that was shown.
     shown: AtomicU64,
+    // Where there are several windows: which of them was come to latest, and how many there are. Else 0.
+    window: AtomicU64,
+    windows: AtomicU64,
 }
 
 impl<'a, S: Clock + Eprint> Progress<'a, S> {
@@ -50,6 +56,8 @@ impl<'a, S: Clock + Eprint> Progress<'a, S> {
             begun,
             due: AtomicU64::new(FIRST_AFTER),
             shown: AtomicU64::new(0),
+            window: AtomicU64::new(0),
+            windows: AtomicU64::new(0),
         }
     }
 
@@ -58,6 +66,24 @@ impl<'a, S: Clock + Eprint> Progress<'a, S> {
         if self.shown.swap(0, Ordering::SeqCst) > 0 {
             let _ = self.screen.eprint(BLANK);
         }
+    }
+
+    // Shows at which window the run is, where that is to be shown now.
+    fn show_window(&self) {
+        let window = self.window.load(Ordering::SeqCst);
+        if self.is_next(window) {
+            let windows = self.windows.load(Ordering::SeqCst);
+            let name = self.speaker.name();
+            let _ = eprint!(self.screen; "\r{name}: window {window} of {windows}");
+        }
+    }
+
+    // Whether a line with this number is to be shown now: one is due, and no number so great was shown.
+    fn is_next(&self, number: u64) -> bool {
+        let Some(begun) = self.begun else {
+            return false;
+        };
+        self.is_due(begun) && self.shown.fetch_max(number, Ordering::SeqCst) < number
     }
 
     // Whether a line is due now. To one of the workers that ask at a time, it is.
@@ -82,12 +108,21 @@ impl<'a, S: Clock + Eprint> Progress<'a, S> {
 
 impl<S: Clock + Eprint> Gate for Progress<'_, S> {
     fn pass(&self, _worker: u32, number: u64) {
-        let Some(begun) = self.begun else {
-            return;
-        };
-        if self.is_due(begun) && self.shown.fetch_max(number, Ordering::SeqCst) < number {
+        if self.windows.load(Ordering::SeqCst) > 0 {
+            self.show_window();
+        } else if self.is_next(number) {
             let name = self.speaker.name();
             let _ = eprint!(self.screen; "\r{name}: {number} items searched");
+        }
+    }
+}
+
+impl<S: Clock + Eprint> WindowGate for Progress<'_, S> {
+    fn come_to(&self, window: u16, windows: u16) {
+        if windows > 1 {
+            self.window.store(u64::from(window), Ordering::SeqCst);
+            self.windows.store(u64::from(windows), Ordering::SeqCst);
+            self.show_window();
         }
     }
 }
@@ -131,6 +166,42 @@ mod tests {
         assert_eq!(rt; screen.printed(), 3);
         progress.end();
         assert_eq!(rt; screen.printed(), 3);
+    }
+
+    // It begins at 0, and looks at 300, 600, 900, 1200 and so on.
+    #[test]
+    fn shows_which_window_is_searched(rt: HostRuntime) {
+        let screen = Screen::new(rt.alloc(), "\rtsbank: window 12 of 1000");
+        let progress = Progress::new(&screen, true);
+        progress.come_to(10, 1000);
+        progress.pass(0, 7000);
+        progress.come_to(11, 1000);
+        assert_eq!(rt; screen.printed(), 0);
+        progress.come_to(12, 1000);
+        assert_eq!(rt; screen.printed(), 1);
+        assert_eq!(rt; screen.found(), 1);
+        // It is shown already.
+        progress.pass(0, 7001);
+        assert_eq!(rt; screen.printed(), 1);
+        progress.come_to(13, 1000);
+        assert_eq!(rt; screen.printed(), 2);
+        progress.end();
+        assert_eq!(rt; screen.printed(), 3);
+        assert!(rt; !screen.shows_a_line());
+    }
+
+    // One window is a search like that of a decode.
+    #[test]
+    fn shows_the_search_of_one_window(rt: HostRuntime) {
+        let screen = Screen::new(rt.alloc(), "\rtsbank: 1234 items searched");
+        let progress = Progress::new(&screen, true);
+        progress.come_to(1, 1);
+        for number in [5, 700, 900] {
+            progress.pass(0, number);
+        }
+        assert_eq!(rt; screen.printed(), 0);
+        progress.pass(0, 1234);
+        assert_eq!(rt; screen.found(), 1);
     }
 
     #[test]

@@ -9,6 +9,7 @@ use crate::family::Family;
 use crate::messages::{Speaker, explain};
 use crate::progress::Progress;
 use bank_files::Files;
+use follow::WindowGate;
 use machine_files::{Machine, RealFiles};
 use std::alloc::Global;
 use std::rt::Clock;
@@ -46,7 +47,7 @@ pub fn run<R: Threads + Sync, M: Machine, E: Eprint, S: Clock + Eprint + Sync>(
 }
 
 /// The one call that runs the words, chosen by the first of them. All that the call promises holds of it.
-pub fn answer<R: Threads + Sync, F: Files, G: Gate + Sync>(
+pub fn answer<R: Threads + Sync, F: Files, G: Gate + WindowGate + Sync>(
     rt: &R,
     alloc: Global,
     words: &[String],
@@ -58,5 +59,6 @@ pub fn answer<R: Threads + Sync, F: Files, G: Gate + Sync>(
     match family_of(words) {
         Family::OfRun => bank::run(rt, alloc, words, files, gate),
         Family::OfFrames => frame_runs::irig(rt, alloc, words, files, gate),
+        Family::OfFollow => follow::follow(rt, alloc, words, files, gate),
     }
 }

@@ -37,3 +37,19 @@ returns-in-OfFrames g c =
       memory = promised.memory;
       only = promised.only;
     })
+
+pub returns-in-OfFollow : goal.returns-in-OfFollow
+returns-in-OfFollow g c =
+    let words = texts_of c.args.words.now in
+    let promised = c.follow.ensures in
+    subst (λ (family : Family). HasRun (family_plan family words) (g.F.Files.view c.args.files.now) (g.F.Files.view c.follow.new.files) c.follow.result)
+    (sym c.in-OfFollow.is ∙ c.family_of.ensures)
+    (record {
+      due = promised.due;
+      exactly = promised.exactly;
+      failed = promised.failed;
+      no_fault = promised.no_fault;
+      front = promised.front;
+      memory = promised.memory;
+      only = promised.only;
+    })
