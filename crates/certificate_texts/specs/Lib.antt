@@ -1,0 +1,5 @@
+pub mod Sending
+pub mod Layout
+pub mod Fields
+pub mod Places
+pub mod Lines

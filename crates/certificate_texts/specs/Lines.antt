@@ -1,0 +1,28 @@
+-- Lines of a certificate that are read from their bytes, without the LF.
+use Rattle.std.specs.Prelude.{ℕ, ◌≡◌, ◌≢◌, List, Option}
+use Rattle.certificates.specs.declared.certificate.Line.{Line}
+use Rattle.certificates.specs.Certificates.{IsLine}
+use Rattle.certificates.specs.Texts.{CanStand, CanTell, Entry, HeadLine, Next, entry_text, head_text, step_text}
+
+-- the bytes are what tells this line
+pub record Spells (next : Next) (bytes : List ℕ) (entry : Entry) : Type 0 where
+  pub can : CanStand next entry
+  pub text : entry_text entry ≡ bytes
+
+-- the bytes are no line that may stand there
+abbrev pub SpellsNone : Next → List ℕ → Type 0
+SpellsNone next bytes = (entry : Entry) → CanStand next entry → entry_text entry ≢ bytes
+
+pub record SpellsHead (told : HeadLine) (before : Option ℕ) (bytes : List ℕ) (value : Option ℕ) : Type 0 where
+  pub can : CanTell told before value
+  pub text : head_text told value ≡ bytes
+
+abbrev pub SpellsNoHead : HeadLine → Option ℕ → List ℕ → Type 0
+SpellsNoHead told before bytes = (value : Option ℕ) → CanTell told before value → head_text told value ≢ bytes
+
+pub record SpellsStep (bytes : List ℕ) (l : Line) : Type 0 where
+  pub is_line : IsLine l
+  pub text : step_text l ≡ bytes
+
+abbrev pub SpellsNoStep : List ℕ → Type 0
+SpellsNoStep bytes = (l : Line) → IsLine l → step_text l ≢ bytes

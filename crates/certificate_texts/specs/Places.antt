@@ -1,0 +1,36 @@
+-- What comes next in a text and what its lines tell, as the code has them.
+use Rattle.std.specs.Prelude.{ℕ, Option}
+use Rattle.certificates.specs.Texts.{Entry, HeadLine, Next}
+use Rattle.certificates.specs.Texts.Entry.{Tells, Part, Step, End}
+use Rattle.certificates.specs.Texts.HeadLine as head
+use Rattle.certificates.specs.Texts.Next.{AtHead, AtParts, AtStep, AtEnd}
+use Rattle.certificate_texts.specs.declared.place.HeadPart.{HeadPart}
+use Rattle.certificate_texts.specs.declared.place.HeadPart.TheVariants as part
+use Rattle.certificate_texts.specs.declared.place.Place.{Place}
+use Rattle.certificate_texts.specs.declared.place.Place.TheVariants as place
+use Rattle.certificate_texts.specs.declared.place.Told.{Told}
+use Rattle.certificate_texts.specs.declared.place.Told.TheVariants as told
+
+abbrev pub head_line_of : HeadPart → HeadLine
+head_line_of part.Version = head.Version
+head_line_of part.Heard = head.Heard
+head_line_of part.Start = head.Start
+head_line_of part.Phase = head.Phase
+head_line_of part.Seconds = head.Seconds
+head_line_of part.From = head.From
+head_line_of part.To = head.To
+head_line_of part.Ceiling = head.Ceiling
+head_line_of part.First = head.First
+head_line_of part.Second = head.Second
+
+abbrev pub next_of : Place → Next
+next_of (place.Head due before) = AtHead (head_line_of due) before
+next_of place.Parts = AtParts
+next_of (place.Steps part steps) = AtStep part steps
+next_of place.End = AtEnd
+
+abbrev pub entry_of : Told → Entry
+entry_of (told.Head part value) = Tells (head_line_of part) value
+entry_of (told.Part number) = Part number
+entry_of (told.Step line) = Step line
+entry_of told.End = End
