@@ -3,3 +3,4 @@ pub mod Layout
 pub mod Fields
 pub mod Places
 pub mod Lines
+pub mod Reading

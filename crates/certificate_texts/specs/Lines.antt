@@ -1,8 +1,8 @@
 -- Lines of a certificate that are read from their bytes, without the LF.
-use Rattle.std.specs.Prelude.{ℕ, ◌≡◌, ◌≢◌, List, Option}
+use Rattle.std.specs.Prelude.{ℕ, ◌≡◌, ◌≢◌, List, Option, Some}
 use Rattle.certificates.specs.declared.certificate.Line.{Line}
 use Rattle.certificates.specs.Certificates.{IsLine}
-use Rattle.certificates.specs.Texts.{CanStand, CanTell, Entry, HeadLine, Next, entry_text, head_text, step_text}
+use Rattle.certificates.specs.Texts.{CanStand, CanTell, Entry, HeadLine, Next, entry_text, head_text, stations_by, stations_text, step_text, version_of}
 
 -- the bytes are what tells this line
 pub record Spells (next : Next) (bytes : List ℕ) (entry : Entry) : Type 0 where
@@ -26,3 +26,7 @@ pub record SpellsStep (bytes : List ℕ) (l : Line) : Type 0 where
 
 abbrev pub SpellsNoStep : List ℕ → Type 0
 SpellsNoStep bytes = (l : Line) → IsLine l → step_text l ≢ bytes
+
+-- the line names the stations of this mask, after a version that goes with them
+abbrev pub IsOfMask : Option ℕ → List ℕ → ℕ → Type 0
+IsOfMask before bytes mask = (before ≡ Some (version_of (stations_by mask))) × (stations_text (stations_by mask) ≡ bytes)

@@ -2,7 +2,7 @@
 use Rattle.std.specs.Prelude.{ℕ, Option}
 use Rattle.certificates.specs.Texts.{Entry, HeadLine, Next}
 use Rattle.certificates.specs.Texts.Entry.{Tells, Part, Step, End}
-use Rattle.certificates.specs.Texts.HeadLine as head
+use Rattle.certificates.specs.Texts.HeadLine.{Version, Heard, Start, Phase, Seconds, From, To, Ceiling, First, Second}
 use Rattle.certificates.specs.Texts.Next.{AtHead, AtParts, AtStep, AtEnd}
 use Rattle.certificate_texts.specs.declared.place.HeadPart.{HeadPart}
 use Rattle.certificate_texts.specs.declared.place.HeadPart.TheVariants as part
@@ -12,16 +12,16 @@ use Rattle.certificate_texts.specs.declared.place.Told.{Told}
 use Rattle.certificate_texts.specs.declared.place.Told.TheVariants as told
 
 abbrev pub head_line_of : HeadPart → HeadLine
-head_line_of part.Version = head.Version
-head_line_of part.Heard = head.Heard
-head_line_of part.Start = head.Start
-head_line_of part.Phase = head.Phase
-head_line_of part.Seconds = head.Seconds
-head_line_of part.From = head.From
-head_line_of part.To = head.To
-head_line_of part.Ceiling = head.Ceiling
-head_line_of part.First = head.First
-head_line_of part.Second = head.Second
+head_line_of part.Version = Version
+head_line_of part.Heard = Heard
+head_line_of part.Start = Start
+head_line_of part.Phase = Phase
+head_line_of part.Seconds = Seconds
+head_line_of part.From = From
+head_line_of part.To = To
+head_line_of part.Ceiling = Ceiling
+head_line_of part.First = First
+head_line_of part.Second = Second
 
 abbrev pub next_of : Place → Next
 next_of (place.Head due before) = AtHead (head_line_of due) before

@@ -11,6 +11,7 @@ const MOST_DIGITS: usize = 20;
 
 /// The number of 64 bits whose decimal text this is.
 pub fn number_of(digits: &[u8]) -> Option<u64>
+    ensures small { IfSome result (λ n. n < 2 ^ 64) }
     ensures some { IfSome result (λ n. decimal n ≡ digits.now) }
     ensures none { IfNone result ((n : ℕ) → n < 2 ^ 64 → decimal n ≢ digits.now) }
 {
@@ -48,14 +49,26 @@ pub fn number_in(digits: &[u8], least: u64, most: u64) -> Option<u64>
     Some(number)
 }
 
+/// What stands before a space, and what behind it.
+#[derive(Drop)]
+pub struct Field<'a> {
+    /// Before it.
+    pub front: &'a [u8],
+    /// Behind it.
+    pub rest: &'a [u8],
+}
+
 /// What stands before the first space, and what behind it.
-pub fn field_in(text: &[u8]) -> Option<(&[u8], &[u8])>
-    ensures first { IfSome result (λ found. HasNo space found.0.now) }
-    ensures parts { IfSome result (λ found. text.now ≡ found.0.now ++ space ∷ found.1.now) }
+pub fn field_in(text: &[u8]) -> Option<Field<'_>>
+    ensures first { IfSome result (λ found. HasNo space found.front.now) }
+    ensures parts { IfSome result (λ found. text.now ≡ found.front.now ++ space ∷ found.rest.now) }
     ensures none { IfNone result (HasNo space text.now) }
 {
     let end = first_space(text)?;
-    Some((&text[..end], &text[end + 1..]))
+    Some(Field {
+        front: &text[..end],
+        rest: &text[end + 1..],
+    })
 }
 
 fn first_space(text: &[u8]) -> Option<usize>

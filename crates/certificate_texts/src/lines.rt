@@ -53,9 +53,18 @@ pub fn step_line(step: &Line) -> StepLine
     text.push_str(" ");
     push_number(&mut text, step.block.hi as u64);
     text.push_str(" ");
-    push_named(&mut text, step.bound.map(|bound| bound as u64));
+    push_named(&mut text, wide(step.bound));
     text.push_str("\n");
     text
+}
+
+fn wide(bound: Option<u32>) -> Option<u64>
+    ensures { result ≡ bound }
+{
+    match bound {
+        None => None,
+        Some(bound) => Some(bound as u64),
+    }
 }
 
 fn kind_word(kind: Kind) -> &'static str
@@ -107,7 +116,11 @@ pub fn head_text(head: &Head) -> HeadText
 {
     let window = &head.window;
     let mut text = HeadText::new();
-    push_told(&mut text, "tsbank certificate ", Some(version_of(window.stations) as u64));
+    push_told(
+        &mut text,
+        "tsbank certificate ",
+        Some(version_of(window.stations) as u64),
+    );
     push_stations(&mut text, window.stations);
     push_told(&mut text, "start ", Some(window.start));
     push_told(&mut text, "phase ", Some(window.phase as u64));
@@ -139,24 +152,41 @@ fn push_stations(text: &mut HeadText, stations: Stations)
     ensures bytes { text.new.bytes ≡ text.old.bytes ++ line (stations_text stations) }
     ensures len { array_string_len text.new ≤ array_string_len text.old + 40 }
 {
+    push_names(text, stations);
+    text.push_str("\n");
+}
+
+/// Adds the line of the stations but for its end.
+pub fn push_names<const ROOM: usize>(text: &mut ArrayString<ROOM>, stations: Stations)
+    requires { array_string_len text.old + 32 ≤ ROOM }
+    ensures bytes { text.new.bytes ≡ text.old.bytes ++ stations_text stations }
+    ensures len { array_string_len text.new ≤ array_string_len text.old + 32 }
+{
     text.push_str(stations_word(stations));
     push_station(text, stations, Station::Dcf77);
     push_station(text, stations, Station::Msf);
     push_station(text, stations, Station::Wwvb);
     push_station(text, stations, Station::Jjy);
-    text.push_str("\n");
 }
 
 fn stations_word(stations: Stations) -> &'static str
     ensures word { result.now ≡ (if nat_lt 1 (length (stations_of stations)) then codes "stations" else codes "station") }
     ensures short { length result.now ≤ 8 }
 {
-    if are_several(stations) { "stations" } else { "station" }
+    if are_several(stations) {
+        "stations"
+    } else {
+        "station"
+    }
 }
 
 // Adds a space and the name of a station that is one of these.
-fn push_station(text: &mut HeadText, stations: Stations, station: Station)
-    requires { array_string_len text.old + 6 ≤ HEAD_ROOM }
+fn push_station<const ROOM: usize>(
+    text: &mut ArrayString<ROOM>,
+    stations: Stations,
+    station: Station,
+)
+    requires { array_string_len text.old + 6 ≤ ROOM }
     ensures bytes { text.new.bytes ≡ text.old.bytes ++ (if has_station stations station then space ∷ station_name station else []) }
     ensures len { array_string_len text.new ≤ array_string_len text.old + 6 }
 {
@@ -178,7 +208,8 @@ fn spaced_name(station: Station) -> &'static str
     }
 }
 
-fn version_of(stations: Stations) -> u8
+/// The version of a certificate of these stations.
+pub fn version_of(stations: Stations) -> u8
     ensures { result ≡ version_of stations }
 {
     if are_several(stations) {

@@ -2,7 +2,7 @@
 
 ghost use Rattle.std.specs.Prelude.{ℕ, ◌≡◌, ◌+◌, ◌≤◌, ◌++◌, [], List, OnOk, OnErr, length};
 ghost use Rattle.arrayvec.specs.ArrayString.{array_string_len};
-ghost use Rattle.bank_files.specs.Seen.{Seen};
+ghost use Rattle.bank_files.specs.Seen.{Seen, Writes};
 ghost use Rattle.certificate_texts.specs.declared.pieces.TheConstants.{HELD_ROOM};
 ghost use Rattle.certificate_texts.specs.Sending.{IsSent, WritesFront, WritesWhole};
 
@@ -45,7 +45,7 @@ fn make_room<F: Files>(
     if more <= held.remaining_capacity() {
         return Ok(());
     }
-    write_all(files, name, held.as_str().as_bytes())?;
+    send(files, name, held)?;
     held.clear();
     Ok(())
 }
@@ -57,6 +57,12 @@ pub fn flush<F: Files>(files: &mut F, name: &str, held: &Held) -> Result<(), Fai
     ensures failed { (origin : Seen) (text : List ℕ) → IsSent name.now origin (F.view files.old) held.now.bytes text
         → OnErr result (WritesFront name.now origin (F.view files.new) text) }
 {
-    write_all(files, name, held.as_str().as_bytes())?;
+    send(files, name, held)?;
     Ok(())
+}
+
+fn send<F: Files>(files: &mut F, name: &str, held: &Held) -> Result<(), Failed>
+    ensures { Writes name.now (F.view files.old) (F.view files.new) held.now.bytes result }
+{
+    write_all(files, name, held.as_str().as_bytes())
 }

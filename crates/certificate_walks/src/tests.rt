@@ -121,7 +121,10 @@ fn writes_the_last_minutes(rt: HostRuntime) -> Result<(), Fail> {
         let steps = write_certificate(&mut files, "x.cert", &tables, &list, &head(), parts);
         assert_eq!(rt; steps, Ok(131), "{parts} parts");
         let text = text_of(rt.alloc(), parts)?;
-        assert!(rt; files.contents("x.cert") == Some(text.as_bytes()), "{parts} parts");
+        assert!(rt;
+            files.contents("x.cert") == Some(text.as_bytes()),
+            "{parts} parts"
+        );
     }
     Ok(())
 }
@@ -198,7 +201,10 @@ fn writes_in_pieces(rt: HostRuntime) -> Result<(), Fail> {
         let found = files.contents("x.cert").unwrap_or(b"");
         assert!(rt; text.starts_with(found), "call {call}");
         assert!(rt; found.len() as u64 <= (call - 2) * 16_384, "call {call}");
-        assert!(rt; found.len() as u64 + 96 * (call - 2) >= (call - 2) * 16_384, "call {call}");
+        assert!(rt;
+            found.len() as u64 + 96 * (call - 2) >= (call - 2) * 16_384,
+            "call {call}"
+        );
     }
     Ok(())
 }
