@@ -1,7 +1,8 @@
 //! Texts of certificates that are read byte by byte: one that can be read, and where others first go wrong. Which lines may stand
 //! where is worked out by hand from docs/FORMATS.md.
 
-use crate::{BadLine, Reader, Told, step_in, step_line};
+use crate::step::step_in;
+use crate::{BadLine, Reader, Told, step_line};
 use certificates::CertificateLineFault;
 use std::alloc::{AllocError, Global};
 use std::test::Fail;

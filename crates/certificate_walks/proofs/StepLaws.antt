@@ -1,6 +1,9 @@
 -- A walk under way: a line more, or a fault in it.
-use Rattle.std.proofs.Common.{◌≡◌, ℕ, ◌+◌, ◌≤◌, List, [], ◌∷◌, ◌++◌, length, min, Option, refl, sym, ap, ◌∙◌, subst, arith, append_assoc, append-nil, length-append}
+use Rattle.std.proofs.Common.{◌≡◌, ℕ, ◌+◌, ◌<◌, ◌≤◌, drop, get_or, List, [], ◌∷◌, ◌++◌, length, min, Option, refl, sym, ap, ◌∙◌, subst, arith, append_assoc, append-nil, length-append}
+use Rattle.std.proofs.Math.Numerals.{add-one}
+use Rattle.std.proofs.Math.Seq.{drop-cons}
 use Rattle.std.proofs.lemmas.Grind.{flat_map-append}
+use Rattle.std.proofs.lemmas.List.{drop_all}
 use Rattle.definitions.specs.declared.block.Block.{Block}
 use Rattle.definitions.specs.answers.Blocks.{IsBound}
 use Rattle.field_tables.specs.Scored.{costs_of}
@@ -60,3 +63,31 @@ module _ (walk : Walk) (course : Course) (old now : Seen) (held : List ℕ) (b :
     cause = cut.cause;
     only = cut.only;
   }
+
+-- what a line opens comes first, then what waits, and then the rest
+pub due_joined : (l : Line) (left rest more : List Block) → more ≡ opened_by l ++ left → opened_by l ++ (left ++ rest) ≡ more ++ rest
+due_joined l left rest more e = sym (append_assoc (opened_by l) left rest) ∙ ap (λ (bs : List Block). bs ++ rest) (sym e)
+
+module _ (walk : Walk) (course : Course) (seen : Seen) (held : List ℕ) (steps : ℕ) (b : Block) (left rest : List Block) where
+  -- nothing waits behind a block
+  pub none_behind : left ≡ [] → IsUnderWay walk course seen held (b ∷ rest) steps → IsUnderWay walk course seen held (b ∷ left ++ rest) steps
+  none_behind e under = subst (λ (bs : List Block). IsUnderWay walk course seen held (b ∷ bs ++ rest) steps) (sym e) under
+
+  -- nothing waits any more
+  pub none_waits : left ≡ [] → IsUnderWay walk course seen held (left ++ rest) steps → IsUnderWay walk course seen held rest steps
+  none_waits e under = subst (λ (bs : List Block). IsUnderWay walk course seen held (bs ++ rest) steps) e under
+
+  -- the first of those that wait
+  pub first_waits : (all : List Block) → all ≡ b ∷ left → IsUnderWay walk course seen held (all ++ rest) steps → IsUnderWay walk course seen held (b ∷ left ++ rest) steps
+  first_waits all e under = subst (λ (bs : List Block). IsUnderWay walk course seen held (bs ++ rest) steps) e under
+
+-- the next item
+pub next_item : (walk : Walk) (course : Course) (seen : Seen) (held : List ℕ) (steps : ℕ) (items : List Block) (i : ℕ) (d : Block) → i < length items
+    → IsUnderWay walk course seen held (drop i items) steps → IsUnderWay walk course seen held (get_or items i d ∷ drop (i + 1) items) steps
+next_item walk course seen held steps items i d within under =
+    subst (λ (bs : List Block). IsUnderWay walk course seen held bs steps)
+    (drop-cons items i d within ∙ ap (λ (n : ℕ). get_or items i d ∷ drop n items) (sym (add-one i))) under
+
+pub no_item : (walk : Walk) (course : Course) (seen : Seen) (held : List ℕ) (steps : ℕ) (items : List Block) (i : ℕ) → length items ≤ i
+    → IsUnderWay walk course seen held (drop i items) steps → IsUnderWay walk course seen held [] steps
+no_item walk course seen held steps items i all under = subst (λ (bs : List Block). IsUnderWay walk course seen held bs steps) (drop_all i items all) under

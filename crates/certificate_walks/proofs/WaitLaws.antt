@@ -35,22 +35,6 @@ all_can w m h d Minute = tt
 pub none_left : (w : Waiting) → w.minutes ≡ [] → w.hours ≡ [] → w.days ≡ [] → left_of w ≡ []
 none_left w m h d = rw (m, h, d) refl
 
--- a block of each span is opened
-abbrev with_children : Span → Waiting → List Block → Waiting
-with_children Year w cs = record { tables = w.tables; minutes = w.minutes; hours = w.hours; days = cs }
-with_children Day w cs = record { tables = w.tables; minutes = w.minutes; hours = cs; days = w.days }
-with_children Hour w cs = record { tables = w.tables; minutes = cs; hours = w.hours; days = w.days }
-with_children Minute w cs = w
-
-pub year_opened : (w : Waiting) (cs : List Block) → CanOpen Year w → w.minutes ++ (w.hours ++ cs) ≡ cs ++ left_of w
-year_opened w cs can = rw (can.0, can.1, can.2) (sym (append-nil cs))
-
-pub day_opened : (w : Waiting) (cs : List Block) → CanOpen Day w → w.minutes ++ (cs ++ w.days) ≡ cs ++ left_of w
-day_opened w cs can = rw (can.0, can.1) refl
-
-pub hour_opened : (w : Waiting) (cs : List Block) → CanOpen Hour w → cs ++ (w.hours ++ w.days) ≡ cs ++ left_of w
-hour_opened w cs can = rw can refl
-
 pub few_days : (b : Block) → b.span ≡ Year → length (children b) ≤ 366
 few_days b e = rw e (few_blocks b.announced b.second Day 366 b.lo b.hi)
 
@@ -59,3 +43,33 @@ few_hours b e = rw e (few_blocks b.announced b.second Hour 24 b.lo b.hi)
 
 pub few_minutes : (b : Block) → b.span ≡ Hour → length (children b) ≤ 60
 few_minutes b e = rw e (few_blocks b.announced b.second Minute 60 b.lo b.hi)
+
+-- a year is opened, a day, and an hour
+pub year_left : (w : Waiting) (ms hs cs kids : List Block) → ms ≡ w.minutes → hs ≡ w.hours → cs ≡ kids → CanOpen Year w → ms ++ (hs ++ cs) ≡ kids ++ left_of w
+year_left w ms hs cs kids m h c can = rw (m, h, c, can.0, can.1, can.2) (sym (append-nil kids))
+
+pub day_left : (w : Waiting) (ms cs ds kids : List Block) → ms ≡ w.minutes → cs ≡ kids → ds ≡ w.days → CanOpen Day w → ms ++ (cs ++ ds) ≡ kids ++ left_of w
+day_left w ms cs ds kids m c d can = rw (m, c, d, can.0, can.1) refl
+
+pub hour_left : (w : Waiting) (cs hs ds kids : List Block) → cs ≡ kids → hs ≡ w.hours → ds ≡ w.days → CanOpen Hour w → cs ++ (hs ++ ds) ≡ kids ++ left_of w
+hour_left w cs hs ds kids c h d can = rw (c, h, d, can) refl
+
+-- and fewer lines come than before
+none_long : (bs : List Block) → bs ≡ [] → length bs ≡ 0
+none_long bs e = rw e refl
+
+pub year_lines : (w : Waiting) (cs : List Block) → length cs ≤ 366 → CanOpen Year w → length w.minutes + (61 * length w.hours + 1_465 * length cs) < 536_191 + left_most w
+year_lines w cs few can = omega (arith, few, none_long w.minutes can.0, none_long w.hours can.1)
+
+pub day_lines : (w : Waiting) (cs : List Block) → length cs ≤ 24 → CanOpen Day w → length w.minutes + (61 * length cs + 1_465 * length w.days) < 1_465 + left_most w
+day_lines w cs few can = omega (arith, few, none_long w.minutes can.0, none_long w.hours can.1)
+
+pub hour_lines : (w : Waiting) (cs : List Block) → length cs ≤ 60 → CanOpen Hour w → length cs + (61 * length w.hours + 1_465 * length w.days) < 61 + left_most w
+hour_lines w cs few can = omega (arith, few, none_long w.minutes can)
+
+-- a block has a line at least
+pub some_lines : (s : Span) → 0 < most_lines s
+some_lines Year = omega arith
+some_lines Day = omega arith
+some_lines Hour = omega arith
+some_lines Minute = omega arith

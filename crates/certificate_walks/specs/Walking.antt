@@ -25,6 +25,9 @@ pub record Walk : Type 0 where
   pub tables : Scored
   pub limit : ℕ
 
+abbrev pub walk_at : List ℕ → Scored → ℕ → Walk
+walk_at name tables limit = record { name = name; tables = tables; limit = limit }
+
 -- what was seen before the first byte, which blocks are walked, and which text stands before their lines
 pub record Course : Type 0 where
   pub old : Seen

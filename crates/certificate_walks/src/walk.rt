@@ -9,9 +9,9 @@ ghost use Rattle.definitions.specs.sequences.Walks.{IsSequence};
 ghost use Rattle.definitions.specs.answers.Blocks.{IsBlock, IsBound, first_of};
 ghost use Rattle.field_tables.specs.Scored.{costs_of};
 ghost use Rattle.certificates.specs.Certificates.{IsShaped};
-ghost use Rattle.certificates.specs.Validity.{IsAbove, KeepsTo, limit_named, opened_by};
+ghost use Rattle.certificates.specs.Validity.{IsAbove, KeepsTo, key_or_none, limit_named, opened_by};
 ghost use Rattle.certificate_walks.specs.Waiting.{CanOpen, left_most, left_of, most_lines};
-ghost use Rattle.certificate_walks.specs.Walking.{Course, HasFailed, IsUnderWay};
+ghost use Rattle.certificate_walks.specs.Walking.{Course, HasFailed, IsUnderWay, walk_at};
 
 use crate::pending::Pending;
 use bank_files::{Failed, Files};
@@ -21,7 +21,6 @@ use certificates::{Kind, Line};
 use definitions::{Block, Span, bound_is_one};
 use field_tables::Tables;
 use sequence::ceiling_key;
-use std::marker::Model;
 
 /// What is the same for all lines of a certificate.
 #[derive(Drop)]
@@ -29,14 +28,6 @@ pub struct Walker<'a> {
     pub name: &'a str,
     pub tables: &'a Tables<'a>,
     pub limit: u64,
-}
-
-impl<'a> Model for Walker<'a> {
-    ghost use Rattle.certificate_walks.specs.Walking.{Walk};
-
-    ghost Value = { Walk };
-
-    ghost view = { λ w. record { name = w.name.now; tables = w.tables.now; limit = w.limit } };
 }
 
 impl Walker<'_> {
@@ -48,11 +39,11 @@ impl Walker<'_> {
         steps: &mut u64,
         items: &[Block],
     ) -> Result<(), Failed>
-        requires { AllByRecursion (IsBlock self.now.tables.window) items.now }
-        ensures written { (course : Course) → IsUnderWay self.now course (F.view files.old) held.old.bytes items.now steps.old
-            → OnOk result (IsUnderWay self.now course (F.view files.new) held.new.bytes [] steps.new) }
-        ensures failed { (course : Course) → IsUnderWay self.now course (F.view files.old) held.old.bytes items.now steps.old
-            → OnErr result (HasFailed self.now course (F.view files.new)) }
+        requires { AllByRecursion (IsBlock self.now.tables.now.window) items.now }
+        ensures written { (course : Course) → IsUnderWay (walk_at self.now.name.now self.now.tables.now self.now.limit) course (F.view files.old) held.old.bytes items.now steps.old
+            → OnOk result (IsUnderWay (walk_at self.now.name.now self.now.tables.now self.now.limit) course (F.view files.new) held.new.bytes [] steps.new) }
+        ensures failed { (course : Course) → IsUnderWay (walk_at self.now.name.now self.now.tables.now self.now.limit) course (F.view files.old) held.old.bytes items.now steps.old
+            → OnErr result (HasFailed (walk_at self.now.name.now self.now.tables.now self.now.limit) course (F.view files.new)) }
     {
         let mut i = 0;
         while i < items.len() {
@@ -70,13 +61,13 @@ impl Walker<'_> {
         steps: &mut u64,
         item: &Block,
     ) -> Result<(), Failed>
-        requires { IsBlock self.now.tables.window item.now }
+        requires { IsBlock self.now.tables.now.window item.now }
         ensures written { (course : Course) (rest : List Block)
-            → IsUnderWay self.now course (F.view files.old) held.old.bytes (item.now ∷ rest) steps.old
-            → OnOk result (IsUnderWay self.now course (F.view files.new) held.new.bytes rest steps.new) }
+            → IsUnderWay (walk_at self.now.name.now self.now.tables.now self.now.limit) course (F.view files.old) held.old.bytes (item.now ∷ rest) steps.old
+            → OnOk result (IsUnderWay (walk_at self.now.name.now self.now.tables.now self.now.limit) course (F.view files.new) held.new.bytes rest steps.new) }
         ensures failed { (course : Course) (rest : List Block)
-            → IsUnderWay self.now course (F.view files.old) held.old.bytes (item.now ∷ rest) steps.old
-            → OnErr result (HasFailed self.now course (F.view files.new)) }
+            → IsUnderWay (walk_at self.now.name.now self.now.tables.now self.now.limit) course (F.view files.old) held.old.bytes (item.now ∷ rest) steps.old
+            → OnErr result (HasFailed (walk_at self.now.name.now self.now.tables.now self.now.limit) course (F.view files.new)) }
     {
         let mut pending = Pending::new(self.tables);
         let found = Bounded {
@@ -99,19 +90,19 @@ impl Walker<'_> {
         pending: &mut Pending<'_>,
         found: &Bounded,
     ) -> Result<(), Failed>
-        requires tables { pending.old.tables ≡ self.now.tables }
-        requires block { IsBlock self.now.tables.window found.now.block }
-        requires bound { IsBound (costs_of self.now.tables) self.now.tables.window found.now.block found.now.bound }
+        requires tables { pending.old.tables ≡ self.now.tables.now }
+        requires block { IsBlock self.now.tables.now.window found.now.block }
+        requires bound { IsBound (costs_of self.now.tables.now) self.now.tables.now.window found.now.block found.now.bound }
         requires small { ForSome found.now.bound (λ n. n ≤ GREATEST_COST) }
         requires can_open { CanOpen found.now.block.span pending.old }
         ensures tables { pending.new.tables ≡ pending.old.tables }
         ensures lines { OnOk result (left_most pending.new < most_lines found.now.block.span + left_most pending.old) }
         ensures written { (course : Course) (rest : List Block)
-            → IsUnderWay self.now course (F.view files.old) held.old.bytes (found.now.block ∷ left_of pending.old ++ rest) steps.old
-            → OnOk result (IsUnderWay self.now course (F.view files.new) held.new.bytes (left_of pending.new ++ rest) steps.new) }
+            → IsUnderWay (walk_at self.now.name.now self.now.tables.now self.now.limit) course (F.view files.old) held.old.bytes (found.now.block ∷ left_of pending.old ++ rest) steps.old
+            → OnOk result (IsUnderWay (walk_at self.now.name.now self.now.tables.now self.now.limit) course (F.view files.new) held.new.bytes (left_of pending.new ++ rest) steps.new) }
         ensures failed { (course : Course) (rest : List Block)
-            → IsUnderWay self.now course (F.view files.old) held.old.bytes (found.now.block ∷ left_of pending.old ++ rest) steps.old
-            → OnErr result (HasFailed self.now course (F.view files.new)) }
+            → IsUnderWay (walk_at self.now.name.now self.now.tables.now self.now.limit) course (F.view files.old) held.old.bytes (found.now.block ∷ left_of pending.old ++ rest) steps.old
+            → OnErr result (HasFailed (walk_at self.now.name.now self.now.tables.now self.now.limit) course (F.view files.new)) }
     {
         bound_is_one();
         let _ = self.tables.window();
@@ -166,6 +157,16 @@ pub fn limit_named(ceiling: u32, second: Option<u64>) -> u64
     requires { ceiling ≤ GREATEST_COST }
     ensures { result ≡ limit_named ceiling second }
 {
-    let key = second.unwrap_or(u64::MAX);
+    let key = key_or_none(second);
     key.min(ceiling_key(ceiling))
+}
+
+// A key, and the greatest u64 where there is none.
+fn key_or_none(key: Option<u64>) -> u64
+    ensures { result ≡ key_or_none key }
+{
+    match key {
+        None => u64::MAX,
+        Some(key) => key,
+    }
 }

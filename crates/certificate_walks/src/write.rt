@@ -18,7 +18,7 @@ use definitions::{Block, bound_is_one, items_share_the_sequences};
 use field_tables::Tables;
 
 /// Makes a file anew and writes a certificate to it, and tells how many steps it has. The head names the window of the tables,
-/// a ceiling of at most 1,920,000,000, and the keys that were found; the items are all that the window has, in their own order.
+/// a ceiling of at most 1,920,000,000, and the keys that were found; the list has all items of the window, in their own order.
 /// The certificate has so many parts, 1 to 8, and all its lines stand in the first: the walks of the items, in which no block
 /// above the limit of the second key and the ceiling is opened. It takes no memory. After `Failed` the file is as before, or
 /// has a front of the certificate.
@@ -26,14 +26,14 @@ pub fn write_certificate<F: Files>(
     files: &mut F,
     name: &str,
     tables: &Tables,
-    items: &[Block],
+    list: &[Block],
     head: &Head,
     parts: u8,
 ) -> Result<u64, Failed>
     requires name { name.now ≢ output_name }
     requires window { head.now.window ≡ tables.now.window }
     requires ceiling { head.now.ceiling ≤ GREATEST_COST }
-    requires items { items.now ≡ items head.now.window }
+    requires items { list.now ≡ items head.now.window }
     requires some_part { 1 ≤ parts }
     requires few_parts { parts ≤ MOST_PARTS }
     ensures written { IfOk result (λ steps. IsWritten (costs_of tables.now) head.now parts ((F.view files.new).told name.now) steps) }
@@ -43,7 +43,7 @@ pub fn write_certificate<F: Files>(
     ensures only { OnlyWrites name.now (F.view files.old) (F.view files.new) }
 {
     files.create(name)?;
-    let steps = append_certificate(files, name, tables, items, head, parts)?;
+    let steps = append_certificate(files, name, tables, list, head, parts)?;
     Ok(steps)
 }
 
@@ -52,14 +52,14 @@ fn append_certificate<F: Files>(
     files: &mut F,
     name: &str,
     tables: &Tables,
-    items: &[Block],
+    list: &[Block],
     head: &Head,
     parts: u8,
 ) -> Result<u64, Failed>
     requires there { (F.view files.old).told name.now ≢ Missing }
     requires window { head.now.window ≡ tables.now.window }
     requires ceiling { head.now.ceiling ≤ GREATEST_COST }
-    requires items { items.now ≡ items head.now.window }
+    requires items { list.now ≡ items head.now.window }
     requires some_part { 1 ≤ parts }
     requires few_parts { parts ≤ MOST_PARTS }
     ensures written { IfOk result (λ steps. IsAppended (costs_of tables.now) head.now parts name.now (F.view files.old) (F.view files.new) steps) }
@@ -76,7 +76,7 @@ fn append_certificate<F: Files>(
     let mut held = Held::new();
     let mut steps = 0;
     put(files, name, &mut held, head_text(head).as_str())?;
-    walker.write_items(files, &mut held, &mut steps, items)?;
+    walker.write_items(files, &mut held, &mut steps, list)?;
     put(files, name, &mut held, tail_text(parts).as_str())?;
     flush(files, name, &held)?;
     Ok(steps)
