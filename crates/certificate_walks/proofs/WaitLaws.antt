@@ -13,11 +13,12 @@ use Rattle.certificate_walks.specs.Waiting.{CanOpen, Waiting, left_most, left_of
 few_blocks : (announced : Bool) (second : ℕ) (s : Span) (n lo hi : ℕ) → length (blocks announced second s n lo hi) ≤ n
 unfolding blocks
 few_blocks announced second s zero lo hi = omega arith
-few_blocks announced second s (suc n) lo hi = by_test (nat_lt lo hi)
+few_blocks announced second s (suc n) lo hi = by_test (few_blocks announced second s n (span_end s lo) hi) (nat_lt lo hi)
   where
-    by_test : (t : Bool) → length (if t then block_from announced second s lo hi ∷ blocks announced second s n (span_end s lo) hi else []) ≤ suc n
-    by_test true = omega (arith, few_blocks announced second s n (span_end s lo) hi)
-    by_test false = omega arith
+    by_test : length (blocks announced second s n (span_end s lo) hi) ≤ n → (t : Bool)
+        → length (if t then block_from announced second s lo hi ∷ blocks announced second s n (span_end s lo) hi else []) ≤ suc n
+    by_test few true = omega (arith, few)
+    by_test few false = omega arith
 
 -- blocks that have both
 pub both : (window : Window) (s t : Span) (bs : List Block) → t ≡ s → AllByRecursion (IsBlock window) bs → AllByRecursion (λ b. b.span ≡ t) bs → AreOf window s bs

@@ -4,6 +4,8 @@ use Rattle.bank_files.proofs.Chaining.{HasFault-from, OnlyWrites-then, SameCount
 use Rattle.certificates.specs.Texts.{certificate_text}
 use Rattle.certificate_texts.specs.Layout.{in_first_part}
 use Rattle.certificate_texts.proofs.SentLaws.{holds_text, is_there}
+use Rattle.field_tables.specs.Scored.{costs_of}
+use Rattle.certificate_walks.specs.Written.{IsCutOff}
 use Rattle.certificate_walks.proofs.CutLaws.{holds_front}
 use Rattle.certificate_walks.proofs.write.write_certificate.Goals as goal
 
@@ -18,12 +20,15 @@ returns-in_err-create-clause-failed g c =
     search rules
 
 pub returns-in_err-steps-clause-failed : goal.returns-in_err-steps-clause-failed
-returns-in_err-steps-clause-failed g c = λ lines are.
+returns-in_err-steps-clause-failed g c =
     let name = c.args.name.now in
-    inr (
-    holds_front ((g.F.Files.view c.args.files.now).told name) ((g.F.Files.view c.create.new.self).told name) ((g.F.Files.view c.append_certificate.new.files).told name)
-    (certificate_text (in_first_part c.args.head.now c.args.parts lines)) c.in_ok-create.ensures.emptied (c.in_err-steps.ensures.failed.front lines are)
-    )
+    let before = (g.F.Files.view c.args.files.now).told name in
+    let now = (g.F.Files.view c.append_certificate.new.files).told name in
+    let cut : IsCutOff (costs_of c.args.tables.now) c.args.head.now c.args.parts before now = λ lines are.
+    inr
+    (holds_front before ((g.F.Files.view c.create.new.self).told name) now (certificate_text (in_first_part c.args.head.now c.args.parts lines))
+    c.in_ok-create.ensures.emptied (c.in_err-steps.ensures.failed.front lines are)) in
+    search rules
 
 pub returns-in_err-steps-clause-cause : goal.returns-in_err-steps-clause-cause
 returns-in_err-steps-clause-cause g c =
