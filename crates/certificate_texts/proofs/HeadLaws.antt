@@ -1,5 +1,5 @@
 -- What a line of the head tells, and which line may stand where.
-use Rattle.std.proofs.Common.{◌≡◌, ◌≢◌, ℕ, ◌+◌, ◌<◌, ◌≤◌, ◌^◌, true, false, nat_eq, length, take, drop, List, [], ◌∷◌, ◌++◌, codes, ◌⊎◌, inl, inr, Option, Some, None, refl, sym, ap, ◌∙◌, subst, arith}
+use Rattle.std.proofs.Common.{◌≡◌, ◌≢◌, ℕ, ◌+◌, ◌<◌, ◌≤◌, ◌^◌, true, false, nat_eq, length, take, drop, List, ◌++◌, codes, ◌⊎◌, inl, inr, Option, Some, None, refl, sym, ap, ◌∙◌, subst, arith}
 use Rattle.std.specs.Fmt.{decimal}
 use Rattle.std.proofs.lemmas.Bool.{cases_eq}
 use Rattle.std.specs.Cmp.Lexicographic.{other_text, pointwise, same_text}
@@ -8,8 +8,8 @@ use Rattle.std.proofs.lemmas.List.{append_cancel_left, take-append-drop}
 use Rattle.formats.specs.Refusals.{named_key}
 use Rattle.certificates.specs.declared.certificate.Line.{Line}
 use Rattle.certificates.specs.declared.limits.TheConstants.{MOST_PARTS}
-use Rattle.certificates.specs.Certificates.{CanBeNamed, IsLine}
-use Rattle.certificates.specs.Texts.{CanStand, CanTell, Entry, HeadLine, IsWithin, Next, entry_text, head_text, step_text}
+use Rattle.certificates.specs.Certificates.{CanBeNamed}
+use Rattle.certificates.specs.Texts.{HeadLine, IsWithin, head_text}
 use Rattle.certificates.specs.Texts.Entry.{Tells, Part, Step, End}
 use Rattle.certificates.specs.Texts.HeadLine.{Heard}
 use Rattle.certificates.specs.Texts.Next.{AtHead, AtParts, AtStep, AtEnd}

@@ -1,7 +1,6 @@
 -- Lines that are read one after the other, and bytes of which no line can be made.
-use Rattle.std.proofs.Common.{◌≡◌, ◌≢◌, ℕ, ◌+◌, ◌*◌, ◌<◌, ◌≤◌, ◌^◌, Bool, true, false, nat_lt, if◌then◌else◌, List, [], ◌∷◌, ◌++◌, length, codes, Option, Some, None, refl, sym, ap, ◌∙◌, subst, arith, append_assoc, append-nil, length-append}
+use Rattle.std.proofs.Common.{◌≡◌, ℕ, ◌+◌, ◌<◌, ◌≤◌, ◌^◌, Bool, true, false, nat_lt, if◌then◌else◌, List, [], ◌∷◌, ◌++◌, length, codes, Option, Some, None, refl, sym, ap, ◌∙◌, subst, arith, append_assoc, append-nil, length-append}
 use Rattle.std.specs.Fmt.{decimal}
-use Rattle.std.specs.List.{AllByRecursion}
 use Rattle.std.proofs.lemmas.Fmt.{length-decimal-le}
 use Rattle.std.proofs.lemmas.Grind.{flat_map-append}
 use Rattle.signal_base.specs.declared.station.Station.{Station}
@@ -15,14 +14,13 @@ use Rattle.certificates.specs.declared.certificate.Kind.{Kind}
 use Rattle.certificates.specs.declared.certificate.Kind.TheVariants.{Opened, Pruned, Empty, Leaf}
 use Rattle.certificates.specs.declared.certificate.Line.{Line}
 use Rattle.certificates.specs.declared.fault.CertificateLineFault.TheVariants.{Shape, TooManySteps}
-use Rattle.certificates.specs.declared.limits.TheConstants.{MOST_PARTS}
 use Rattle.certificates.specs.Certificates.{IsLine}
-use Rattle.certificates.specs.Texts.{BeginsWith, CanStand, CanTell, Entry, HasRoom, HeadLine, IsOver, IsRefused, Lead, Next, after, announced_text, entries_text, entry_line, entry_text, first_line, head_text, kind_text, span_text, stations_by, stations_text, step_text}
+use Rattle.certificates.specs.Texts.{CanStand, CanTell, Entry, HasRoom, HeadLine, IsOver, IsRefused, Lead, Next, after, announced_text, entries_text, entry_line, entry_text, first_line, head_text, kind_text, span_text, stations_by, stations_text, step_text}
 use Rattle.certificates.specs.Texts.Entry.{Tells, Part, Step, End}
 use Rattle.certificates.specs.Texts.HeadLine.{Version, Heard, Start, Phase, Seconds, From, To, Ceiling, First, Second}
 use Rattle.certificates.specs.Texts.Next.{AtHead, AtParts, AtStep, AtEnd}
 use Rattle.certificates.proofs.BadLineLaws.{no_end, no_line}
-use Rattle.certificates.proofs.EntryLaws.{named_small, nothing_stands, within_small}
+use Rattle.certificates.proofs.EntryLaws.{named_small, within_small}
 use Rattle.certificates.proofs.FieldLaws.{IsSmall}
 use Rattle.certificates.proofs.StepLaws.{plain_line}
 use Rattle.certificate_texts.specs.Fields.{HasNo}

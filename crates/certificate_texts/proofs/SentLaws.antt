@@ -1,8 +1,8 @@
 -- A text in pieces: what is held back follows what is written, and a text is written whole, or up to a fault.
-use Rattle.std.proofs.Common.{◌≡◌, ◌≢◌, ℕ, List, [], ◌∷◌, ◌++◌, Result, Ok, Err, refl, sym, ap, ◌∙◌, subst, inl, inr, ⊎_elim, append_assoc}
+use Rattle.std.proofs.Common.{◌≡◌, ◌≢◌, ℕ, List, [], ◌++◌, Ok, Err, refl, sym, ap, ◌∙◌, subst, inl, inr, append_assoc}
 use Rattle.std.proofs.lemmas.List.{append-nil}
-use Rattle.bank_files.specs.Told.{Told, Untold, Missing, Holds, Tells, appended, emptied, AppendsFront}
-use Rattle.bank_files.specs.Seen.{Seen, OnlyWrites, SameCounts, WriteFails, Writes}
+use Rattle.bank_files.specs.Told.{Told, Untold, Missing, Holds, Tells, appended, emptied}
+use Rattle.bank_files.specs.Seen.{Seen, Writes}
 use Rattle.bank_files.proofs.Chaining.{HasFault-from, OnlyWrites-start, OnlyWrites-then, SameCounts-start, SameCounts-then}
 use Rattle.bank_files.proofs.Telling.{AppendsFront-after, AppendsFront-longer, Tells-appended, Tells-untold}
 use Rattle.certificate_texts.specs.Sending.{IsSent, WritesFront, WritesWhole}

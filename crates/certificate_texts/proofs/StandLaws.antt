@@ -1,10 +1,8 @@
 -- What was read of a text, one byte more, and at its end.
-use Rattle.std.proofs.Common.{◌≡◌, ◌≢◌, ℕ, ◌+◌, ◌<◌, ◌≤◌, Bool, true, false, List, [], ◌∷◌, ◌++◌, length, Option, Some, None, refl, sym, ap, ◌∙◌, subst, arith, append_assoc, append-nil, length-append}
+use Rattle.std.proofs.Common.{◌≡◌, ◌≢◌, ℕ, ◌+◌, Bool, true, false, List, [], ◌∷◌, ◌++◌, length, Option, Some, None, refl, sym, ap, ◌∙◌, subst, arith, append_assoc, append-nil, length-append}
 use Rattle.formats.specs.Bytes.{line_feed}
-use Rattle.certificates.specs.declared.fault.CertificateLineFault.{CertificateLineFault}
 use Rattle.certificates.specs.declared.fault.CertificateLineFault.TheVariants.{Shape, TooManySteps}
-use Rattle.certificates.specs.Texts.{CanStand, Entry, HasRoom, IsOver, IsRefused, Lead, Next, after, entries_text, entry_text, first_line}
-use Rattle.certificates.specs.Texts.Next.{AtHead, AtParts, AtStep, AtEnd}
+use Rattle.certificates.specs.Texts.{Entry, HasRoom, IsOver, IsRefused, Lead, Next, after, entries_text, entry_text, first_line}
 use Rattle.certificate_texts.specs.declared.place.Place.{Place}
 use Rattle.certificate_texts.specs.declared.place.Place.TheVariants as place
 use Rattle.certificate_texts.specs.declared.reader.BadLine.{BadLine}

@@ -1,5 +1,4 @@
 -- What comes next in a text and what its lines tell, as the code has them.
-use Rattle.std.specs.Prelude.{ℕ, Option}
 use Rattle.certificates.specs.Texts.{Entry, HeadLine, Next}
 use Rattle.certificates.specs.Texts.Entry.{Tells, Part, Step, End}
 use Rattle.certificates.specs.Texts.HeadLine.{Version, Heard, Start, Phase, Seconds, From, To, Ceiling, First, Second}

@@ -1,9 +1,8 @@
 -- A text that is read byte by byte: its whole lines, and the bytes of the line at hand.
-use Rattle.std.specs.Prelude.{ℕ, ◌≡◌, ◌<◌, Bool, true, false, List, [], ◌++◌, length, Option, Some, None}
+use Rattle.std.specs.Prelude.{ℕ, ◌≡◌, ◌<◌, Bool, true, false, List, ◌++◌, length, Option, Some, None}
 use Rattle.formats.specs.Bytes.{line_feed}
 use Rattle.certificates.specs.Texts.{Entry, IsRefused, Lead, entries_text, first_line}
 use Rattle.certificates.specs.Texts.Next.{AtEnd}
-use Rattle.certificate_texts.specs.declared.place.Place.{Place}
 use Rattle.certificate_texts.specs.declared.reader.BadLine.{BadLine}
 use Rattle.certificate_texts.specs.declared.reader.Reader.{Reader}
 use Rattle.certificate_texts.specs.declared.reader.TheConstants.{LINE_ROOM}

@@ -1,7 +1,6 @@
 -- The digits so far are those of a number, and what is refused is none.
-use Rattle.std.proofs.Common.{◌≡◌, ◌<◌, ◌≤◌, ◌^◌, length, get_or, arith, refl, subst, sym}
+use Rattle.std.proofs.Common.{◌≡◌, ◌<◌, ◌≤◌, length, get_or, arith}
 use Rattle.std.proofs.lemmas.Bool.Decides.{nat_tests}
-use Rattle.std.specs.Str.Parse.{digits_value}
 use Rattle.certificate_texts.proofs.FieldLaws.{digits_all, digits_on, not_digit, number_text}
 use Rattle.certificate_texts.proofs.fields.number_of.Goals as goal
 

@@ -1,5 +1,4 @@
 -- One for each station that is there.
-use Rattle.std.proofs.Common.{ap, ◌∙◌, nat_lt, ◌+◌, ℕ}
 use Rattle.definitions.specs.codes.Allowed.{has_station}
 use Rattle.certificate_texts.proofs.LineLaws.{counted_by}
 use Rattle.certificate_texts.proofs.lines.are_several.Goals as goal

@@ -1,5 +1,5 @@
 -- The lines, joined.
-use Rattle.std.proofs.Common.{ap, ◌∙◌, ◌++◌, List, ℕ, Some, codes}
+use Rattle.std.proofs.Common.{ap, ◌∙◌, ◌++◌, ℕ, Some, codes}
 use Rattle.formats.specs.Bytes.{line}
 use Rattle.formats.specs.Refusals.{named_key}
 use Rattle.certificate_texts.proofs.LineLaws.{head_joined}

@@ -1,7 +1,6 @@
 -- The names of the stations that are there, joined.
-use Rattle.std.proofs.Common.{ap, sym, ◌∙◌, ◌++◌, ◌∷◌, [], List, ℕ, nat_lt, if◌then◌else◌, codes, length}
-use Rattle.signal_base.specs.declared.station.Station.{Station}
-use Rattle.definitions.specs.codes.Allowed.{has_station, stations_of}
+use Rattle.std.proofs.Common.{ap, ◌∙◌, ◌++◌, ◌∷◌, List, ℕ}
+use Rattle.definitions.specs.codes.Allowed.{has_station}
 use Rattle.formats.specs.Bytes.{space, station_name}
 use Rattle.certificate_texts.proofs.LineLaws.{four_texts, names_pushed}
 use Rattle.certificate_texts.proofs.lines.push_names.Goals as goal

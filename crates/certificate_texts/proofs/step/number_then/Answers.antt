@@ -1,5 +1,5 @@
 -- The field is read, or the text doesn't begin with one.
-use Rattle.std.proofs.Common.{ap, sym, ◌∙◌, ◌++◌, ◌∷◌, List, ℕ, arith, ◌<◌, ◌^◌}
+use Rattle.std.proofs.Common.{ap, sym, ◌∙◌, ◌++◌, ◌∷◌, List, ℕ, arith}
 use Rattle.std.specs.Fmt.{decimal}
 use Rattle.formats.specs.Bytes.{space}
 use Rattle.certificate_texts.proofs.ReadStepLaws.{number_clear, no_field_there, same_field}

@@ -1,9 +1,6 @@
 -- Each field is that of any step that the text spells.
-use Rattle.std.proofs.Common.{arith, sym, ◌∙◌, ◌<◌, ◌≤◌, ◌^◌, refl, ap}
-use Rattle.formats.specs.Bytes.{space}
-use Rattle.formats.specs.Refusals.{named_key}
-use Rattle.certificates.specs.Texts.{kind_text, span_text, announced_text}
-use Rattle.certificate_texts.proofs.ReadStepLaws.{flags, from_announced, from_hi, from_lo, from_second, from_span, kinds, los, no_bound, no_hi, seconds, spans, spelled}
+use Rattle.std.proofs.Common.{arith, sym}
+use Rattle.certificate_texts.proofs.ReadStepLaws.{flags, from_announced, from_hi, from_lo, from_second, from_span, kinds, no_bound, no_hi, seconds, spans, spelled}
 use Rattle.certificate_texts.proofs.step.step_in.Goals as goal
 
 pub returns-in_err-kind-clause-none : goal.returns-in_err-kind-clause-none

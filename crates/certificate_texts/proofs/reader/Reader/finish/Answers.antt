@@ -1,6 +1,5 @@
 -- At the end of the text.
-use Rattle.std.proofs.Common.{Some, sym}
-use Rattle.certificate_texts.proofs.StandLaws.{bad_at_end, no_end_here, stands_good}
+use Rattle.certificate_texts.proofs.StandLaws.{bad_at_end}
 use Rattle.certificate_texts.proofs.reader.Reader.finish.Goals as goal
 
 pub returns-in-Some-clause-bad : goal.returns-in-Some-clause-bad
