@@ -1,6 +1,6 @@
 -- What a file that was made anew holds after a fault.
-use Rattle.std.proofs.Common.{◌≡◌, ◌≢◌, ℕ, List, [], refl, ⊎_elim}
-use Rattle.bank_files.specs.Told.{Told, Missing, Tells, appended, emptied, AppendsFront}
+use Rattle.std.proofs.Common.{ℕ, List, [], refl, ⊎_elim}
+use Rattle.bank_files.specs.Told.{Told, Tells, appended, emptied, AppendsFront}
 use Rattle.bank_files.proofs.Telling.{Tells-then}
 use Rattle.certificate_walks.specs.Written.{HoldsFront}
 use Rattle.certificate_texts.proofs.SentLaws.{holds_text, is_there, nothing_more}

@@ -1,5 +1,5 @@
 -- Walks so far: a line more, and what any walks of the same blocks begin with.
-use Rattle.std.proofs.Common.{◌≡◌, ℕ, List, [], ◌∷◌, ◌++◌, Option, refl, sym, ap, ◌∙◌, subst}
+use Rattle.std.proofs.Common.{◌≡◌, ℕ, List, [], ◌∷◌, ◌++◌, Option, refl, sym, ◌∙◌, subst}
 use Rattle.signal_base.specs.declared.window.Window.{Window}
 use Rattle.definitions.specs.declared.block.Block.{Block}
 use Rattle.definitions.specs.heard.Costs.{Costs}

@@ -1,11 +1,11 @@
 -- Blocks that wait: which can be opened, and how many lines come of them.
-use Rattle.std.proofs.Common.{◌≡◌, ℕ, zero, suc, ◌+◌, ◌*◌, ◌<◌, ◌≤◌, Bool, true, false, nat_lt, if◌then◌else◌, List, [], ◌∷◌, ◌++◌, length, refl, sym, ap, ◌∙◌, subst, arith, append_assoc, append-nil}
+use Rattle.std.proofs.Common.{◌≡◌, ℕ, zero, suc, ◌+◌, ◌*◌, ◌<◌, ◌≤◌, Bool, true, false, nat_lt, if◌then◌else◌, List, [], ◌∷◌, ◌++◌, length, refl, sym, ◌∙◌, arith, append-nil}
 use Rattle.std.specs.List.{AllByRecursion}
 use Rattle.signal_base.specs.declared.window.Window.{Window}
 use Rattle.definitions.specs.declared.block.Block.{Block}
 use Rattle.definitions.specs.declared.block.Span.{Span}
 use Rattle.definitions.specs.declared.block.Span.TheVariants.{Year, Day, Hour, Minute}
-use Rattle.definitions.specs.answers.Blocks.{IsBlock, block_from, blocks, children, children_by, shorter, span_end}
+use Rattle.definitions.specs.answers.Blocks.{IsBlock, block_from, blocks, children, span_end}
 use Rattle.certificate_walks.specs.Spans.{AreOf}
 use Rattle.certificate_walks.specs.Waiting.{CanOpen, Waiting, left_most, left_of, most_lines}
 

@@ -1,12 +1,11 @@
 -- A certificate in parts: its head, its lines, and its end; and how its lines are those of a head.
-use Rattle.std.proofs.Common.{◌≡◌, ℕ, ◌+◌, ◌-◌, ◌≤◌, List, [], ◌∷◌, ◌++◌, length, min, map, Option, refl, sym, ap, ◌∙◌, subst, arith, append_assoc, append-nil, length-append}
+use Rattle.std.proofs.Common.{◌≡◌, ℕ, ◌-◌, List, [], ◌∷◌, ◌++◌, map, Option, refl, sym, ap, ◌∙◌, subst, append_assoc, append-nil}
 use Rattle.std.proofs.lemmas.Grind.{flat_map-append}
 use Rattle.signal_base.specs.declared.window.Window.{Window}
 use Rattle.definitions.specs.declared.block.Block.{Block}
 use Rattle.definitions.specs.heard.Costs.{Costs}
 use Rattle.definitions.specs.answers.Blocks.{IsBound, items}
 use Rattle.field_tables.specs.Scored.{costs_of}
-use Rattle.bank_files.specs.Fault.{greatest}
 use Rattle.bank_files.specs.Seen.{Seen}
 use Rattle.bank_files.specs.Told.{AppendsFront}
 use Rattle.bank_files.proofs.Telling.{AppendsFront-longer}

@@ -1,11 +1,10 @@
 -- The head, the lines and the end, or a fault in one of them.
-use Rattle.std.proofs.Common.{◌≡◌, ◌++◌, ◌∙◌, List, ℕ, [], rules, subst, sym}
+use Rattle.std.proofs.Common.{◌++◌, ◌∙◌, List, ℕ, [], rules, subst, sym}
 use Rattle.field_tables.specs.Scored.{costs_of}
-use Rattle.bank_files.specs.Seen.{Seen}
 use Rattle.certificates.specs.Texts.{steps_text}
-use Rattle.certificate_texts.specs.Sending.{IsSent, WritesFront, WritesWhole}
+use Rattle.certificate_texts.specs.Sending.{IsSent, WritesFront}
 use Rattle.certificate_texts.proofs.SentLaws.{nothing_sent}
-use Rattle.certificate_walks.specs.Walking.{IsUnderWay, walk_at}
+use Rattle.certificate_walks.specs.Walking.{walk_at}
 use Rattle.certificate_walks.proofs.WriteLaws.{all_due, all_there, course, cut_in_head, cut_in_lines, cut_in_tail}
 use Rattle.certificate_walks.proofs.write.append_certificate.Goals as goal
 

@@ -1,5 +1,5 @@
 -- The file is made, and then the certificate is appended.
-use Rattle.std.proofs.Common.{inl, inr, rules}
+use Rattle.std.proofs.Common.{inr, rules}
 use Rattle.bank_files.proofs.Chaining.{HasFault-from, OnlyWrites-then, SameCounts-then}
 use Rattle.certificates.specs.Texts.{certificate_text}
 use Rattle.certificate_texts.specs.Layout.{in_first_part}

@@ -1,5 +1,5 @@
 -- The block itself, and then all that wait.
-use Rattle.std.proofs.Common.{List, rules}
+use Rattle.std.proofs.Common.{rules}
 use Rattle.certificate_walks.specs.Waiting.{left_of}
 use Rattle.certificate_walks.specs.Walking.{walk_at}
 use Rattle.certificate_walks.proofs.StepLaws.{first_waits, none_behind, none_waits}

@@ -1,5 +1,5 @@
 -- One item after the other.
-use Rattle.std.proofs.Common.{drop, get_or, arith, rules, ◌+◌}
+use Rattle.std.proofs.Common.{drop, arith, rules, ◌+◌}
 use Rattle.certificate_walks.specs.Walking.{walk_at}
 use Rattle.certificate_walks.proofs.StepLaws.{next_item, no_item}
 use Rattle.certificate_walks.proofs.walk.Walker.write_items.Goals as goal

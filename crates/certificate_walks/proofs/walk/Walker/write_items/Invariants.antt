@@ -1,5 +1,5 @@
 -- The items from this one on are due.
-use Rattle.std.proofs.Common.{◌≡◌, ◌≤◌, ◌-◌, drop, length}
+use Rattle.std.proofs.Common.{◌≤◌, ◌-◌, drop, length}
 use Rattle.certificate_walks.specs.Walking.{Course, IsUnderWay, walk_at}
 use Rattle.certificate_walks.proofs.walk.Walker.write_items.Given as goal
 

@@ -1,5 +1,5 @@
 -- A line more, or a front of it.
-use Rattle.std.proofs.Common.{◌++◌, ◌∙◌, List, ℕ, refl, rules, subst, sym, ap}
+use Rattle.std.proofs.Common.{◌++◌, ◌∙◌, List, ℕ, refl, rules, subst}
 use Rattle.definitions.specs.declared.block.Block.{Block}
 use Rattle.certificates.specs.declared.certificate.Line.{Line}
 use Rattle.certificates.specs.Texts.{steps_text}
