@@ -177,7 +177,7 @@ module _ (costs : Costs) (window : Window) (limit : ℕ) where
   same_kind (Some n) k j b shape above keeps shape' above' keeps' = one_kind k j b n (shape, (above, keeps)) (shape', (above', keeps'))
 
   module _ (one_bound : (b : Block) (m n : Option ℕ) → IsBound costs window b m → IsBound costs window b n → m ≡ n) where
-    same_line : (l m : Line) → l.block ≡ m.block → IsSaid costs window limit l → Keeps l → IsSaid costs window limit m → Keeps m → l ≡ m
+    pub same_line : (l m : Line) → l.block ≡ m.block → IsSaid costs window limit l → Keeps l → IsSaid costs window limit m → Keeps m → l ≡ m
     same_line l m block said keeps also too = λ i. record { kind = kinds i; block = block i; bound = bounds i }
       where
         bounds : l.bound ≡ m.bound

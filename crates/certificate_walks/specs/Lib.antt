@@ -1,0 +1,5 @@
+pub mod Waiting
+pub mod Spans
+pub mod Walking
+pub mod Written
+pub mod Appending
