@@ -64,7 +64,14 @@ fn refuses_words(rt: HostRuntime) {
         ),
         ([b"tsbank".as_slice(), b"irig"].as_slice(), "words: usage\n"),
         (
-            [b"tsbank".as_slice(), b"follow", b"/dev/null", b"--step", b"0"].as_slice(),
+            [
+                b"tsbank".as_slice(),
+                b"follow",
+                b"/dev/null",
+                b"--step",
+                b"0",
+            ]
+            .as_slice(),
             "words: bad --step\n",
         ),
         (
@@ -158,7 +165,11 @@ fn follows_a_log_in_memory(rt: HostRuntime) -> Result<(), Fail> {
         words.push(word.to_string(rt.alloc())?)?;
     }
     assert_eq!(rt; answer(&rt, rt.alloc(), &words, &mut files, &NoGate), 1);
-    assert!(rt; files.contents("-").is_some_and(|text| text == FOLLOWED.as_bytes()));
+    assert!(rt;
+        files
+            .contents("-")
+            .is_some_and(|text| text == FOLLOWED.as_bytes())
+    );
     Ok(())
 }
 
