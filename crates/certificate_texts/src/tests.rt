@@ -43,14 +43,14 @@ fn text_with(alloc: Global, number: usize, line: &str) -> Result<String, AllocEr
 // The first bad line of some bytes, and how many steps they have before it.
 fn read(bytes: &[u8]) -> (Option<BadLine>, usize) {
     let mut reader = Reader::new();
-    let mut steps = 0;
+    let mut steps: usize = 0;
     for byte in bytes {
         // Never reached: it bounds the lines.
         if reader.lines > 1_000_000_000 {
             return (None, 0);
         }
         if let Some(Told::Step { line: _ }) = reader.take(*byte) {
-            steps += 1;
+            steps = steps.saturating_add(1);
         }
     }
     if reader.lines > 1_000_000_000 {

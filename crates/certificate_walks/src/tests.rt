@@ -190,7 +190,7 @@ fn writes_in_pieces(rt: HostRuntime) -> Result<(), Fail> {
     assert!(rt; text.len() > 65_536);
     assert_eq!(rt;
         steps,
-        Ok(text.iter().filter(|byte| **byte == b'\n').count() as u64 - 12)
+        Ok((text.iter().filter(|byte| **byte == b'\n').count() as u64).saturating_sub(12))
     );
     // The first call makes the file, and each after it writes a piece.
     for call in 2..5 {
