@@ -1,29 +1,14 @@
 //! Worked examples of what `board` owes.
 #![tactic(auto, unfolding(crate::specs::Examples::digits, definitions::specs::time::Calendar::day_at, definitions::specs::sequences::Walks::place_at))]
 
-ghost use Rattle.std.specs.Prelude.{◌≡◌, [], ◌∷◌, ◌++◌, Err, None, codes};
+ghost use Rattle.std.specs.Prelude.{◌≡◌, [], ◌∷◌, ◌++◌, codes};
 ghost use Rattle.definitions.specs.examples.Sequences.{from_place};
 ghost use Rattle.formats.specs.Bytes.{line};
-ghost use Rattle.formats.specs.WordExamples.{asked, asked_usually, words_in};
-ghost use Rattle.formats.specs.declared.option.OptionName.TheVariants.{Readers};
-ghost use Rattle.formats.specs.declared.words.WordFault.TheVariants.{BadNumber, Usage};
-ghost use Rattle.follow_due.specs.Examples.{order_of_k};
 ghost use Rattle.board_entries.specs.Examples.{decided, in_june, two_windows};
 ghost use Rattle.board_due.specs.BoardAnswers.{board_text, entries_of};
-ghost use Rattle.board_due.specs.BoardOrders.{AsksBoard, board_order_in};
 ghost use Rattle.board_due.specs.BoardTexts.{bad_query_line, too_large_line};
 ghost use Rattle.board_due.specs.Examples.{four_queries, three_reports};
 ghost use Rattle.board_due.specs.Queries.{IsRefused, IsTextOf, queries_text};
-
-/// What words ask: two askers, unless they say otherwise. Words of another command, or without the file of the queries, are refused.
-pub fn what_is_asked_of_a_board()
-    ensures usual { AsksBoard (words_in (codes "board k.toml q.txt")) (record { follow = order_of_k asked_usually 60 10; queries = codes "q.txt"; readers = 2 }) }
-    ensures own { AsksBoard (words_in (codes "board k.toml q.txt --seconds 120 --step 7 --count 2 --readers 4"))
-        (record { follow = order_of_k (asked None 120 0 52_596_000) 7 2; queries = codes "q.txt"; readers = 4 }) }
-    ensures other { board_order_in (words_in (codes "follow k.toml")) ≡ Err Usage }
-    ensures file { board_order_in (words_in (codes "board k.toml")) ≡ Err Usage }
-    ensures readers { board_order_in (words_in (codes "board k.toml q.txt --readers 5")) ≡ Err (BadNumber Readers) }
-{}
 
 /// Texts of queries. An empty one has none.
 pub fn queries_in_a_text()

@@ -7,6 +7,5 @@ mod queries;
 
 pub use examples::{
     entries_of_reports, lines_of_two_windows, queries_in_a_text, queries_that_are_refused,
-    what_is_asked_of_a_board,
 };
 pub use queries::{MOST_QUERIES, QUERIES_LIMIT, QUERY_LIMIT};
