@@ -2,7 +2,6 @@
 //! receiver of DCF77 that heard nothing, a walk of 60 seconds can begin in one minute alone.
 
 ghost use Rattle.std.specs.Prelude.{◌≡◌, IfOk, length};
-ghost use Rattle.signal_base.specs.Limits.{IsPriced};
 ghost use Rattle.signal_base.specs.declared.station.Station.TheVariants.{Dcf77};
 
 use crate::write_certificate;
@@ -35,16 +34,6 @@ fn window_from(from: u32) -> Window
     }
 }
 
-fn table() -> CostTable
-    ensures { IsPriced result }
-{
-    let costs = [100; 101];
-    CostTable {
-        low: costs,
-        high: costs,
-    }
-}
-
 // A log without records, of which nothing is known.
 fn silent_grid(alloc: Global) -> Result<CostGrid, Fail>
     ensures station { IfOk result (λ grid. grid.station ≡ Dcf77) }
@@ -56,7 +45,16 @@ fn silent_grid(alloc: Global) -> Result<CostGrid, Fail>
         delay: 0,
         weight: 1,
     };
-    let grid = CostGrid::make(alloc, Station::Dcf77, &[tuning], &table(), &[log], 0, 0, 60)?;
+    let grid = CostGrid::make(
+        alloc,
+        Station::Dcf77,
+        &[tuning],
+        &CostTable::default(),
+        &[log],
+        0,
+        0,
+        60,
+    )?;
     Ok(grid)
 }
 
