@@ -53,3 +53,19 @@ returns-in-OfFollow g c =
       memory = promised.memory;
       only = promised.only;
     })
+
+pub returns-in-OfSweep : goal.returns-in-OfSweep
+returns-in-OfSweep g c =
+    let words = texts_of c.args.words.now in
+    let promised = c.sweep.ensures in
+    subst (λ (family : Family). HasRun (family_plan family words) (g.F.Files.view c.args.files.now) (g.F.Files.view c.sweep.new.files) c.sweep.result)
+    (sym c.in-OfSweep.is ∙ c.family_of.ensures)
+    (record {
+      due = promised.due;
+      exactly = promised.exactly;
+      failed = promised.failed;
+      no_fault = promised.no_fault;
+      front = promised.front;
+      memory = promised.memory;
+      only = promised.only;
+    })
