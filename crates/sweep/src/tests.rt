@@ -170,7 +170,7 @@ fn finds_the_better_phase(rt: HostRuntime) -> Result<(), Fail> {
 }
 
 // The hour of the minutes.
-const HOUR: &str = "sweep k.toml --seconds 120 --from 2024-06-10T06:00Z --to 2024-06-10T06:59Z";
+const SHORT: &str = "sweep k.toml --seconds 120 --from 2024-06-10T06:00Z --to 2024-06-10T06:59Z";
 
 #[test]
 fn tells_of_a_clean_log_what_a_decode_tells(rt: HostRuntime) -> Result<(), Fail> {
@@ -180,7 +180,7 @@ fn tells_of_a_clean_log_what_a_decode_tells(rt: HostRuntime) -> Result<(), Fail>
             &rt,
             JJY,
             &log,
-            HOUR,
+            SHORT,
             0,
             "decided 0\nphase 0\nsequence 2024-06-10T06:16Z 0 no\nnext 1200\nminute 2024-06-10T06:16Z at 0\nminute 2024-06-10T06:17Z at 60000\n",
         )?
@@ -191,8 +191,8 @@ fn tells_of_a_clean_log_what_a_decode_tells(rt: HostRuntime) -> Result<(), Fail>
 #[test]
 fn any_number_of_workers_tells_the_same(rt: HostRuntime) -> Result<(), Fail> {
     let log = heard(rt.alloc(), &JJY_WAVES, &MINUTES, LATE_RISES)?;
-    for workers in [1u8, 2, 4, 8] {
-        let line = format!(in rt.alloc(); "{HOUR} --workers {workers}")?;
+    for workers in [1u8, 3] {
+        let line = format!(in rt.alloc(); "{SHORT} --workers {workers}")?;
         assert!(rt; tells(&rt, JJY, &log, &line, 0, SWEPT)?, "{workers}");
     }
     Ok(())
@@ -202,7 +202,7 @@ fn any_number_of_workers_tells_the_same(rt: HostRuntime) -> Result<(), Fail> {
 #[test]
 fn prints_the_same_byte_by_byte(rt: HostRuntime) -> Result<(), Fail> {
     let log = heard(rt.alloc(), &JJY_WAVES, &MINUTES, LATE_RISES)?;
-    let words = words(rt.alloc(), HOUR)?;
+    let words = words(rt.alloc(), SHORT)?;
     let inner = files_of(rt.alloc(), JJY, &log)?;
     let mut files = OneByte { inner };
     assert_eq!(rt; sweep(&rt, rt.alloc(), &words, &mut files, &NoGate), 0);
@@ -214,7 +214,7 @@ fn prints_the_same_byte_by_byte(rt: HostRuntime) -> Result<(), Fail> {
 #[test]
 fn ends_at_a_failing_file(rt: HostRuntime) -> Result<(), Fail> {
     let log = heard(rt.alloc(), &JJY_WAVES, &MINUTES, LATE_RISES)?;
-    let words = words(rt.alloc(), HOUR)?;
+    let words = words(rt.alloc(), SHORT)?;
     for call in 1..6 {
         let mut files = files_of(rt.alloc(), JJY, &log)?;
         files.fail(call)?;
@@ -226,6 +226,84 @@ fn ends_at_a_failing_file(rt: HostRuntime) -> Result<(), Fail> {
         let front = files.contents("-").unwrap_or(b"");
         assert!(rt; SWEPT.as_bytes().starts_with(front), "call {call}");
         assert!(rt; front.len() < SWEPT.len(), "call {call}");
+    }
+    Ok(())
+}
+
+// The two minutes of MSF from 2024-07-15T23:58Z on, which tell a DUT1 of -2 tenths.
+const MSF_MINUTES: [&str; 2] = [
+    "M00000000110000000020020000222020220020000000202200202332330",
+    "M00000000110000000020020000222020220020000002000000002332230",
+];
+
+// A decode finds the phase 30.
+#[test]
+fn tells_dut1_at_the_better_phase(rt: HostRuntime) -> Result<(), Fail> {
+    let late_falls = Lag {
+        all: 0,
+        level: b'L',
+        more: 30,
+    };
+    let log = heard(rt.alloc(), &MSF_WAVES, &MSF_MINUTES, late_falls)?;
+    assert!(rt;
+        tells(
+            &rt,
+            MSF,
+            &log,
+            "sweep k.toml --seconds 60 --from 2024-07-15T23:50Z --to 2024-07-16T00:09Z",
+            0,
+            "decided 1830\nphase 0\nsequence 2024-07-15T23:58Z 0 no\nnext 1940\ndut1 -2\nminute 2024-07-15T23:58Z at 0\n",
+        )?
+    );
+    Ok(())
+}
+
+// The start of the window, and not the phase, tells when the first second began. No phase is tried from 1000 on.
+#[test]
+fn finds_a_phase_near_the_whole_second(rt: HostRuntime) -> Result<(), Fail> {
+    let late = Lag {
+        all: 980,
+        level: b'H',
+        more: 0,
+    };
+    let log = heard(rt.alloc(), &JJY_WAVES, &MINUTES, late)?;
+    assert!(rt;
+        tells(
+            &rt,
+            JJY,
+            &log,
+            "sweep k.toml --start 0 --seconds 60 --from 2024-06-10T06:10Z --to 2024-06-10T06:19Z",
+            0,
+            "decided 0\nphase 980\nsequence 2024-06-10T06:16Z 0 no\nnext 600\nminute 2024-06-10T06:16Z at 980\n",
+        )?
+    );
+    Ok(())
+}
+
+// The best sequence costs 1770 at its best phase.
+#[test]
+fn admits_by_the_swept_cost(rt: HostRuntime) -> Result<(), Fail> {
+    let log = heard(rt.alloc(), &JJY_WAVES, &MINUTES, LATE_RISES)?;
+    for (ceiling, status, text) in [
+        (1769, 2, "none\nphase 30\n"),
+        (
+            1770,
+            0,
+            "decided 1770\nphase 0\nsequence 2024-06-10T06:16Z 0 no\nnext none\nminute 2024-06-10T06:16Z at 0\n",
+        ),
+    ] {
+        let config = format!(in rt.alloc(); "ceiling = {ceiling}\n{JJY}")?;
+        assert!(rt;
+            tells(
+                &rt,
+                &config,
+                &log,
+                "sweep k.toml --seconds 60 --from 2024-06-10T06:10Z --to 2024-06-10T06:19Z",
+                status,
+                text
+            )?,
+            "{ceiling}"
+        );
     }
     Ok(())
 }

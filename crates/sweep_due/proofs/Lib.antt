@@ -8,4 +8,5 @@ pub mod AnswerLaws
 pub mod OrderLaws
 pub mod SweepDueLaws
 pub mod SweepReadLaws
+mod JudgeLaws
 mod ExampleLaws

@@ -52,7 +52,7 @@ module _ (window : Window) (bank : Bank) where
   same_report : (v w : Window) (a b : Answer) → v ≡ w → a ≡ b → Report v a (duts_of v bank a) ≡ Report w b (duts_of w bank b)
   same_report v w a b e f = ap (λ (u : Window). Report u a (duts_of u bank a)) e ∙ ap (λ (x : Answer). Report w x (duts_of w bank x)) f
 
-  one_report : window.to ≤ century_minutes → (x y : Due) → IsSweepReport window bank x → IsSweepReport window bank y → x ≡ y
+  pub one_report : window.to ≤ century_minutes → (x y : Due) → IsSweepReport window bank x → IsSweepReport window bank y → x ≡ y
   one_report century x y h k =
       let same = answer_is_one _ (swept_cost window bank) (λ q a. legal_sequence window bank century q a.0) h.answer k.answer h.answer_is k.answer_is in
       let told = subst (λ (a : Answer). IsToldWindow window bank a h.told) same h.told_is in
@@ -72,7 +72,7 @@ module _ (window : Window) (bank : Bank) where
         ),
       )
 
-  some_report : window.to ≤ century_minutes → window.phase < PHASE_LIMIT → (due : Due) × IsSweepReport window bank due
+  pub some_report : window.to ≤ century_minutes → window.phase < PHASE_LIMIT → (due : Due) × IsSweepReport window bank due
   some_report century phase =
       let all = all_swept window.phase in
       let found = some_searches century (swept_offsets window.phase) in

@@ -6,3 +6,6 @@ pub mod SweepOrders
 pub mod SweepRules
 pub mod SweepPlans
 pub mod Examples
+pub mod CertificateNames
+pub mod SweepCertificates
+pub mod JudgeRules

@@ -3,6 +3,7 @@
 #![tactic(auto)]
 
 mod examples;
+mod judge_laws;
 mod laws;
 mod offsets;
 mod search_laws;
@@ -11,6 +12,9 @@ mod standing;
 pub use examples::{
     costs_of_a_sweep, offsets_that_are_swept, refused_words_of_a_sweep, report_of_a_sweep,
     searches_that_are_put_together, what_is_asked_of_a_sweep,
+};
+pub use judge_laws::{
+    one_thing_is_told_of_the_certificates_of_a_sweep, valid_certificates_decide_a_sweep,
 };
 pub use laws::{no_failure_is_due_of_a_sweep, one_thing_is_due_of_a_sweep, reads_decide_a_sweep};
 pub use offsets::{OFFSET_REACH, OFFSET_STEP, OFFSETS, PHASE_LIMIT, is_swept, phase_at};
