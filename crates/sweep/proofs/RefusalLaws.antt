@@ -7,7 +7,7 @@ use Rattle.bank_files.proofs.Chaining.{OnlyReads-start, SameCounts-start}
 use Rattle.due.specs.declared.due.Due.TheVariants.{Refused}
 use Rattle.due.specs.Orders.{word_refusal}
 use Rattle.due.specs.declared.due.Due.{Due}
-use Rattle.sweep_due.specs.Dues.{status_of, text_of}
+use Rattle.due.specs.Dues.{status_of, text_of}
 use Rattle.sweep_due.specs.SweepOrders.{sweep_order_in}
 use Rattle.sweep_due.specs.SweepPlans.{sweep_plan}
 use Rattle.sweep_due.specs.SweepRules.{Bad_words}

@@ -40,46 +40,39 @@ pub fn search_phases<R: Threads + Sync, G: Gate + PhaseGate + Sync>(
     ensures searched { IfOk result (IsSearched window.now (bank_seen bank.now) (offsets_of window.now.phase OFFSETS)) }
     ensures memory { IfErr result (λ stop. stop ≡ NoMemory) }
 {
-    let phases = count_swept(window.phase, OFFSETS);
     let mut standing = Standing::new();
     for turn in 0..OFFSETS {
-        gate.come_to_phase(count_swept(window.phase, turn) + 1, phases);
         standing = come_to(
-            rt,
-            alloc,
-            civil,
-            bank,
-            window,
-            offset_at(turn),
-            standing,
-            workers,
-            gate,
+            rt, alloc, civil, bank, window, turn, standing, workers, gate,
         )?;
     }
     Ok(standing)
 }
 
-// Searches at an offset, if it is swept.
-fn come_to<R: Threads + Sync, G: Gate + Sync>(
+// Searches at the offset of a turn, if it is swept.
+fn come_to<R: Threads + Sync, G: Gate + PhaseGate + Sync>(
     rt: &R,
     alloc: Global,
     civil: &Civil,
     bank: &Bank,
     window: &Window,
-    offset: u8,
+    turn: u8,
     before: Standing,
     workers: u8,
     gate: &G,
 ) -> Result<Standing, Stop>
     requires bank { IsBank bank.now }
     requires window { IsWindow window.now }
-    requires offset { offset < OFFSETS }
+    requires turn { turn < OFFSETS }
     requires workers { AreWorkers workers }
     ensures searched { IfOk result (λ after. (earlier : List ℕ) → IsSearched window.now (bank_seen bank.now) earlier before
-        → IsSearched window.now (bank_seen bank.now) (with_offset window.now.phase offset earlier) after) }
+        → IsSearched window.now (bank_seen bank.now) (with_offset window.now.phase (offset_at turn) earlier) after) }
     ensures memory { IfErr result (λ stop. stop ≡ NoMemory) }
 {
+    let offset = offset_at(turn);
     if is_swept(window.phase, offset) {
+        let number = count_swept(window.phase, turn) + 1;
+        gate.come_to_phase(number, count_swept(window.phase, OFFSETS));
         return search_at(
             rt, alloc, civil, bank, window, offset, before, workers, gate,
         );

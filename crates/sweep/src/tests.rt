@@ -1,12 +1,13 @@
 //! Runs of `sweep` over files in memory, with ample memory. The texts are worked out from docs/FORMATS.md and the code
 //! descriptions, by hand and by a program that tries one sequence after the other at each phase.
 
-use crate::sweep;
+use crate::{PhaseGate, sweep};
 use bank_files::{MemoryFiles, OneByte};
 use std::alloc::{AllocError, Global};
+use std::sync::atomic::{AtomicU64, Ordering};
 use std::test::Fail;
 use std::thread::Threads;
-use workers::NoGate;
+use workers::{Gate, NoGate};
 
 // The words of a line that parts them by spaces.
 fn words(alloc: Global, line: &str) -> Result<Vec<String>, AllocError> {
@@ -276,6 +277,48 @@ fn finds_a_phase_near_the_whole_second(rt: HostRuntime) -> Result<(), Fail> {
             0,
             "decided 0\nphase 980\nsequence 2024-06-10T06:16Z 0 no\nnext 600\nminute 2024-06-10T06:16Z at 980\n",
         )?
+    );
+    Ok(())
+}
+
+// Counts the phases that are come to, and keeps the numbers of the latest.
+struct Steps {
+    count: AtomicU64,
+    number: AtomicU64,
+    phases: AtomicU64,
+}
+
+impl Gate for Steps {
+    fn pass(&self, _worker: u32, _number: u64) {}
+}
+
+impl PhaseGate for Steps {
+    fn come_to_phase(&self, phase: u8, phases: u8) {
+        self.count.fetch_add(1, Ordering::SeqCst);
+        self.number.store(u64::from(phase), Ordering::SeqCst);
+        self.phases.store(u64::from(phases), Ordering::SeqCst);
+    }
+}
+
+// Nothing was heard, so that the phase of a decode is 0, and the phases 0 to 50 are tried.
+#[test]
+fn tells_its_gate_of_each_phase(rt: HostRuntime) -> Result<(), Fail> {
+    let mut files = files_of(rt.alloc(), JJY, "")?;
+    let words = words(rt.alloc(), SHORT)?;
+    let steps = Steps {
+        count: AtomicU64::new(0),
+        number: AtomicU64::new(0),
+        phases: AtomicU64::new(0),
+    };
+    assert_eq!(rt; sweep(&rt, rt.alloc(), &words, &mut files, &steps), 1);
+    assert_eq!(rt; steps.count.load(Ordering::SeqCst), 6);
+    assert_eq!(rt; steps.number.load(Ordering::SeqCst), 6);
+    assert_eq!(rt; steps.phases.load(Ordering::SeqCst), 6);
+    assert!(rt;
+        printed(
+            &files,
+            "undecided 0\nphase 0\nsequence 2024-06-10T06:10Z 0 no\nsequence 2024-06-10T06:11Z 0 no\n"
+        )
     );
     Ok(())
 }

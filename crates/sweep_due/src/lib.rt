@@ -3,6 +3,7 @@
 #![tactic(auto)]
 
 mod examples;
+mod judge_examples;
 mod judge_laws;
 mod laws;
 mod offsets;
@@ -12,6 +13,10 @@ mod standing;
 pub use examples::{
     costs_of_a_sweep, offsets_that_are_swept, refused_words_of_a_sweep, report_of_a_sweep,
     searches_that_are_put_together, what_is_asked_of_a_sweep,
+};
+pub use judge_examples::{
+    certificates_that_are_written, first_file_without_a_byte, lines_of_judge,
+    what_is_asked_of_the_certificates_of_a_sweep,
 };
 pub use judge_laws::{
     one_thing_is_told_of_the_certificates_of_a_sweep, valid_certificates_decide_a_sweep,

@@ -1,5 +1,5 @@
 -- What stands after all searches is the swept answer, and its window is that of its first sequence.
-use Rattle.std.proofs.Common.{◌≡◌, ℕ, ◌%◌, ◌^◌, ◌<◌, List, Option, sym, ap, ◌∙◌, subst}
+use Rattle.std.proofs.Common.{rules, ◌≡◌, ℕ, ◌%◌, ◌^◌, ◌<◌, List, Option, sym, ap, ◌∙◌, subst}
 use Rattle.std.specs.Option.{ForSome}
 use Rattle.definitions.specs.answers.FirstTwo.{answer_from}
 use Rattle.definitions.specs.sequences.Keys.{index_end}
@@ -60,3 +60,19 @@ returns-clause-reported c =
     report_is window bank s c.answer_of-answer.result told c.duts_of-duts.result answer c.told_window-told.ensures.window
     (law.answer window bank offsets s c.requires.window.century c.requires.window.phase all c.requires.searched)
     (law.told window bank offsets s c.requires.window.century c.requires.window.phase all c.requires.searched) (c.duts_of-duts.ensures bank have)
+
+pub returns-clause-can_be_written : goal.returns-clause-can_be_written
+returns-clause-can_be_written c =
+    let window = c.args.window.now in
+    let bank = bank_seen c.args.bank.now in
+    let offsets = offsets_of window.phase OFFSETS in
+    let s = c.args.standing in
+    let law = c.searches_decide_a_sweep.ensures in
+    let all = all_offsets window.phase in
+    let answer = c.answer_of-answer.ensures ∙ ap (λ (first : Option ℕ). answer_from first s.second) c.first_key.ensures in
+    (
+      standing_can_be_reported window bank s c.answer_of-answer.result c.told_window-told.result c.requires.window answer c.told_window-told.ensures.window
+      (law.answer window bank offsets s c.requires.window.century c.requires.window.phase all c.requires.searched)
+      (law.told window bank offsets s c.requires.window.century c.requires.window.phase all c.requires.searched),
+      search rules,
+    )

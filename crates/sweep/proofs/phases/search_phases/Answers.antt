@@ -1,9 +1,9 @@
 -- One turn after the other.
-use Rattle.std.proofs.Common.{◌≡◌, ℕ, List, sym, ap, ◌∙◌, subst, arith}
+use Rattle.std.proofs.Common.{◌≡◌, ℕ, List, sym, subst, arith}
 use Rattle.sweep_due.specs.declared.offsets.TheConstants.{OFFSETS}
 use Rattle.sweep_due.specs.Searches.{IsSearched}
 use Rattle.bank.specs.Hearing.{bank_seen}
-use Rattle.sweep.specs.Turns.{offset_at, offsets_of, with_offset}
+use Rattle.sweep.specs.Turns.{offsets_of}
 use Rattle.sweep.proofs.TurnLaws.{next_turn}
 use Rattle.sweep.proofs.phases.search_phases.Goals as goal
 
@@ -15,10 +15,8 @@ loop-turn-preserved g c =
     let window = c.args.window.now in
     let bank = bank_seen c.args.bank.now in
     let turn = c.loop-turn.turn in
-    let done = offsets_of window.phase turn in
-    let offset : c.offset_at.result ≡ offset_at turn = c.offset_at.ensures.offset in
-    let listed = ap (λ (i : ℕ). with_offset window.phase i done) offset ∙ sym (next_turn window.phase turn) in
-    subst (λ (offsets : List ℕ). IsSearched window bank offsets c.in_ok-come_to.standing) listed (c.in_ok-come_to.ensures.searched done c.loop-turn.invariant)
+    subst (λ (offsets : List ℕ). IsSearched window bank offsets c.in_ok-standing.standing) (sym (next_turn window.phase turn))
+    (c.in_ok-standing.ensures.searched (offsets_of window.phase turn) c.loop-turn.invariant)
 
 pub returns-clause-searched : goal.returns-clause-searched
 returns-clause-searched g c =
