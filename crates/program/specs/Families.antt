@@ -5,8 +5,9 @@ use Rattle.due.specs.declared.frame_due.FrameDue.{FrameDue}
 use Rattle.due.specs.Plans.{Plan, frame_plan, run_plan}
 use Rattle.follow_due.specs.declared.follow_due.FollowDue.{FollowDue}
 use Rattle.follow_due.specs.FollowPlans.{follow_plan}
+use Rattle.sweep_due.specs.SweepPlans.{sweep_plan}
 use Rattle.program.specs.declared.family.Family.{Family}
-use Rattle.program.specs.declared.family.Family.TheVariants.{OfFollow, OfFrames, OfRun}
+use Rattle.program.specs.declared.family.Family.TheVariants.{OfFollow, OfFrames, OfRun, OfSweep}
 
 -- the word is the first of a command of frames
 abbrev pub is_of_frames : List ℕ → Bool
@@ -16,9 +17,17 @@ is_of_frames word = bytes_eq word (codes "irig") || bytes_eq word (codes "irig-r
 abbrev pub is_follow : List ℕ → Bool
 is_follow word = bytes_eq word (codes "follow")
 
+-- the word is the command of a decode over several phases
+abbrev pub is_sweep : List ℕ → Bool
+is_sweep word = bytes_eq word (codes "sweep")
+
 -- the commands to which a first word belongs
 abbrev pub family_of_word : List ℕ → Family
-family_of_word word = if is_of_frames word then OfFrames else (if is_follow word then OfFollow else OfRun)
+family_of_word word =
+    if is_of_frames word then OfFrames
+    else if is_follow word then OfFollow
+    else if is_sweep word then OfSweep
+    else OfRun
 
 -- the commands to which words belong
 abbrev pub family_of : List (List ℕ) → Family
@@ -30,11 +39,13 @@ abbrev pub Owed : Family → Type 0
 Owed OfRun = Due
 Owed OfFrames = FrameDue
 Owed OfFollow = FollowDue
+Owed OfSweep = Due
 
 abbrev pub family_plan : (family : Family) → List (List ℕ) → Plan (Owed family)
 family_plan OfRun words = run_plan words
 family_plan OfFrames words = frame_plan words
 family_plan OfFollow words = follow_plan words
+family_plan OfSweep words = sweep_plan words
 
 -- the plan of the program for its words
 abbrev pub plan_for : (words : List (List ℕ)) → Plan (Owed (family_of words))

@@ -3,8 +3,8 @@
 ghost use Rattle.std.specs.Prelude.{◌≡◌, [], codes};
 ghost use Rattle.bank_words.specs.Seen.{texts_of};
 ghost use Rattle.formats.specs.WordExamples.{words_in};
-ghost use Rattle.program.specs.declared.family.Family.TheVariants.{OfFollow, OfFrames, OfRun};
-ghost use Rattle.program.specs.Families.{family_of, family_of_word, is_follow, is_of_frames};
+ghost use Rattle.program.specs.declared.family.Family.TheVariants.{OfFollow, OfFrames, OfRun, OfSweep};
+ghost use Rattle.program.specs.Families.{family_of, family_of_word, is_follow, is_of_frames, is_sweep};
 
 use crate::family::Family;
 
@@ -27,6 +27,9 @@ fn family_of_word(word: &str) -> Family
     if is_follow(word) {
         return Family::OfFollow;
     }
+    if is_sweep(word) {
+        return Family::OfSweep;
+    }
     Family::OfRun
 }
 
@@ -42,6 +45,12 @@ fn is_follow(word: &str) -> bool
     word == "follow"
 }
 
+fn is_sweep(word: &str) -> bool
+    ensures { result ≡ is_sweep word.now }
+{
+    word == "sweep"
+}
+
 /// Whose commands some words are.
 pub fn families_of_words()
     ensures irig { family_of (words_in (codes "irig k.toml --seconds 120")) ≡ OfFrames }
@@ -49,6 +58,7 @@ pub fn families_of_words()
     ensures decode { family_of (words_in (codes "decode irig")) ≡ OfRun }
     ensures longer { family_of (words_in (codes "irig-reads f.txt")) ≡ OfRun }
     ensures follow { family_of (words_in (codes "follow k.toml --count 2")) ≡ OfFollow }
-    ensures beyond { family_of (words_in (codes "sweep follow")) ≡ OfRun }
+    ensures sweep { family_of (words_in (codes "sweep k.toml --workers 2")) ≡ OfSweep }
+    ensures beyond { family_of (words_in (codes "judge sweep")) ≡ OfRun }
     ensures none { family_of [] ≡ OfRun }
 {}

@@ -10,4 +10,6 @@ pub enum Family {
     OfFrames,
     /// That of windows that follow one another: `follow`.
     OfFollow,
+    /// That of a decode over several phases: `sweep`.
+    OfSweep,
 }

@@ -5,6 +5,7 @@ use follow::WindowGate;
 use std::rt::Clock;
 use std::sync::atomic::{AtomicU64, Ordering};
 use std::time::Instant;
+use sweep::PhaseGate;
 use workers::Gate;
 
 // A run that ends within that many milliseconds shows nothing.
@@ -18,7 +19,7 @@ const PERIOD: u64 = 200;
 pub(crate) const BLANK: &str = "\r                                \r";
 
 /// A gate that holds nobody, and shows the latest number that was drawn, which is how many items were drawn before it; where
-/// there are several windows, it shows at which of them the run is. The line is written over the one before it. All workers
+/// there are several windows or phases, it shows at which of them the run is. The line is written over the one before it. All workers
 /// share it: at each time one of them writes at most.
 #[derive(Drop)]
 pub struct Progress<'a, S: Clock + Eprint> {
@@ -34,6 +35,9 @@ pub struct Progress<'a, S: Clock + Eprint> {
     // Where there are several windows: which of them was come to latest, and how many there are. Else 0.
     window: AtomicU64,
     windows: AtomicU64,
+    // The same of phases.
+    phase: AtomicU64,
+    phases: AtomicU64,
 }
 
 impl<'a, S: Clock + Eprint> Progress<'a, S> {
@@ -58,6 +62,8 @@ impl<'a, S: Clock + Eprint> Progress<'a, S> {
             shown: AtomicU64::new(0),
             window: AtomicU64::new(0),
             windows: AtomicU64::new(0),
+            phase: AtomicU64::new(0),
+            phases: AtomicU64::new(0),
         }
     }
 
@@ -75,6 +81,16 @@ impl<'a, S: Clock + Eprint> Progress<'a, S> {
             let windows = self.windows.load(Ordering::SeqCst);
             let name = self.speaker.name();
             let _ = eprint!(self.screen; "\r{name}: window {window} of {windows}");
+        }
+    }
+
+    // Shows at which phase the run is, where that is to be shown now.
+    fn show_phase(&self) {
+        let phase = self.phase.load(Ordering::SeqCst);
+        if self.is_next(phase) {
+            let phases = self.phases.load(Ordering::SeqCst);
+            let name = self.speaker.name();
+            let _ = eprint!(self.screen; "\r{name}: phase {phase} of {phases}");
         }
     }
 
@@ -110,6 +126,8 @@ impl<S: Clock + Eprint> Gate for Progress<'_, S> {
     fn pass(&self, _worker: u32, number: u64) {
         if self.windows.load(Ordering::SeqCst) > 0 {
             self.show_window();
+        } else if self.phases.load(Ordering::SeqCst) > 0 {
+            self.show_phase();
         } else if self.is_next(number) {
             let name = self.speaker.name();
             let _ = eprint!(self.screen; "\r{name}: {number} items searched");
@@ -124,6 +142,14 @@ impl<S: Clock + Eprint> WindowGate for Progress<'_, S> {
             self.windows.store(u64::from(windows), Ordering::SeqCst);
             self.show_window();
         }
+    }
+}
+
+impl<S: Clock + Eprint> PhaseGate for Progress<'_, S> {
+    fn come_to_phase(&self, phase: u8, phases: u8) {
+        self.phase.store(u64::from(phase), Ordering::SeqCst);
+        self.phases.store(u64::from(phases), Ordering::SeqCst);
+        self.show_phase();
     }
 }
 
@@ -185,6 +211,26 @@ mod tests {
         assert_eq!(rt; screen.printed(), 1);
         progress.come_to(13, 1000);
         assert_eq!(rt; screen.printed(), 2);
+        progress.end();
+        assert_eq!(rt; screen.printed(), 3);
+        assert!(rt; !screen.shows_a_line());
+    }
+
+    // It begins at 0, and looks at 300, 600, 900, 1200 and so on.
+    #[test]
+    fn shows_which_phase_is_searched(rt: HostRuntime) {
+        let screen = Screen::new(rt.alloc(), "\rtsbank: phase 3 of 11");
+        let progress = Progress::new(&screen, true);
+        progress.come_to_phase(1, 11);
+        progress.pass(0, 7000);
+        progress.come_to_phase(2, 11);
+        assert_eq!(rt; screen.printed(), 0);
+        progress.come_to_phase(3, 11);
+        assert_eq!(rt; screen.found(), 1);
+        // It is shown already.
+        progress.pass(0, 7001);
+        assert_eq!(rt; screen.printed(), 1);
+        progress.come_to_phase(4, 11);
         progress.end();
         assert_eq!(rt; screen.printed(), 3);
         assert!(rt; !screen.shows_a_line());

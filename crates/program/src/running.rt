@@ -15,6 +15,7 @@ use machine_files::{Machine, RealFiles};
 use std::alloc::Global;
 use std::rt::Clock;
 use std::thread::Threads;
+use sweep::PhaseGate;
 use workers::Gate;
 
 /// How a run ended.
@@ -48,7 +49,7 @@ pub fn run<R: Threads + Sync, M: Machine, E: Eprint, S: Clock + Eprint + Sync>(
 }
 
 /// The one call that runs the words, chosen by the first of them. All that the call promises holds of it.
-pub fn answer<R: Threads + Sync, F: Files, G: Gate + WindowGate + Sync>(
+pub fn answer<R: Threads + Sync, F: Files, G: Gate + PhaseGate + WindowGate + Sync>(
     rt: &R,
     alloc: Global,
     words: &[String],
@@ -61,5 +62,6 @@ pub fn answer<R: Threads + Sync, F: Files, G: Gate + WindowGate + Sync>(
         Family::OfRun => bank::run(rt, alloc, words, files, gate),
         Family::OfFrames => frame_runs::irig(rt, alloc, words, files, gate),
         Family::OfFollow => follow::follow(rt, alloc, words, files, gate),
+        Family::OfSweep => sweep::sweep(rt, alloc, words, files, gate),
     }
 }

@@ -32,7 +32,7 @@ fn status_shown<R: Threads + Sync, S: Clock + Eprint + Sync>(
 }
 
 const USAGE: &str =
-    "usage: tsbank decode CONFIG [--start N] [--seconds N] [--from MINUTE] [--to MINUTE] [--workers N]\n       tsbank feed CONFIG [the options of decode]\n       tsbank encode STATION MINUTE [--leap 0|1]\n       tsbank trial NUMBER [--workers N]\n       tsbank irig CONFIG [the options of decode]\n       tsbank irig-read FILE\n       tsbank follow CONFIG [the options of decode] [--step N] [--count N]\n  CONFIG     the path of the configuration, which doesn't begin with -\n  STATION    dcf77, msf, wwvb or jjy\n  MINUTE     a UTC minute, YYYY-MM-DDThh:mmZ, from 2000-01-01T00:00Z to 2099-12-31T23:59Z\n  FILE       the path of a file with frames, which doesn't begin with -\n  NUMBER     the number of the trial, from 0 to 4294967295\n  --start    the first millisecond of the window, from 0 to 999999999999; else where the logs begin\n  --seconds  the length of the window, from 60 to 1200; else 180\n  --from     the first minute in which the window may begin; else the first of the century\n  --to       the last of these minutes; else the last of the century\n  --workers  how many workers search, from 1 to 8; else 4\n  --leap     1 where a leap second is announced; else 0\n  --step     how many seconds each window starts after the one before, from 1 to 1200; else 60\n  --count    how many windows are decoded, from 1 to 1000; else 10\n";
+    "usage: tsbank decode CONFIG [--start N] [--seconds N] [--from MINUTE] [--to MINUTE] [--workers N]\n       tsbank feed CONFIG [the options of decode]\n       tsbank encode STATION MINUTE [--leap 0|1]\n       tsbank trial NUMBER [--workers N]\n       tsbank irig CONFIG [the options of decode]\n       tsbank irig-read FILE\n       tsbank follow CONFIG [the options of decode] [--step N] [--count N]\n       tsbank sweep CONFIG [the options of decode]\n  CONFIG     the path of the configuration, which doesn't begin with -\n  STATION    dcf77, msf, wwvb or jjy\n  MINUTE     a UTC minute, YYYY-MM-DDThh:mmZ, from 2000-01-01T00:00Z to 2099-12-31T23:59Z\n  FILE       the path of a file with frames, which doesn't begin with -\n  NUMBER     the number of the trial, from 0 to 4294967295\n  --start    the first millisecond of the window, from 0 to 999999999999; else where the logs begin\n  --seconds  the length of the window, from 60 to 1200; else 180\n  --from     the first minute in which the window may begin; else the first of the century\n  --to       the last of these minutes; else the last of the century\n  --workers  how many workers search, from 1 to 8; else 4\n  --leap     1 where a leap second is announced; else 0\n  --step     how many seconds each window starts after the one before, from 1 to 1200; else 60\n  --count    how many windows are decoded, from 1 to 1000; else 10\n";
 
 // The minute as WWVB sends it.
 const LISTING: &str =
@@ -137,7 +137,7 @@ fn reads_a_file_without_frames(rt: HostRuntime) {
 
 #[test]
 fn refuses_an_empty_configuration(rt: HostRuntime) {
-    for command in [b"decode".as_slice(), b"follow"] {
+    for command in [b"decode".as_slice(), b"follow", b"sweep"] {
         let words = [b"tsbank".as_slice(), command, b"/dev/null"];
         let fake = Fake::new(&rt, &words, AMPLE);
         assert_eq!(rt; status(&rt, &fake), 4);
@@ -146,32 +146,44 @@ fn refuses_an_empty_configuration(rt: HostRuntime) {
     }
 }
 
-// Two windows in which nothing was heard.
-#[test]
-fn follows_a_log_in_memory(rt: HostRuntime) -> Result<(), Fail> {
+// Whether a run of these words over a log in which nothing was heard ends with 1, and prints this text.
+fn ends_undecided<R: Threads + Sync + AllocGlobal>(
+    rt: &R,
+    line: &str,
+    text: &str,
+) -> Result<bool, Fail> {
     let mut files = MemoryFiles::make(rt.alloc());
     let config = b"station = \"jjy\"\n[[receiver]]\nname = \"a\"\nlog = \"a.log\"\n";
     files.put("k.toml", config)?;
     files.put("a.log", b"")?;
     let mut words = Vec::new(rt.alloc());
-    for word in [
-        "follow",
-        "k.toml",
-        "--count",
-        "2",
-        "--to",
-        "2000-01-01T00:59Z",
-    ] {
+    for word in line.split(' ') {
         words.push(word.to_string(rt.alloc())?)?;
     }
-    assert_eq!(rt; answer(&rt, rt.alloc(), &words, &mut files, &NoGate), 1);
-    assert!(rt;
-        files
-            .contents("-")
-            .is_some_and(|text| text == FOLLOWED.as_bytes())
-    );
+    let ended = answer(rt, rt.alloc(), &words, &mut files, &NoGate);
+    let printed = files
+        .contents("-")
+        .is_some_and(|found| found == text.as_bytes());
+    Ok(ended == 1 && printed)
+}
+
+#[test]
+fn follows_a_log_in_memory(rt: HostRuntime) -> Result<(), Fail> {
+    let line = "follow k.toml --count 2 --to 2000-01-01T00:59Z";
+    assert!(rt; ends_undecided(&rt, line, FOLLOWED)?);
     Ok(())
 }
+
+// The phases 0, 10 .. 50 cost the same, and the least is told.
+#[test]
+fn sweeps_a_log_in_memory(rt: HostRuntime) -> Result<(), Fail> {
+    let line = "sweep k.toml --to 2000-01-01T00:59Z";
+    assert!(rt; ends_undecided(&rt, line, SWEPT)?);
+    Ok(())
+}
+
+const SWEPT: &str =
+    "undecided 0\nphase 0\nsequence 2000-01-01T00:00Z 0 no\nsequence 2000-01-01T00:01Z 0 no\n";
 
 const FOLLOWED: &str =
     "window 0\nundecided 0\nphase 0\nsequence 2000-01-01T00:00Z 0 no\nsequence 2000-01-01T00:01Z 0 no\nwindow 60000\nundecided 0\nphase 0\nsequence 2000-01-01T00:00Z 0 no\nsequence 2000-01-01T00:01Z 0 no\n";

@@ -20,3 +20,8 @@ pub returns-in-OfFollow : goal.returns-in-OfFollow
 returns-in-OfFollow g c =
     subst (λ (family : Family). HasRun (family_plan family (texts_of c.args.words.now)) (g.F.Files.view c.args.files.now) (g.F.Files.view c.follow.new.files) c.follow.result)
     (sym c.in-OfFollow.is ∙ c.family_of.ensures) c.follow.ensures
+
+pub returns-in-OfSweep : goal.returns-in-OfSweep
+returns-in-OfSweep g c =
+    subst (λ (family : Family). HasRun (family_plan family (texts_of c.args.words.now)) (g.F.Files.view c.args.files.now) (g.F.Files.view c.sweep.new.files) c.sweep.result)
+    (sym c.in-OfSweep.is ∙ c.family_of.ensures) c.sweep.ensures
