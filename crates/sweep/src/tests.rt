@@ -173,7 +173,7 @@ fn finds_the_better_phase(rt: HostRuntime) -> Result<(), Fail> {
 }
 
 // The hour of the minutes.
-const SHORT: &str = "sweep k.toml --seconds 120 --from 2024-06-10T06:00Z --to 2024-06-10T06:59Z";
+const HOUR: &str = "sweep k.toml --seconds 120 --from 2024-06-10T06:00Z --to 2024-06-10T06:59Z";
 
 #[test]
 fn tells_of_a_clean_log_what_a_decode_tells(rt: HostRuntime) -> Result<(), Fail> {
@@ -183,7 +183,7 @@ fn tells_of_a_clean_log_what_a_decode_tells(rt: HostRuntime) -> Result<(), Fail>
             &rt,
             JJY,
             &log,
-            SHORT,
+            HOUR,
             0,
             "decided 0\nphase 0\nsequence 2024-06-10T06:16Z 0 no\nnext 1200\nminute 2024-06-10T06:16Z at 0\nminute 2024-06-10T06:17Z at 60000\n",
         )?
@@ -195,7 +195,7 @@ fn tells_of_a_clean_log_what_a_decode_tells(rt: HostRuntime) -> Result<(), Fail>
 fn any_number_of_workers_tells_the_same(rt: HostRuntime) -> Result<(), Fail> {
     let log = heard(rt.alloc(), &JJY_WAVES, &MINUTES, LATE_RISES)?;
     for workers in [1u8, 3] {
-        let line = format!(in rt.alloc(); "{SHORT} --workers {workers}")?;
+        let line = format!(in rt.alloc(); "{HOUR} --workers {workers}")?;
         assert!(rt; tells(&rt, JJY, &log, &line, 0, SWEPT)?, "{workers}");
     }
     Ok(())
@@ -205,7 +205,7 @@ fn any_number_of_workers_tells_the_same(rt: HostRuntime) -> Result<(), Fail> {
 #[test]
 fn prints_the_same_byte_by_byte(rt: HostRuntime) -> Result<(), Fail> {
     let log = heard(rt.alloc(), &JJY_WAVES, &MINUTES, LATE_RISES)?;
-    let words = words(rt.alloc(), SHORT)?;
+    let words = words(rt.alloc(), HOUR)?;
     let inner = files_of(rt.alloc(), JJY, &log)?;
     let mut files = OneByte { inner };
     assert_eq!(rt; sweep(&rt, rt.alloc(), &words, &mut files, &NoGate), 0);
@@ -217,7 +217,7 @@ fn prints_the_same_byte_by_byte(rt: HostRuntime) -> Result<(), Fail> {
 #[test]
 fn ends_at_a_failing_file(rt: HostRuntime) -> Result<(), Fail> {
     let log = heard(rt.alloc(), &JJY_WAVES, &MINUTES, LATE_RISES)?;
-    let words = words(rt.alloc(), SHORT)?;
+    let words = words(rt.alloc(), HOUR)?;
     for call in 1..6 {
         let mut files = files_of(rt.alloc(), JJY, &log)?;
         files.fail(call)?;
@@ -307,7 +307,7 @@ impl PhaseGate for Steps {
 #[test]
 fn tells_its_gate_of_each_phase(rt: HostRuntime) -> Result<(), Fail> {
     let mut files = files_of(rt.alloc(), JJY, "")?;
-    let words = words(rt.alloc(), SHORT)?;
+    let words = words(rt.alloc(), HOUR)?;
     let steps = Steps {
         count: AtomicU64::new(0),
         number: AtomicU64::new(0),
@@ -320,7 +320,7 @@ fn tells_its_gate_of_each_phase(rt: HostRuntime) -> Result<(), Fail> {
     assert!(rt;
         printed(
             &files,
-            "undecided 0\nphase 0\nsequence 2024-06-10T06:10Z 0 no\nsequence 2024-06-10T06:11Z 0 no\n"
+            "undecided 0\nphase 0\nsequence 2024-06-10T06:00Z 0 no\nsequence 2024-06-10T06:01Z 0 no\n"
         )
     );
     Ok(())
