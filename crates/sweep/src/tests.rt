@@ -1,6 +1,8 @@
 //! Runs of `sweep` over files in memory, with ample memory. The texts are worked out from docs/FORMATS.md and the code
 //! descriptions, by hand and by a program that tries one sequence after the other at each phase.
 
+ghost use Rattle.std.specs.Prelude.{◌≤◌};
+
 use crate::{PhaseGate, sweep};
 use bank_files::{MemoryFiles, OneByte};
 use std::alloc::{AllocError, Global};
