@@ -1,5 +1,6 @@
 -- Which call runs some words, and what is then due: their first word decides.
 use Rattle.std.specs.Prelude.{ℕ, Bool, ◌||◌, if◌then◌else◌, List, [], ◌∷◌, bytes_eq, codes}
+use Rattle.due.specs.declared.due.Due.{Due}
 use Rattle.due.specs.declared.frame_due.FrameDue.{FrameDue}
 use Rattle.due.specs.Owed.{Owed as RunOwed}
 use Rattle.due.specs.Plans.{Plan, frame_plan, run_plan}
