@@ -58,7 +58,7 @@ impl<'a> Tables<'a> {
     }
 }
 
-impl WindowSums {
+impl WindowSums<'_> {
     /// A floor of a block. It is 0 where its walks may meet a minute that a station can't encode, or where it isn't known at
     /// once what walks cost that may meet a leap second.
     #[inline(always)]

@@ -23,7 +23,7 @@ struct Piece {
     floor: u32,
 }
 
-impl StationSums {
+impl StationSums<'_> {
     /// A floor of a block whose walks have 60 seconds in each minute: none of its sequences costs the station less. It is 0
     /// where a walk goes over a change of summer time, or over the ends of two runs.
     pub fn floor(&self, block: &Block) -> u32

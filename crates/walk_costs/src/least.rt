@@ -107,7 +107,7 @@ fn place_of_run(announced: bool, run: usize) -> usize
     if announced { 2 * run + 1 } else { 2 * run }
 }
 
-impl StationWalks {
+impl StationWalks<'_> {
     /// What no sequence costs the station less than, whose walk from second `p` has 60 seconds in each minute and lies in the
     /// run.
     pub fn least_in(&self, announced: bool, p: u8, run: usize) -> u32

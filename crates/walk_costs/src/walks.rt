@@ -29,8 +29,8 @@ use symbol_cost::CostGrid;
 /// What a station's sequences cost in the slots of a window. Contracts see the parts of its telegrams and the grid of
 /// costs.
 #[derive(Drop)]
-pub struct StationWalks {
-    pub(crate) unions: Unions,
+pub struct StationWalks<'a> {
+    pub(crate) unions: &'a Unions,
     pub(crate) columns: SlotColumns,
     pub(crate) walks: WalkTable,
     pub(crate) added: [u32; SECONDS_PER_MINUTE],
@@ -39,21 +39,25 @@ pub struct StationWalks {
     pub(crate) least: LeastWalks,
 }
 
-impl Model for StationWalks {
+impl<'a> Model for StationWalks<'a> {
     ghost use Rattle.walk_costs.specs.Walks.{AreKept, PricedParts};
 
     ghost Value = { PricedParts };
 
-    ghost view = { λ w. record { parts = w.unions; grid = w.columns } };
+    ghost view = { λ w. record { parts = w.unions.now; grid = w.columns } };
 
-    ghost invariant = { λ w. AreKept w.unions w.columns w.walks w.added w.dates w.announced_dates.items w.least };
+    ghost invariant = { λ w. AreKept w.unions.now w.columns w.walks w.added w.dates w.announced_dates.items w.least };
 }
 
-impl StationWalks {
+impl<'a> StationWalks<'a> {
     /// Adds up what the parts of a station cost by its grid.
-    pub fn make(alloc: Global, unions: Unions, grid: &CostGrid) -> Result<StationWalks, AllocError>
-        requires { unions.station ≡ grid.now.station }
-        ensures parts { IfOk result (λ walks. walks.parts ≡ unions) }
+    pub fn make(
+        alloc: Global,
+        unions: &'a Unions,
+        grid: &CostGrid,
+    ) -> Result<StationWalks<'a>, AllocError>
+        requires { unions.now.station ≡ grid.now.station }
+        ensures parts { IfOk result (λ walks. walks.parts ≡ unions.now) }
         ensures costs { IfOk result (λ walks. HasCosts walks.grid grid.now.station (length grid.now.rows) (cost_at grid.now.rows)) }
         ensures receivers { IfOk result (λ walks. walks.grid.receivers ≡ grid.now.receivers) }
     {
@@ -89,7 +93,7 @@ impl StationWalks {
         ensures unions { result.now ≡ self.now.parts }
         ensures station { self.now.parts.station ≡ self.now.grid.station }
     {
-        &self.unions
+        self.unions
     }
 
     /// What sets cost in the slots.

@@ -3,7 +3,7 @@ use Rattle.std.proofs.Common.{List, sym, subst}
 use Rattle.definitions.specs.declared.block.Block.{Block}
 use Rattle.workers.specs.Searches.{AreItemsOf}
 use Rattle.bank.proofs.FirstTwoLaws.{found_by, recorded_by}
-use Rattle.bank.proofs.first_two.decide_with.Goals as goal
+use Rattle.bank.proofs.first_two.recorded_by.Goals as goal
 
 pub returns-in-Ok-clause-found : goal.returns-in-Ok-clause-found
 returns-in-Ok-clause-found g c =

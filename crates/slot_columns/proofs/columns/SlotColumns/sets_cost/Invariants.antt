@@ -2,10 +2,10 @@ use Rattle.std.proofs.Common.{◌≡◌, ◌*◌, ◌≤◌, slice_index}
 use Rattle.definitions.specs.heard.Costs.{set_cost, sum_below}
 use Rattle.symbol_cost.specs.Grid.{cost_at}
 use Rattle.symbol_cost.specs.declared.limits.TheConstants.{RECEIVER_COST}
-use Rattle.field_tables.proofs.bound.cost_of_sets.Given as goal
+use Rattle.slot_columns.proofs.columns.SlotColumns.sets_cost.Given as goal
 
 abbrev pub invariant-loop-slot : goal.invariant-loop-slot
 invariant-loop-slot l = record {
-  cost : l.cost ≡ sum_below l.slot (λ k. set_cost l.columns.station (cost_at l.columns.rows k) (slice_index l.sets k));
-  bound : l.cost ≤ l.slot * (l.columns.receivers * RECEIVER_COST);
+  cost : l.cost ≡ sum_below l.slot (λ k. set_cost l.self.station (cost_at l.self.rows k) (slice_index l.sets k));
+  bound : l.cost ≤ l.slot * (l.self.receivers * RECEIVER_COST);
 }

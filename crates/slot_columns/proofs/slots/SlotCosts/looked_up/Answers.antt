@@ -2,7 +2,7 @@ use Rattle.std.proofs.Common.{get_or, ap, ◌∙◌}
 use Rattle.symbol_cost.specs.Grid.{cost_at}
 use Rattle.slot_columns.specs.Rows.{index_of}
 use Rattle.slot_columns.proofs.SetLaws.{index_bound, indexed}
-use Rattle.slot_columns.proofs.slots.SlotCosts.cost.Goals as goal
+use Rattle.slot_columns.proofs.slots.SlotCosts.looked_up.Goals as goal
 
 pub returns-clause-cost : goal.returns-clause-cost
 returns-clause-cost c =
