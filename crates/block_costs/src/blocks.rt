@@ -128,9 +128,6 @@ impl<'a> StationBlocks<'a> {
         if let Some(cost) = self.hours.in_run(walks) {
             return cost;
         }
-        if let Some(cost) = self.hours.across(walks) {
-            return cost;
-        }
         walks.cost_as_asked()
     }
 }

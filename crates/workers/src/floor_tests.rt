@@ -149,7 +149,7 @@ fn a_day_of_noise_has_a_floor(rt: HostRuntime) -> Result<(), Fail> {
     if day.span != Span::Day {
         panic!(rt; "no day");
     }
-    let floor = tables.floor(&day);
+    let floor = tables.floor(&day, 0);
     assert!(rt; floor.is_some() && floor != Some(0), "a floor of nothing");
     Ok(())
 }
