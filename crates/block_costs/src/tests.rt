@@ -222,11 +222,15 @@ fn times_of(rt: &HostRuntime, blocks: &StationBlocks) -> Result<u32, Fail> {
     Ok(sum)
 }
 
-fn made_in_time(rt: &HostRuntime, seconds: u16) -> Result<StationBlocks, Fail>
-    requires { seconds ≤ 1200 }
+fn made_in_time<'a>(
+    rt: &HostRuntime,
+    unions: &'a Unions,
+    seconds: u16,
+) -> Result<StationBlocks<'a>, Fail>
+    requires few { seconds ≤ 1200 }
+    requires station { unions.now.station ≡ Station.Jjy }
 {
-    let unions = unions(rt.alloc())?;
-    let walks = walks(rt.alloc(), &unions, seconds)?;
+    let walks = walks(rt.alloc(), unions, seconds)?;
     let begin = Instant::now(rt)?;
     let blocks = StationBlocks::make(rt.alloc(), walks, true)?;
     tell(rt, "all that is kept", begin, 1)?;
@@ -236,8 +240,9 @@ fn made_in_time(rt: &HostRuntime, seconds: u16) -> Result<StationBlocks, Fail>
 // Tells the times of three minutes and of twenty.
 #[test]
 fn times_of_unions(rt: HostRuntime) -> Result<(), Fail> {
+    let unions = unions(rt.alloc())?;
     for seconds in [180, 1200] {
-        let blocks = made_in_time(&rt, seconds)?;
+        let blocks = made_in_time(&rt, &unions, seconds)?;
         let sum = times_of(&rt, &blocks)?;
         println!(&rt; "{seconds} seconds, {sum}")?;
     }

@@ -114,17 +114,24 @@ fn a_walk_to_the_next_run_costs_no_less(rt: HostRuntime) -> Result<(), Fail> {
     Ok(())
 }
 
-// What no walk costs less than from the run of a minute to the next.
+// What the walk from the minute costs at the least, where it goes from its run to the next.
 fn least_across(walks: &StationWalks, p: u8, t: u32) -> Option<u32> {
     let parts = walks.parts();
-    if p as usize >= SECONDS_PER_MINUTE || t >= parts.end() {
+    if p as usize >= SECONDS_PER_MINUTE || t >= CENTURY_MINUTES || t >= parts.end() {
         return None;
     }
     let run = parts.run_of(t);
     if run >= parts.runs() - 1 {
         return None;
     }
-    Some(walks.least_across(false, p, run))
+    let last = t + walks.later_minutes(p);
+    if last < parts.run_end(run) || last >= parts.run_end(run + 1) {
+        return None;
+    }
+    if parts.run(run + 1).shift != parts.run(run).shift {
+        return None;
+    }
+    Some(walks.least_across(false, p, run, t, t + 1))
 }
 
 // A low tenth costs 10 and a high one 20, so 0 and 1 cost 190 and 180. The known slots are the seconds 8 and 10 of the one
@@ -255,13 +262,20 @@ fn a_floor_is_what_the_cheapest_walk_costs(rt: HostRuntime) -> Result<(), Fail> 
     Ok(())
 }
 
-// The floor of the run in which the minute lies.
+// The floor of all walks that lie in the run of the minute.
 fn floor(walks: &StationWalks, p: u8, t: u32) -> Option<u32> {
     let parts = walks.parts();
     if p as usize >= SECONDS_PER_MINUTE || t >= parts.end() {
         return None;
     }
-    Some(walks.least_in(false, p, parts.run_of(t)))
+    let run = parts.run_of(t);
+    let lo = parts.run(run).first;
+    let end = parts.run_end(run);
+    let later = walks.later_minutes(p);
+    if end - lo <= later {
+        return None;
+    }
+    Some(walks.least_in(false, p, run, lo, end - later))
 }
 
 // What its cheapest walk costs.
