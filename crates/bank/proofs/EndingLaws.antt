@@ -1,5 +1,5 @@
 -- How the parts of a run make its end, whatever its plan.
-use Rattle.std.proofs.Common.{◌≡◌, ◌≢◌, ℕ, ◌≤◌, ◌⊎◌, false, List, [], ◌∷◌, Result, Ok, Err, IfOk, inl, inr, refl, sym, ap, ◌∙◌, subst, arith}
+use Rattle.std.proofs.Common.{◌≡◌, ◌≢◌, ℕ, false, List, [], ◌∷◌, Result, Ok, Err, IfOk, inl, inr, refl, sym, ap, ◌∙◌, subst, arith}
 use Rattle.bank_files.specs.Told.{Tells, Told, output_name}
 use Rattle.bank_files.specs.Seen.{OnlyReads, SameCounts, Seen, Writes}
 use Rattle.bank_files.proofs.Chaining.{KeepsCounts-then, Seen-same}
@@ -10,7 +10,11 @@ use Rattle.due.specs.Plans.{Plan}
 use Rattle.due.specs.Status.{code_of}
 use Rattle.bank.specs.declared.stop.Stop.{Stop}
 use Rattle.bank.specs.declared.stop.Stop.TheVariants.{Failed, NoMemory}
-use Rattle.bank.specs.Ending.{Agrees, Delivers, DeliversDue, Ends, FindsDue, IsFound, OnlyWritesAmong, SomeReadFails, SomeWriteFails, WritesAll, WritesNothing, status_after}
+use Rattle.bank.specs.Ending.{Agrees, AreTold, Delivers, DeliversDue, Ends, FindsDue, HasRun, IsFound, OnlyWritesAmong, SomeReadFails, WritesAll, WritesNothing, status_after}
+
+-- the status is no number that stands for a failed file or for want of memory
+abbrev pub IsNoFailure : Status → Type 0
+IsNoFailure status = (code_of status ≢ 6) × (code_of status ≢ 7)
 
 -- a run that only read wrote nothing
 pub writes_nothing : (old new : Seen) → OnlyReads old new → WritesNothing old new
@@ -83,21 +87,43 @@ module _ {D : Type 0} (plan : Plan D) where
     due_is_not_written new due e is written =
         due_not_written old mid new due (subst (λ r. IfOk r (IsFound plan old)) is finds.due) finds.only (finds.same_counts (not_err due Failed is)) e written
 
-  -- A run whose status is neither 6 nor 7 delivered what is due.
-  pub delivers_due : (old new : Seen) (r : Result Status Stop) (code : ℕ) → code ≡ code_of (status_after r) → Ends plan old new r
-      → code ≢ 6 → code ≢ 7 → DeliversDue plan old new code
-  delivers_due old new (Ok status) code is ends six seven = subst (λ n. DeliversDue plan old new n) (sym is) ends.0
-  delivers_due old new (Err Failed) code is ends six seven = absurd (six is)
-  delivers_due old new (Err NoMemory) code is ends six seven = absurd (seven is)
-
-  -- 6 stands for a failed file, where it stands for nothing that is due
-  pub failed_file : ((due : D) → code_of (plan.status due) ≢ 6) → (old new : Seen) (r : Result Status Stop) (code : ℕ) → code ≡ code_of (status_after r) → Ends plan old new r
-      → code ≡ 6 → SomeWriteFails plan old new ⊎ SomeReadFails plan old new
-  failed_file other old new (Ok status) code is ends six =
-      let same : code_of status ≡ code_of (plan.status ends.0.0) = ends.0.2.0 in
-      absurd (other ends.0.0 (sym same ∙ sym is ∙ six))
-  failed_file other old new (Err Failed) code is ends six = ends.0
-  failed_file other old new (Err NoMemory) code is ends six = absurd (omega arith)
+  -- A run that ended so has run its plan, where no status of the plan is one of a failure, and what it delivers is exactly what is due.
+  pub has_run : ((due : D) → IsNoFailure (plan.status due))
+      → ((old new : Seen) (code : ℕ) → DeliversDue plan old new code → (contents : Contents) → AreTold plan old contents → (due : D) → plan.owes contents due
+      → Delivers plan old new due code)
+      → (old new : Seen) (r : Result Status Stop) (code : ℕ) → code ≡ code_of (status_after r) → Ends plan old new r → OnlyWritesAmong plan.files old new
+      → HasRun plan old new code
+  has_run no_failure exact old new (Ok status) code is ends only =
+      let delivers : DeliversDue plan old new code = subst (λ n. DeliversDue plan old new n) (sym is) ends.0 in
+      let no : IsNoFailure (plan.status delivers.0) = no_failure delivers.0 in
+      let same : code ≡ code_of (plan.status delivers.0) = delivers.2.0 in
+      record {
+        due = λ six seven. delivers;
+        exactly = λ six seven. exact old new code delivers;
+        failed = λ six. absurd (no.0 (sym same ∙ six));
+        no_fault = λ six. ends.1;
+        front = λ six. absurd (no.0 (sym same ∙ six));
+        memory = λ seven. absurd (no.1 (sym same ∙ seven));
+        only = only;
+      }
+  has_run no_failure exact old new (Err Failed) code is ends only = record {
+    due = λ six seven. absurd (six is);
+    exactly = λ six seven. absurd (six is);
+    failed = λ six. ends.0;
+    no_fault = λ six. absurd (six is);
+    front = λ six. ends.1;
+    memory = λ seven. absurd (omega (arith, is, seven));
+    only = only;
+  }
+  has_run no_failure exact old new (Err NoMemory) code is ends only = record {
+    due = λ six seven. absurd (seven is);
+    exactly = λ six seven. absurd (seven is);
+    failed = λ six. absurd (omega (arith, is, six));
+    no_fault = λ six. ends.1;
+    front = λ six. absurd (omega (arith, is, six));
+    memory = λ seven. ends.0;
+    only = only;
+  }
 
   -- Where one thing is due, and contents that agree on what is read owe the same, what is delivered is what is due for the contents
   -- that are told.

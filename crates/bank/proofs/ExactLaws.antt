@@ -45,8 +45,8 @@ all_same old words some told agrees all input file (o, asks, read) =
     bank_same old o.config some told (λ n f r. agrees n f (o, asks, r)) (λ n f r. all n f (o, asks, r)) input file read
 
 -- where the contents are told, it is what is due for them
-pub run_exactly : (old new : Seen) (words : List (List ℕ)) (code : ℕ) → DeliversDue (run_plan words) old new code
+pub run_exactly : (words : List (List ℕ)) (old new : Seen) (code : ℕ) → DeliversDue (run_plan words) old new code
     → (contents : Contents) → AreTold (run_plan words) old contents → (due : Due) → IsDue words contents due → Delivers (run_plan words) old new due code
-run_exactly old new words code delivers contents all due also =
+run_exactly words old new code delivers contents all due also =
     delivered_exactly (run_plan words) (λ told a b. one_due told words a b) (λ some other same d. (same_due words some other same d).0) old new contents code
     (λ some agrees. all_same old words some contents agrees all) delivers due also

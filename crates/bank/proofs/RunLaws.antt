@@ -1,5 +1,5 @@
 -- What a run reports of a bank or a trial, and which statuses are due.
-use Rattle.std.proofs.Common.{◌≡◌, ◌≢◌, ℕ, ◌≤◌, refl, ap, ◌∙◌, subst, arith}
+use Rattle.std.proofs.Common.{◌≡◌, ℕ, ◌≤◌, refl, ap, ◌∙◌, subst, arith}
 use Rattle.signal_base.specs.declared.station.Station.{Station}
 use Rattle.definitions.specs.declared.answer.Answer.TheVariants as answers
 use Rattle.definitions.specs.declared.sequence.Sequence.{Sequence}
@@ -17,6 +17,7 @@ use Rattle.due.specs.Status.{code_of}
 use Rattle.due.specs.Trials.{trial_asked, trial_bank}
 use Rattle.bank.specs.declared.decoding.Decoded.{Decoded}
 use Rattle.bank.specs.Finding.{IsTried, IsDecoded}
+use Rattle.bank.proofs.EndingLaws.{IsNoFailure}
 
 -- the answer for a bank, reported as it is asked for
 pub decoded_reported : (o : BankOrder) (bank seen : Bank) (decoded : Decoded) (due : Due) → seen ≡ bank → IsDecoded o.asked seen decoded
@@ -61,5 +62,5 @@ due_below (dues.Trial number station receivers sent (answers.Decided c q next)) 
 due_below (dues.Trial number station receivers sent (answers.Undecided c q r)) = omega arith
 due_below (dues.Trial number station receivers sent answers.Nothing) = omega arith
 
-pub is_no_failure : (due : Due) → code_of (status_of due) ≢ 6
-is_no_failure due six = omega (arith, six, due_below due)
+pub is_no_failure : (due : Due) → IsNoFailure (status_of due)
+is_no_failure due = (λ six. omega (arith, six, due_below due), λ seven. omega (arith, seven, due_below due))

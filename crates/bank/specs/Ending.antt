@@ -120,3 +120,20 @@ abbrev pub status_after : Result Status Stop → Status
 status_after (Ok status) = status
 status_after (Err Failed) = statuses.Failed
 status_after (Err NoMemory) = statuses.NoMemory
+
+-- All that a run promises, whatever its command.
+pub record HasRun {D : Type 0} (plan : Plan D) (old new : Seen) (status : ℕ) : Type 0 where
+  -- What is written, and the status, are due for contents that agree with all that is told of the files read.
+  pub due : status ≢ 6 → status ≢ 7 → DeliversDue plan old new status
+  -- Where the contents of these files are told, nothing else is written or answered.
+  pub exactly : status ≢ 6 → status ≢ 7 → (contents : Contents) → AreTold plan old contents
+      → (due : D) → plan.owes contents due → Delivers plan old new due status
+  -- 6 stands for a failed file, and each failed file ends the run with 6.
+  pub failed : status ≡ 6 → SomeWriteFails plan old new ⊎ SomeReadFails plan old new
+  pub no_fault : status ≢ 6 → SameCounts old new
+  -- What was due by then came so far.
+  pub front : status ≡ 6 → WritesNothing old new ⊎ WritesFront plan old new
+  -- 7 stands for want of memory, before anything is written.
+  pub memory : status ≡ 7 → WritesNothing old new
+  -- Every file that the plan doesn't name is as before, and no count of faults fell.
+  pub only : OnlyWritesAmong plan.files old new

@@ -1,5 +1,5 @@
 -- What is told of a bank in the order of its stations is told of the bank.
-use Rattle.std.proofs.Common.{◌≡◌, ◌≢◌, ℕ, true, false, List, [], ◌∷◌, refl, ◌∙◌, subst, arith}
+use Rattle.std.proofs.Common.{◌≡◌, true, false, List, [], ◌∷◌, refl, ◌∙◌, subst, arith}
 use Rattle.signal_base.specs.declared.window.Window.{Window}
 use Rattle.definitions.specs.answers.Answers.{IsWindowAnswer}
 use Rattle.definitions.specs.heard.Costs.{Costs}
@@ -7,7 +7,6 @@ use Rattle.formats.specs.declared.option.OptionName.TheVariants.{Count}
 use Rattle.formats.specs.declared.refusal.Refusal.TheVariants.{WordsBad}
 use Rattle.due.specs.declared.due.Due.TheVariants.{Refused}
 use Rattle.due.specs.Banks.{Bank, ordered}
-use Rattle.due.specs.Status.{code_of}
 use Rattle.due.proofs.StationLaws.{same_costs, same_window}
 use Rattle.follow_due.specs.declared.follow_due.FollowDue.{FollowDue}
 use Rattle.follow_due.specs.declared.follow_due.FollowDue.TheVariants.{Told, Windows}
@@ -16,6 +15,7 @@ use Rattle.follow_due.specs.FollowDues.{all_decided, follow_status}
 use Rattle.follow_due.specs.FollowOrders.{FollowOrder, first_window, followed_windows}
 use Rattle.follow_due.specs.FollowRules.{Bad_count, IsFollowed, Reported}
 use Rattle.follow_due.specs.Windows.{AreReportsOf, IsReportOf, StartInTime, StartTooLate, windows_from}
+use Rattle.bank.proofs.EndingLaws.{IsNoFailure}
 use Rattle.bank.proofs.EntryLaws.{same_duts}
 use Rattle.bank.proofs.RunLaws.{is_no_failure}
 
@@ -50,11 +50,11 @@ reported_windows o bank first reports is early are =
 pub refused_count : (o : FollowOrder) (bank : Bank) (first : Window) → first ≡ first_window o bank → StartTooLate first o.step o.count → IsFollowed o bank (Told (Refused (WordsBad Count)))
 refused_count o bank first is late = Bad_count (subst (λ (w : Window). StartTooLate w o.step o.count) is late) refl
 
--- no due status is one of a failed file
-pub is_no_follow_failure : (due : FollowDue) → code_of (follow_status due) ≢ 6
-is_no_follow_failure (Told due) six = is_no_failure due six
-is_no_follow_failure (Windows reports) six = by_cases (all_decided reports) refl six
+-- no due status is one of a failure
+pub is_no_follow_failure : (due : FollowDue) → IsNoFailure (follow_status due)
+is_no_follow_failure (Told due) = is_no_failure due
+is_no_follow_failure (Windows reports) = by_cases (all_decided reports) refl
   where
-    by_cases : (all : _) → all_decided reports ≡ all → code_of (follow_status (Windows reports)) ≡ 6 → ⊥
-    by_cases true is six = omega (arith, rw is at six)
-    by_cases false is six = omega (arith, rw is at six)
+    by_cases : (all : _) → all_decided reports ≡ all → IsNoFailure (follow_status (Windows reports))
+    by_cases true is = (λ six. omega (arith, rw is at six), λ seven. omega (arith, rw is at seven))
+    by_cases false is = (λ six. omega (arith, rw is at six), λ seven. omega (arith, rw is at seven))

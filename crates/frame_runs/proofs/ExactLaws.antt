@@ -20,9 +20,9 @@ all_same old words some told agrees all input file (Reads_frames asks is) =
     subst (λ (t : Told). Finds t (λ bytes. some input ≡ bytes)) (all input file (Reads_frames asks is)) (agrees input file (Reads_frames asks is))
 
 -- where the contents are told, it is what is due for them
-pub irig_exactly : (old new : Seen) (words : List (List ℕ)) (code : ℕ) → DeliversDue (frame_plan words) old new code
+pub irig_exactly : (words : List (List ℕ)) (old new : Seen) (code : ℕ) → DeliversDue (frame_plan words) old new code
     → (contents : Contents) → AreTold (frame_plan words) old contents → (due : FrameDue) → IsFrameDue words contents due
     → Delivers (frame_plan words) old new due code
-irig_exactly old new words code delivers contents all due also =
+irig_exactly words old new code delivers contents all due also =
     delivered_exactly (frame_plan words) (λ told a b. one_frame_due told words a b) (λ some other same d. (same_frame_due words some other same d).0) old new contents code
     (λ some agrees. all_same old words some contents agrees all) delivers due also

@@ -1,5 +1,5 @@
 -- How the answer for a bank is told, and with which numbers a run doesn't end.
-use Rattle.std.proofs.Common.{◌≡◌, ◌≢◌, ℕ, ◌<◌, refl, sym, ap, ◌∙◌, subst, arith}
+use Rattle.std.proofs.Common.{◌≡◌, ◌<◌, refl, sym, ap, ◌∙◌, subst, arith}
 use Rattle.signal_base.specs.declared.window.Window.{Window}
 use Rattle.definitions.specs.declared.answer.Answer.{Answer}
 use Rattle.definitions.specs.declared.answer.Answer.TheVariants as answers
@@ -9,11 +9,11 @@ use Rattle.due.specs.declared.frame_due.FrameDue.TheVariants as frame_dues
 use Rattle.due.specs.Banks.{Bank, IsBankAnswer, ordered, start_of, window_of}
 use Rattle.due.specs.FrameDues.{frame_status}
 use Rattle.due.specs.FrameRules.{IsFramed, framed}
-use Rattle.due.specs.Status.{code_of}
 use Rattle.due.proofs.StationLaws.{same_window}
 use Rattle.due.proofs.WindowLaws.{phase_in_range}
 use Rattle.bank.specs.declared.decoding.Decoded.{Decoded}
 use Rattle.bank.specs.Finding.{IsDecoded}
+use Rattle.bank.proofs.EndingLaws.{IsNoFailure}
 use Rattle.bank.proofs.EntryLaws.{answer_in_order}
 use Rattle.bank.proofs.RunLaws.{is_no_failure}
 
@@ -45,10 +45,10 @@ pub decoded_in_order : (asked : Asked) (bank seen : Bank) (decoded : Decoded) (d
     → due ≡ framed decoded.window seen decoded.answer → IsFramed asked bank due
 decoded_in_order asked bank seen decoded due same is e = framed_in_order asked bank due (decoded_framed asked (ordered bank) seen decoded due same is e)
 
--- no due status is one of a failed file
-pub is_no_frame_failure : (due : FrameDue) → code_of (frame_status due) ≢ 6
-is_no_frame_failure (frame_dues.Told due) six = is_no_failure due six
-is_no_frame_failure (frame_dues.Frames window q) six = omega (arith, six)
-is_no_frame_failure (frame_dues.Read frames) six = omega (arith, six)
-is_no_frame_failure frame_dues.TooLarge six = omega (arith, six)
-is_no_frame_failure (frame_dues.BadLine line fault) six = omega (arith, six)
+-- no due status is one of a failure
+pub is_no_frame_failure : (due : FrameDue) → IsNoFailure (frame_status due)
+is_no_frame_failure (frame_dues.Told due) = is_no_failure due
+is_no_frame_failure (frame_dues.Frames window q) = (λ six. omega (arith, six), λ seven. omega (arith, seven))
+is_no_frame_failure (frame_dues.Read frames) = (λ six. omega (arith, six), λ seven. omega (arith, seven))
+is_no_frame_failure frame_dues.TooLarge = (λ six. omega (arith, six), λ seven. omega (arith, seven))
+is_no_frame_failure (frame_dues.BadLine line fault) = (λ six. omega (arith, six), λ seven. omega (arith, seven))

@@ -1,14 +1,10 @@
 //! One run of a command of frames.
 
-ghost use Rattle.std.specs.Prelude.{◌≡◌, ◌≢◌, ◌⊎◌, Err};
-ghost use Rattle.bank_files.specs.Seen.{SameCounts};
+ghost use Rattle.std.specs.Prelude.{◌≡◌, Err};
 ghost use Rattle.bank_words.specs.Seen.{texts_of};
-ghost use Rattle.due.specs.declared.frame_due.FrameDue.{FrameDue as ADue};
 ghost use Rattle.due.specs.FrameOrders.{frame_order_in};
-ghost use Rattle.due.specs.FrameRules.{IsFrameDue};
-ghost use Rattle.due.specs.Inputs.{Contents};
 ghost use Rattle.due.specs.Plans.{frame_plan};
-ghost use Rattle.bank.specs.Ending.{AreTold, Delivers, DeliversDue, Ends, OnlyWritesAmong, SomeReadFails, SomeWriteFails, WritesFront, WritesNothing};
+ghost use Rattle.bank.specs.Ending.{Ends, HasRun, OnlyWritesAmong};
 ghost use Rattle.frame_runs.specs.Tasks.{Asks, IsInRange};
 
 use crate::command::FrameCommand;
@@ -46,25 +42,8 @@ pub fn irig<R: Threads + Sync, F: Files, G: Gate + Sync>(
     files: &mut F,
     gate: &G,
 ) -> u8
-    // What is written, and the status, are due for contents that agree with all that is told of the files read.
-    ensures due { result ≢ 6 → result ≢ 7
-        → DeliversDue (frame_plan (texts_of words.now)) (F.view files.old) (F.view files.new) result }
-    // Where the contents of these files are told, nothing else is written or answered.
-    ensures exactly { result ≢ 6 → result ≢ 7
-        → (contents : Contents) → AreTold (frame_plan (texts_of words.now)) (F.view files.old) contents
-        → (due : ADue) → IsFrameDue (texts_of words.now) contents due
-        → Delivers (frame_plan (texts_of words.now)) (F.view files.old) (F.view files.new) due result }
-
-    // 6 stands for a failed file, and each failed file ends the run with 6.
-    ensures failed { result ≡ 6 → SomeWriteFails (frame_plan (texts_of words.now)) (F.view files.old) (F.view files.new)
-        ⊎ SomeReadFails (frame_plan (texts_of words.now)) (F.view files.old) (F.view files.new) }
-    ensures no_fault { result ≢ 6 → SameCounts (F.view files.old) (F.view files.new) }
-    ensures front { result ≡ 6 → WritesNothing (F.view files.old) (F.view files.new)
-        ⊎ WritesFront (frame_plan (texts_of words.now)) (F.view files.old) (F.view files.new) }
-    ensures memory { result ≡ 7 → WritesNothing (F.view files.old) (F.view files.new) }
-
-    // Every file that the words don't ask to be written is as before, and no count of faults fell.
-    ensures only { OnlyWritesAmong (frame_plan (texts_of words.now)).files (F.view files.old) (F.view files.new) }
+    // Seven promises: `due`, `exactly`, `failed`, `no_fault`, `front`, `memory` and `only`.
+    ensures { HasRun (frame_plan (texts_of words.now)) (F.view files.old) (F.view files.new) result }
 {
     status_after(carry_out(rt, alloc, words, files, gate)).code()
 }

@@ -1,53 +1,29 @@
 -- How a run ends that shows what was heard.
-use Rattle.std.proofs.Common.{◌≡◌, ◌≢◌, ℕ, ◌⊎◌, false, List, [], ◌∷◌, Result, Ok, Err, inl, inr, refl, arith}
+use Rattle.std.proofs.Common.{◌≡◌, ℕ, ◌⊎◌, List, [], Result, Ok, Err, inl, inr, refl, arith}
 use Rattle.bank_files.specs.Told.{output_name}
 use Rattle.bank_files.specs.Seen.{Seen, Writes}
 use Rattle.bank_files.proofs.Chaining.{OnlyReads-start, SameCounts-start}
 use Rattle.formats.specs.declared.words.WordFault.{WordFault}
-use Rattle.formats.specs.declared.words.WordFault.TheVariants.{BadMinute, BadNumber, EmptyRange, Usage}
 use Rattle.formats.specs.Heard.{Hearing as PlainHearing}
 use Rattle.due.specs.declared.due.Due.TheVariants.{Refused}
 use Rattle.due.specs.declared.heard_due.HeardDue.{HeardDue}
 use Rattle.due.specs.declared.heard_due.HeardDue.TheVariants.{Heard, Told}
 use Rattle.due.specs.declared.status.Status.{Status}
-use Rattle.due.specs.declared.status.Status.TheVariants.{BadWords}
 use Rattle.due.specs.Dues.{status_of, text_of}
 use Rattle.due.specs.HeardRuns.{Bad_words, heard_order, heard_plan, heard_status}
 use Rattle.due.specs.Orders.{word_refusal}
-use Rattle.due.specs.Outputs.{standard_output}
-use Rattle.due.specs.Status.{code_of}
 use Rattle.bank.specs.declared.stop.Stop.{Stop}
 use Rattle.bank.specs.declared.stop.Stop.TheVariants.{Failed, NoMemory}
-use Rattle.bank.specs.Ending.{Ends, IsFound, SomeReadFails, SomeWriteFails, WritesAll, WritesFront, WritesNothing}
-use Rattle.bank.proofs.EndingLaws.{due_not_written, due_written, found_at_once}
+use Rattle.bank.specs.Ending.{Ends, IsFound, SomeReadFails, SomeWriteFails, WritesFront, WritesNothing}
+use Rattle.bank.proofs.EndingLaws.{IsNoFailure, due_not_written, due_written, found_at_once, one_written}
 use Rattle.bank.proofs.RunLaws as runs
 use Rattle.heard.specs.Seen.{due_seen, kept_plan}
 use Rattle.heard.proofs.FindingLaws.{refused_reads_nothing}
 
 -- no status that is due is one of a failure
-pub is_no_failure : (due : HeardDue PlainHearing) → code_of (heard_status due) ≢ 6
-is_no_failure (Told due) six = runs.is_no_failure due six
-is_no_failure (Heard h) six = omega (arith, six)
-
--- a text that is added to standard output is one output that is written
-pub text_written : {E : Type 0} (old new : Seen) (text : List ℕ) (r : Result (Unit {0}) E) → Writes output_name old new text r
-    → WritesAll (record { file = standard_output; anew = false; text = text } ∷ []) old new r
-text_written old new text (Ok u) written = record {
-  whole = (written.whole, tt);
-  front = tt;
-  cause = tt;
-  same_counts = written.same_counts;
-  others = λ file other. written.only.others file other.0;
-  counts = written.only.counts;
-}
-text_written old new text (Err e) written = record {
-  whole = tt;
-  front = inl (inr written.front, tt);
-  cause = inl written.cause;
-  same_counts = tt;
-  others = λ file other. written.only.others file other.0;
-  counts = written.only.counts;
-}
+pub is_no_failure : (due : HeardDue PlainHearing) → IsNoFailure (heard_status due)
+is_no_failure (Told due) = runs.is_no_failure due
+is_no_failure (Heard h) = (λ six. omega (arith, six), λ seven. omega (arith, seven))
 
 -- an end over what is kept is one over what is seen
 pub ends_as_seen : (words : List (List ℕ)) (old new : Seen) (r : Result Status Stop) → Ends (kept_plan words) old new r → Ends (heard_plan words) old new r
@@ -73,17 +49,10 @@ module _ (old new : Seen) (words : List (List ℕ)) (fault : WordFault) where
       → Ends (heard_plan words) old new (Ok (status_of (Refused (word_refusal fault))))
   words_refused {E} asks written =
       due_written (heard_plan words) {E = E} old old new (Told (Refused (word_refusal fault))) (found asks) (OnlyReads-start old) (SameCounts-start old)
-      (text_written old new (text_of (Refused (word_refusal fault))) (Ok tt) written)
+      (one_written old new (text_of (Refused (word_refusal fault))) (Ok tt) written)
 
   pub words_not_refused : {E : Type 0} (e : E) → heard_order words ≡ Err fault → Writes output_name old new (text_of (Refused (word_refusal fault))) (Err e)
       → Ends (heard_plan words) old new (Err Failed)
   words_not_refused e asks written =
       due_not_written (heard_plan words) old old new (Told (Refused (word_refusal fault))) (found asks) (OnlyReads-start old) (SameCounts-start old) e
-      (text_written old new (text_of (Refused (word_refusal fault))) (Err e) written)
-
--- the status of a refusal of words
-pub words_status : (fault : WordFault) → status_of (Refused (word_refusal fault)) ≡ BadWords
-words_status Usage = refl
-words_status (BadNumber option) = refl
-words_status (BadMinute option) = refl
-words_status EmptyRange = refl
+      (one_written old new (text_of (Refused (word_refusal fault))) (Err e) written)

@@ -1,14 +1,10 @@
 //! One run that shows what was heard.
 
-ghost use Rattle.std.specs.Prelude.{◌≡◌, ◌≢◌, ◌⊎◌, Err};
-ghost use Rattle.bank_files.specs.Seen.{SameCounts};
-ghost use Rattle.formats.specs.Heard.{Hearing as PlainHearing};
+ghost use Rattle.std.specs.Prelude.{◌≡◌, Err};
 ghost use Rattle.formats.specs.OrderRanges.{IsAsked, IsFile};
 ghost use Rattle.bank_words.specs.Seen.{texts_of};
-ghost use Rattle.due.specs.declared.heard_due.HeardDue.{HeardDue};
-ghost use Rattle.due.specs.HeardRuns.{AsksHeard, IsHeardDue, heard_order, heard_plan};
-ghost use Rattle.due.specs.Inputs.{Contents};
-ghost use Rattle.bank.specs.Ending.{AreTold, Delivers, DeliversDue, Ends, OnlyWritesAmong, SomeReadFails, SomeWriteFails, WritesFront, WritesNothing, status_after};
+ghost use Rattle.due.specs.HeardRuns.{AsksHeard, heard_order, heard_plan};
+ghost use Rattle.bank.specs.Ending.{Ends, HasRun, OnlyWritesAmong};
 ghost use Rattle.bank.specs.Tasks.{AreWorkers};
 ghost use Rattle.heard.specs.Asking.{asked_seen};
 
@@ -16,7 +12,7 @@ use crate::ask::Ask;
 use crate::command::Command;
 use crate::find::find_due;
 use crate::words::{asked_by, decode_words};
-use bank::{Stop, perform, word_refusal};
+use bank::{Stop, perform, status_after, word_refusal};
 use bank_files::Files;
 use civil::Civil;
 use due::Status;
@@ -47,37 +43,10 @@ pub fn run<R: Threads + Sync, F: Files, G: Gate + Sync>(
     files: &mut F,
     gate: &G,
 ) -> u8
-    // What is written, and the status, are due for contents that agree with all that is told of the files read.
-    ensures due { result ≢ 6 → result ≢ 7
-        → DeliversDue (heard_plan (texts_of words.now)) (F.view files.old) (F.view files.new) result }
-    // Where the contents of these files are told, nothing else is written or answered.
-    ensures exactly { result ≢ 6 → result ≢ 7
-        → (contents : Contents) → AreTold (heard_plan (texts_of words.now)) (F.view files.old) contents
-        → (due : HeardDue PlainHearing) → IsHeardDue (texts_of words.now) contents due
-        → Delivers (heard_plan (texts_of words.now)) (F.view files.old) (F.view files.new) due result }
-
-    // 6 stands for a failed file, and each failed file ends the run with 6.
-    ensures failed { result ≡ 6 → SomeWriteFails (heard_plan (texts_of words.now)) (F.view files.old) (F.view files.new)
-        ⊎ SomeReadFails (heard_plan (texts_of words.now)) (F.view files.old) (F.view files.new) }
-    ensures no_fault { result ≢ 6 → SameCounts (F.view files.old) (F.view files.new) }
-    ensures front { result ≡ 6 → WritesNothing (F.view files.old) (F.view files.new)
-        ⊎ WritesFront (heard_plan (texts_of words.now)) (F.view files.old) (F.view files.new) }
-    ensures memory { result ≡ 7 → WritesNothing (F.view files.old) (F.view files.new) }
-
-    // Every file but standard output is as before, and no count of faults fell.
-    ensures only { OnlyWritesAmong (heard_plan (texts_of words.now)).files (F.view files.old) (F.view files.new) }
+    // Seven promises: `due`, `exactly`, `failed`, `no_fault`, `front`, `memory` and `only`.
+    ensures { HasRun (heard_plan (texts_of words.now)) (F.view files.old) (F.view files.new) result }
 {
     status_after(carry_out(rt, alloc, words, files, gate)).code()
-}
-
-fn status_after(end: Result<Status, Stop>) -> Status
-    ensures { result ≡ status_after end }
-{
-    match end {
-        Ok(status) => status,
-        Err(Stop::Failed) => Status::Failed,
-        Err(Stop::NoMemory) => Status::NoMemory,
-    }
 }
 
 // Judges the words, and does what they ask for.

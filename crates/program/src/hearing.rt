@@ -1,10 +1,13 @@
 //! The program `tsheard`, which shows what was heard: all as in `tsbank`, but for the one call in its middle.
 
-ghost use Rattle.std.specs.Prelude.{◌≡◌, ℕ};
+ghost use Rattle.std.specs.Prelude.{ℕ};
 ghost use Rattle.std.specs.Process.{exit_status};
 ghost use Rattle.bank_words.specs.Seen.{texts_of};
+ghost use Rattle.due.specs.HeardRuns.{heard_plan};
+ghost use Rattle.bank.specs.Ending.{HasRun};
 ghost use Rattle.machine_files.specs.Disk.{Disk};
-ghost use Rattle.program.specs.HeardRuns.{EndsHeard, HasHeard, HasHeardOn};
+ghost use Rattle.program.specs.HeardRuns.{EndsHeard};
+ghost use Rattle.program.specs.Runs.{HasRunOn};
 
 use crate::command_line::{CommandLine, HostLine, words};
 use crate::ending::exit_code;
@@ -86,7 +89,7 @@ pub fn run<R: Threads + Sync, M: Machine, E: Eprint, S: Clock + Eprint + Sync>(
     error: &E,
     progress: &Progress<'_, S>,
 ) -> Ended<M>
-    ensures { HasHeardOn (texts_of words.now) (M.disk machine) (M.disk result.machine) (M.failures result.machine) result.status }
+    ensures { HasRunOn (heard_plan (texts_of words.now)) (M.disk machine) (M.disk result.machine) (M.failures result.machine) result.status }
 {
     let mut files = RealFiles::new(alloc, machine);
     let status = answer(rt, alloc, words, &mut files, progress);
@@ -106,7 +109,7 @@ pub fn answer<R: Threads + Sync, F: Files, G: Gate + Sync>(
     files: &mut F,
     gate: &G,
 ) -> u8
-    ensures { HasHeard (texts_of words.now) (F.view files.old) (F.view files.new) result }
+    ensures { HasRun (heard_plan (texts_of words.now)) (F.view files.old) (F.view files.new) result }
 {
     heard::run(rt, alloc, words, files, gate)
 }

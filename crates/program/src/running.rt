@@ -1,8 +1,9 @@
 //! A run over a machine, for the words of a command line.
 
 ghost use Rattle.bank_words.specs.Seen.{texts_of};
+ghost use Rattle.bank.specs.Ending.{HasRun};
 ghost use Rattle.program.specs.Families.{plan_for};
-ghost use Rattle.program.specs.Runs.{HasRun, HasRunOn};
+ghost use Rattle.program.specs.Runs.{HasRunOn};
 
 use crate::commands::family_of;
 use crate::family::Family;
@@ -34,7 +35,7 @@ pub fn run<R: Threads + Sync, M: Machine, E: Eprint, S: Clock + Eprint + Sync>(
     error: &E,
     progress: &Progress<'_, S>,
 ) -> Ended<M>
-    ensures { HasRunOn (texts_of words.now) (M.disk machine) (M.disk result.machine) (M.failures result.machine) result.status }
+    ensures { HasRunOn (plan_for (texts_of words.now)) (M.disk machine) (M.disk result.machine) (M.failures result.machine) result.status }
 {
     let mut files = RealFiles::new(alloc, machine);
     let status = answer(rt, alloc, words, &mut files, progress);

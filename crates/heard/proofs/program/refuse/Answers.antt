@@ -5,7 +5,8 @@ use Rattle.due.specs.declared.status.Status.{Status}
 use Rattle.due.specs.HeardRuns.{heard_plan}
 use Rattle.bank_words.specs.Seen.{texts_of}
 use Rattle.bank.specs.Ending.{Ends}
-use Rattle.heard.proofs.EndingLaws.{words_not_refused, words_refused, words_status}
+use Rattle.bank.proofs.RefusalLaws.{words_status}
+use Rattle.heard.proofs.EndingLaws.{words_not_refused, words_refused}
 use Rattle.heard.proofs.program.refuse.Goals as goal
 
 pub returns-in_err-write_refusal-clause-ends : goal.returns-in_err-write_refusal-clause-ends

@@ -1,23 +1,15 @@
--- What is delivered where contents are told is what is due for them.
+-- A run that ended so has run its plan.
 use Rattle.std.proofs.Common.{ap, ◌∙◌}
 use Rattle.due.specs.HeardRuns.{heard_plan}
 use Rattle.due.specs.Status.{code_of}
 use Rattle.bank_words.specs.Seen.{texts_of}
-use Rattle.bank.proofs.EndingLaws.{delivers_due, failed_file}
+use Rattle.bank.proofs.EndingLaws.{has_run}
 use Rattle.heard.proofs.EndingLaws.{is_no_failure}
 use Rattle.heard.proofs.ExactLaws.{run_exactly}
 use Rattle.heard.proofs.program.run.Goals as goal
 
-pub returns-clause-due : goal.returns-clause-due
-returns-clause-due g c =
-    delivers_due (heard_plan (texts_of c.args.words.now)) (g.F.Files.view c.args.files.now) (g.F.Files.view c.carry_out.new.files) c.carry_out.result c.code.result
-    (c.code.ensures ∙ ap code_of c.status_after.ensures) c.carry_out.ensures.ends
-
-pub returns-clause-exactly : goal.returns-clause-exactly
-returns-clause-exactly g c = λ six seven.
-    run_exactly (g.F.Files.view c.args.files.now) (g.F.Files.view c.carry_out.new.files) (texts_of c.args.words.now) c.code.result (returns-clause-due g c six seven)
-
-pub returns-clause-failed : goal.returns-clause-failed
-returns-clause-failed g c =
-    failed_file (heard_plan (texts_of c.args.words.now)) is_no_failure (g.F.Files.view c.args.files.now) (g.F.Files.view c.carry_out.new.files) c.carry_out.result c.code.result
-    (c.code.ensures ∙ ap code_of c.status_after.ensures) c.carry_out.ensures.ends
+pub returns : goal.returns
+returns g c =
+    let words = texts_of c.args.words.now in
+    has_run (heard_plan words) is_no_failure (run_exactly words) (g.F.Files.view c.args.files.now) (g.F.Files.view c.carry_out.new.files) c.carry_out.result c.code.result
+    (c.code.ensures ∙ ap code_of c.status_after.ensures) c.carry_out.ensures.ends c.carry_out.ensures.only

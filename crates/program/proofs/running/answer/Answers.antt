@@ -1,55 +1,22 @@
 -- The call that runs the words promises all that is due for their plan.
-use Rattle.std.proofs.Common.{◌≡◌, sym, ◌∙◌, subst}
+use Rattle.std.proofs.Common.{sym, ◌∙◌, subst}
 use Rattle.bank_words.specs.Seen.{texts_of}
+use Rattle.bank.specs.Ending.{HasRun}
 use Rattle.program.specs.declared.family.Family.{Family}
 use Rattle.program.specs.Families.{family_plan}
-use Rattle.program.specs.Runs.{HasRun}
 use Rattle.program.proofs.running.answer.Goals as goal
 
 pub returns-in-OfRun : goal.returns-in-OfRun
 returns-in-OfRun g c =
-    let words = texts_of c.args.words.now in
-    let promised = c.run.ensures in
-    subst (λ (family : Family). HasRun (family_plan family words) (g.F.Files.view c.args.files.now) (g.F.Files.view c.run.new.files) c.run.result)
-    (sym c.in-OfRun.is ∙ c.family_of.ensures)
-    (record {
-      due = promised.due;
-      exactly = promised.exactly;
-      failed = promised.failed;
-      no_fault = promised.no_fault;
-      front = promised.front;
-      memory = promised.memory;
-      only = promised.only;
-    })
+    subst (λ (family : Family). HasRun (family_plan family (texts_of c.args.words.now)) (g.F.Files.view c.args.files.now) (g.F.Files.view c.run.new.files) c.run.result)
+    (sym c.in-OfRun.is ∙ c.family_of.ensures) c.run.ensures
 
 pub returns-in-OfFrames : goal.returns-in-OfFrames
 returns-in-OfFrames g c =
-    let words = texts_of c.args.words.now in
-    let promised = c.irig.ensures in
-    subst (λ (family : Family). HasRun (family_plan family words) (g.F.Files.view c.args.files.now) (g.F.Files.view c.irig.new.files) c.irig.result)
-    (sym c.in-OfFrames.is ∙ c.family_of.ensures)
-    (record {
-      due = promised.due;
-      exactly = promised.exactly;
-      failed = promised.failed;
-      no_fault = promised.no_fault;
-      front = promised.front;
-      memory = promised.memory;
-      only = promised.only;
-    })
+    subst (λ (family : Family). HasRun (family_plan family (texts_of c.args.words.now)) (g.F.Files.view c.args.files.now) (g.F.Files.view c.irig.new.files) c.irig.result)
+    (sym c.in-OfFrames.is ∙ c.family_of.ensures) c.irig.ensures
 
 pub returns-in-OfFollow : goal.returns-in-OfFollow
 returns-in-OfFollow g c =
-    let words = texts_of c.args.words.now in
-    let promised = c.follow.ensures in
-    subst (λ (family : Family). HasRun (family_plan family words) (g.F.Files.view c.args.files.now) (g.F.Files.view c.follow.new.files) c.follow.result)
-    (sym c.in-OfFollow.is ∙ c.family_of.ensures)
-    (record {
-      due = promised.due;
-      exactly = promised.exactly;
-      failed = promised.failed;
-      no_fault = promised.no_fault;
-      front = promised.front;
-      memory = promised.memory;
-      only = promised.only;
-    })
+    subst (λ (family : Family). HasRun (family_plan family (texts_of c.args.words.now)) (g.F.Files.view c.args.files.now) (g.F.Files.view c.follow.new.files) c.follow.result)
+    (sym c.in-OfFollow.is ∙ c.family_of.ensures) c.follow.ensures
