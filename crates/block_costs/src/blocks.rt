@@ -47,7 +47,7 @@ impl<'a> StationBlocks<'a> {
         walks: StationWalks<'a>,
         keep_days: bool,
     ) -> Result<StationBlocks<'a>, AllocError>
-        ensures { IfOk result (λ blocks. blocks ≡ walks) }
+        ensures { IfOk result (λ blocks. blocks ≡ walks.entry) }
     {
         let days = if keep_days { CENTURY_DAYS } else { 0 };
         let days = kept_days(alloc, &walks, days)?;

@@ -38,7 +38,7 @@ pub fn stations_of<'a>(
 
 // One more station.
 fn add<'a>(stations: &mut Vec<StationSums<'a>>, station: StationSums<'a>) -> Result<(), AllocError>
-    ensures { IfOk result (λ _. stations.new.items ≡ stations.old.items ++ station ∷ []) }
+    ensures { IfOk result (λ _. stations.new.items ≡ stations.old.items ++ station.entry ∷ []) }
 {
     stations.push(station)?;
     Ok(())
