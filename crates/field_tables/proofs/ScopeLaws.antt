@@ -1,6 +1,7 @@
 -- Which parts there are of a window's stations.
-use Rattle.std.proofs.Common.{◌≡◌, ℕ, ◌<◌, Bool, true, false, if◌then◌else◌, List, [], ◌∷◌, ◌++◌, length, get_or, map, filter, refl, sym, ap, ◌∙◌, subst, arith, append_assoc, append-nil}
+use Rattle.std.proofs.Common.{◌≡◌, ℕ, ◌+◌, ◌<◌, ◌≤◌, Bool, true, false, not, if◌then◌else◌, List, [], ◌∷◌, ◌++◌, length, get_or, map, filter, refl, sym, ap, ◌∙◌, subst, arith, append_assoc, append-nil}
 use Rattle.std.proofs.lemmas.List.{get_or-map, length-map}
+use Rattle.std.proofs.lemmas.List.Filters.{length-filter_both}
 use Rattle.signal_base.specs.declared.station.Station.{Station}
 use Rattle.signal_base.specs.declared.station.Station.TheVariants.{Dcf77, Msf, Wwvb, Jjy}
 use Rattle.signal_base.specs.declared.station.Stations.{Stations}
@@ -45,6 +46,15 @@ module _ (window : Window) (grids : List Grid) (are : AreGrids window grids) whe
   as_many_scopes =
       ap (λ (xs : List Scope). length xs) by_grids
       ∙ length-map (map (λ (g : Grid). g.station) grids) (scope_of window.seconds) ∙ length-map grids (λ (g : Grid). g.station)
+
+  -- no window has more than four
+  pub few_grids : length grids ≤ 4
+  few_grids =
+      let has = has_station window.stations in
+      let same : length (map (λ (g : Grid). g.station) grids) ≡ length (filter has (Dcf77 ∷ Msf ∷ Wwvb ∷ Jjy ∷ [])) =
+      ap (λ (xs : List Station). length xs) are.stations in
+      let others = length-filter_both has (λ (s : Station). not (has s)) (λ s. refl) (Dcf77 ∷ Msf ∷ Wwvb ∷ Jjy ∷ []) in
+      omega (arith, same, length-map grids (λ (g : Grid). g.station), others)
 
   pub scope_at : (i : ℕ) (g : Grid) (d : Scope) → i < length grids
       → get_or (scopes_of window.stations window.seconds) i d ≡ scope_of (length (get_or grids i g).rows) (get_or grids i g).station

@@ -1,7 +1,7 @@
 //! What stations may send, whatever was heard. It takes much of the time that tables take, and serves for each window of the same
 //! stations and length.
 
-ghost use Rattle.std.specs.Prelude.{◌≡◌, ◌++◌, ◌≤◌, IfOk, OnOk};
+ghost use Rattle.std.specs.Prelude.{◌≡◌, ◌∷◌, ◌++◌, ◌≤◌, IfOk, OnOk, []};
 ghost use Rattle.signal_base.specs.declared.limits.TheConstants.{MOST_SECONDS};
 ghost use Rattle.definitions.specs.sequences.Windows.{IsWindow};
 ghost use Rattle.field_tables.specs.Scopes.{scope_if, scopes_of};
@@ -11,7 +11,7 @@ use civil::Civil;
 use leap_unions::LeapUnions;
 use minute_parts::{Parts, Unions};
 use signal_base::{Station, Window};
-use std::alloc::Global;
+use std::alloc::{AllocError, Global};
 use std::marker::Model;
 
 /// What a station may send in windows of so many seconds. Contracts see the station and the seconds.
@@ -88,6 +88,14 @@ fn add_if_heard(
         return Ok(());
     }
     let one = StationParts::make(alloc, civil, station, window.seconds)?;
+    add(parts, one)?;
+    Ok(())
+}
+
+// One more station.
+fn add(parts: &mut Vec<StationParts>, one: StationParts) -> Result<(), AllocError>
+    ensures { OnOk result (parts.new.items ≡ parts.old.items ++ one ∷ []) }
+{
     parts.push(one)?;
     Ok(())
 }

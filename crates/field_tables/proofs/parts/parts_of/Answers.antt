@@ -15,5 +15,5 @@ returns c =
     ∙ ap (λ (xs : List Scope). xs ++ scope_if stations seconds Wwvb)
     (c.in_ok-add_if_heard-2.ensures
     ∙ ap (λ (xs : List Scope). xs ++ scope_if stations seconds Msf)
-    (c.in_ok-add_if_heard.ensures ∙ ap (λ (xs : List Scope). xs ++ scope_if stations seconds Dcf77) c.in_ok-parts.ensures)))
+    (c.in_ok-add_if_heard.ensures ∙ ap (λ (xs : List Scope). xs ++ scope_if stations seconds Dcf77) c.in_ok-parts.ensures.items)))
     ∙ one_by_one stations seconds
