@@ -1,12 +1,12 @@
 -- Which parts there are of a window's stations.
-use Rattle.std.proofs.Common.{◌≡◌, ℕ, ◌+◌, ◌<◌, ◌≤◌, Bool, true, false, not, if◌then◌else◌, List, [], ◌∷◌, ◌++◌, length, get_or, map, filter, refl, sym, ap, ◌∙◌, subst, arith, append_assoc, append-nil}
+use Rattle.std.proofs.Common.{◌≡◌, ℕ, ◌<◌, ◌≤◌, Bool, true, false, not, if◌then◌else◌, List, [], ◌∷◌, ◌++◌, length, get_or, map, filter, refl, sym, ap, ◌∙◌, arith, append_assoc, append-nil}
 use Rattle.std.proofs.lemmas.List.{get_or-map, length-map}
 use Rattle.std.proofs.lemmas.List.Filters.{length-filter_both}
 use Rattle.signal_base.specs.declared.station.Station.{Station}
 use Rattle.signal_base.specs.declared.station.Station.TheVariants.{Dcf77, Msf, Wwvb, Jjy}
 use Rattle.signal_base.specs.declared.station.Stations.{Stations}
 use Rattle.signal_base.specs.declared.window.Window.{Window}
-use Rattle.definitions.specs.codes.Allowed.{has_station, stations_of}
+use Rattle.definitions.specs.codes.Allowed.{has_station}
 use Rattle.symbol_cost.specs.Grid.{Grid}
 use Rattle.plain_costs.specs.Grids.{AreGrids}
 use Rattle.leap_unions.specs.Scope.{Scope}

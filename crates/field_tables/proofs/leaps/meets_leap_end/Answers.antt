@@ -1,5 +1,4 @@
-use Rattle.std.proofs.Common.{◌≡◌, ◌+◌, ◌*◌, ◌/◌, ◌<◌, ◌≤◌, ℕ, inl, inr, false, subst, arith}
-use Rattle.std.proofs.lemmas.Bool.{cases_lt}
+use Rattle.std.proofs.Common.{◌≡◌, ◌+◌, ◌*◌, ◌/◌, false, subst, arith}
 use Rattle.definitions.specs.time.Calendar.{is_leap_end}
 use Rattle.field_tables.proofs.UnionBoundLaws.{no_leap_end}
 use Rattle.field_tables.proofs.leaps.meets_leap_end.Goals as goal

@@ -1,4 +1,4 @@
-use Rattle.std.proofs.Common.{◌≡◌, ℕ, ◌+◌, ◌<◌, ◌≤◌, ap, ◌∙◌, arith}
+use Rattle.std.proofs.Common.{◌≡◌, ℕ, ◌+◌, ap, ◌∙◌, arith}
 use Rattle.std.proofs.Math.Nat.{min-le_right}
 use Rattle.walk_costs.specs.Walks.{cost_of}
 use Rattle.field_tables.proofs.FloorLaws.{joined}

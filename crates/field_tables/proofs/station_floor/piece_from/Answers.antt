@@ -1,4 +1,4 @@
-use Rattle.std.proofs.Common.{◌+◌, ◌<◌, ◌≤◌, subst, arith}
+use Rattle.std.proofs.Common.{subst, arith}
 use Rattle.minute_parts.specs.Parts.{IsPartTable}
 use Rattle.walk_costs.proofs.RunLaws.{in_century}
 use Rattle.field_tables.proofs.station_floor.piece_from.Goals as goal
