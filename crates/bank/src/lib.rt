@@ -22,7 +22,7 @@ mod tests;
 mod trial;
 mod words;
 
-pub use decoding::{Decoded, decode, decode_window};
+pub use decoding::{Decoded, decode, decode_window, decode_window_by};
 pub use deliver::{deliver_due, print};
 pub use first_two::{DecideFault, decide, decide_by, decide_with};
 pub use grids::{advance_grids, grids_of, places_of};

@@ -6,6 +6,7 @@ ghost use Rattle.bank.specs.declared.stop.Stop.TheVariants as stops;
 use crate::first_two::DecideFault;
 use bank_files::Failed;
 use civil::CivilFault;
+use field_tables::TablesFault;
 use std::alloc::{AllocError, AllocFailed};
 use symbol_cost::GridFault;
 use trial_log::TrialFault;
@@ -55,6 +56,14 @@ impl From<GridFault> for Stop {
     ghost from_gives = { λ _ stop. stop ≡ stops.NoMemory };
 
     fn from(_fault: GridFault) -> Stop {
+        Stop::NoMemory
+    }
+}
+
+impl From<TablesFault> for Stop {
+    ghost from_gives = { λ _ stop. stop ≡ stops.NoMemory };
+
+    fn from(_fault: TablesFault) -> Stop {
         Stop::NoMemory
     }
 }
