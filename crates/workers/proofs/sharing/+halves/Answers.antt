@@ -1,13 +1,26 @@
--- Two workers put together.
-use Rattle.std.proofs.Common.{◌≡◌, ◌+◌, ◌-◌, ◌/◌, subst, arith, rules}
+-- One worker alone, and two halves put together.
+use Rattle.std.proofs.Common.{◌≡◌, ◌+◌, ◌-◌, ◌/◌, sym, ◌∙◌, subst, arith, rules}
 use Rattle.std.proofs.lemmas.Result.{on_ok_weaker}
 use Rattle.field_tables.specs.Scored.{costs_of}
 use Rattle.workers.specs.Recorded.{HaveShared}
-use Rattle.workers.proofs.Recording.{both_recorded}
-use Rattle.workers.proofs.sharing.share_among_two.Goals as goal
+use Rattle.workers.specs.Workers.{HasWorked}
+use Rattle.workers.proofs.Recording.{both_recorded, one_recorded}
+use Rattle.workers.proofs.sharing.+halves.Goals as goal
+
+pub returns-then-share-eq1-clause-shared : goal.returns-then-share-eq1-clause-shared
+returns-then-share-eq1-clause-shared g t c =
+    let s = c.args.crew.now.visitor in
+    let k = g.K.Recorder in
+    on_ok_weaker c.work.result
+    (λ (worked : HasWorked k.told (costs_of s.tables.now) s.tables.now.window s.ceiling c.args.crew.now.items.now c.args.seat.now.view c.work.new.seat.view c.args.recorder.now c.work.new.recorder).
+    subst (λ n. HaveShared k.told k.parts k.joins s.race.now (costs_of s.tables.now) s.tables.now.window s.ceiling c.args.crew.now.items.now n c.work.new.seat c.args.recorder.now c.work.new.recorder)
+    (sym c.if-share-eq1.true)
+    (one_recorded k.told k.parts k.joins s.race.now (costs_of s.tables.now) s.tables.now.window s.ceiling c.args.crew.now.items.now
+    c.args.seat.now c.work.new.seat c.args.recorder.now c.work.new.recorder c.requires.ready.idle (c.work.ensures.race ∙ c.requires.ready.race) worked))
+    c.work.ensures.worked
 
 pub returns-clause-shared : goal.returns-clause-shared
-returns-clause-shared g c =
+returns-clause-shared g t c =
     let s = c.args.crew.now.visitor in
     let k = g.K.Recorder in
     let right = c.args.share / 2 in
