@@ -74,8 +74,8 @@ pub fn decode_windows<R: Threads + Sync, G: Gate + WindowGate + Sync>(
     Ok(Reports::new(reports))
 }
 
-// What is told of a window, whose grids these are.
-fn report_of<R: Threads + Sync, G: Gate + Sync>(
+/// What is told of a window, whose grids these are.
+pub fn report_of<R: Threads + Sync, G: Gate + Sync>(
     rt: &R,
     alloc: Global,
     civil: &Civil,
@@ -101,9 +101,15 @@ fn report_of<R: Threads + Sync, G: Gate + Sync>(
     })
 }
 
-// Moves the grids of the window before to the window of this place, and answers that. Those of the first window stay as they
-// are.
-fn move_to(grids: &mut Vec<CostGrid>, bank: &Bank, first: &Window, step: u16, i: u16) -> Window
+/// Moves the grids of the window before to the window of this place, and answers that. Those of the first window stay as they
+/// are.
+pub fn move_to(
+    grids: &mut Vec<CostGrid>,
+    bank: &Bank,
+    first: &Window,
+    step: u16,
+    i: u16,
+) -> Window
     requires bank { IsBank bank.now }
     requires window { IsWindow first.now }
     requires step { step ≤ MOST_STEP }

@@ -21,6 +21,8 @@ pub use formats::Refusal;
 pub use frames::{write_bad_frame, write_frame_list, write_large_frames};
 pub use heard::{MOST_SYMBOLS, write_slot_heard, write_sums_heard};
 pub use listing::write_listing;
+pub use page::{LINE_ROOM, Line};
+pub use pieces::push_minute;
 pub use refusal::write_refusal;
 pub use report::write_report;
 pub use trial::write_trial;
