@@ -1,0 +1,5 @@
+pub mod Tasks
+pub mod Publishing
+pub mod Asking
+pub mod Finding
+pub mod Runs
