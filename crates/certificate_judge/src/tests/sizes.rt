@@ -1,0 +1,21 @@
+//! Texts that are too long.
+
+use super::{outcome_of, refused, silent_grid, window};
+use crate::{Checker, Outcome};
+use bounds::items;
+use certificates::CertificateLineFault;
+use civil::Civil;
+use field_tables::Tables;
+use std::test::Fail;
+
+#[test]
+fn refuses_bytes(rt: HostRuntime) -> Result<(), Fail> {
+    let civil = Civil::make(rt.alloc())?;
+    let grids = [silent_grid(rt.alloc())?];
+    let tables = Tables::make(rt.alloc(), &grids, &civil, &window())?;
+    let list = items(rt.alloc(), &civil, &window())?;
+    for bytes in [b"".as_slice(), b"\0\n", b"\n\n", &[255], b"end\n"] {
+        assert_eq!(rt; outcome_of(&tables, &list, bytes, 1), refused(1));
+    }
+    Ok(())
+}
