@@ -7,19 +7,18 @@ ghost use Rattle.field_tables.specs.Scored.{Scored, costs_of};
 ghost use Rattle.certificates.specs.declared.limits.TheConstants.{MOST_STEPS};
 ghost use Rattle.certificates.specs.Certificates.{Certificate, lines_of};
 ghost use Rattle.certificates.specs.Texts.{Entry, Lead, Next, entries_of, first_line};
-ghost use Rattle.certificates.specs.Validity.{limit_named};
 ghost use Rattle.certificates.specs.Verdicts.{IsVerdict};
 ghost use Rattle.certificate_texts.specs.Places.{entry_of};
 ghost use Rattle.certificate_judge.specs.Checking.{AreFollowed, StandsFor};
 ghost use Rattle.certificate_judge.specs.Judging.{AreAlike};
 ghost use Rattle.certificate_judge.specs.Outcomes.{IsOutcome};
 
+use crate::judging::limit_named;
 use crate::{Checker, Heading, Judge, Outcome};
 use certificate_texts::{Reader, Told, whole_texts_are_certificates};
 use certificates::{CERTIFICATE_LIMIT, Verdict};
 use definitions::Block;
 use field_tables::Tables;
-use sequence::ceiling_key;
 
 impl<'a> Checker<'a> {
     /// A checker to which no byte came. The list has all items of the tables' window, in their own order; the ceiling is at most
@@ -128,13 +127,4 @@ fn verdict(heading: &Heading, judge: &mut Judge) -> Verdict
         return Verdict::OtherWindow;
     }
     judge.finish(heading.first, heading.second)
-}
-
-// The limit of a certificate that names this second key, if any.
-fn limit_named(ceiling: u32, second: Option<u64>) -> u64
-    requires { ceiling ≤ GREATEST_COST }
-    ensures { result ≡ limit_named ceiling second }
-{
-    let key = second.unwrap_or(u64::MAX);
-    key.min(ceiling_key(ceiling))
 }

@@ -161,3 +161,12 @@ fn key_if_any(key: u64) -> Option<u64>
     }
     Some(key)
 }
+
+/// The limit of a certificate that names this second key, if any.
+pub fn limit_named(ceiling: u32, second: Option<u64>) -> u64
+    requires { ceiling ≤ GREATEST_COST }
+    ensures { result ≡ limit_named ceiling second }
+{
+    let key = second.unwrap_or(u64::MAX);
+    key.min(ceiling_key(ceiling))
+}

@@ -13,6 +13,7 @@ mod laws;
 mod outcome;
 #[cfg(test)]
 mod tests;
+mod whole;
 
 pub use begun::{Begun, MOST_ITEMS};
 pub use checker::Checker;
@@ -21,3 +22,4 @@ pub use heading::Heading;
 pub use judge::Judge;
 pub use laws::bytes_have_one_outcome;
 pub use outcome::Outcome;
+pub use whole::check;
