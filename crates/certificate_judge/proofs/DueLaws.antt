@@ -1,11 +1,13 @@
 -- The blocks that are due: the first that waits, or else an item.
-use Rattle.std.proofs.Common.{◌≡◌, ◌≢◌, ℕ, zero, suc, ◌+◌, ◌*◌, ◌≤◌, Bool, true, false, nat_lt, if◌then◌else◌, List, [], ◌∷◌, length, drop, length-append, refl, sym, ◌∙◌, ap, subst, arith}
+use Rattle.std.proofs.Common.{◌≡◌, ◌≢◌, ℕ, zero, suc, ◌+◌, ◌*◌, ◌<◌, ◌≤◌, Bool, true, false, nat_lt, if◌then◌else◌, List, [], ◌∷◌, length, drop, length-append, refl, sym, ◌∙◌, ap, subst, arith}
 use Rattle.std.specs.List.{AllByRecursion, flat_map, range_with_len}
 use Rattle.signal_base.specs.declared.window.Window.{Window}
 use Rattle.definitions.specs.declared.block.Block.{Block}
 use Rattle.definitions.specs.declared.block.Span.{Span}
 use Rattle.definitions.specs.declared.block.Span.TheVariants.{Year}
-use Rattle.definitions.specs.answers.Blocks.{IsBlock, block_from, blocks, items, span_end}
+use Rattle.definitions.specs.answers.Blocks.{IsBlock, block_from, blocks, first_of, items, span_end}
+use Rattle.definitions.specs.time.Calendar.{century_minutes}
+use Rattle.definitions.specs.sequences.Walks.{IsSequence}
 use Rattle.certificates.specs.Validity.{AreEachOnce, IsOneOf}
 use Rattle.certificates.specs.Verdicts.{AreOver, IsDue, begun_with}
 use Rattle.certificates.proofs.FoundLaws.{one_has}
@@ -51,6 +53,17 @@ module _ (window : Window) (list : List Block) (same : list ≡ items window) wh
 
   pub block_listed : (b : Block) → AllByRecursion (IsBlock window) (items window) → IsOneOf list b → IsBlock window b
   block_listed b all one = one_has (IsBlock window) (items window) b all (subst (λ (bs : List Block). IsOneOf bs b) same one)
+
+-- the first sequence of a block
+pub first_of_block : (window : Window) (b : Block) → window.to ≤ century_minutes → IsBlock window b → IsSequence (first_of b)
+first_of_block window b century is = record {
+  first_minute = omega (arith, is.not_empty, is.ends, century);
+  first_second = by_announced b.announced is.second;
+}
+  where
+    by_announced : (t : Bool) → b.second < (if t then 61 else 60) → b.second ≤ 60
+    by_announced true less = omega (arith, less)
+    by_announced false less = omega (arith, less)
 
 -- a block waits
 module _ (window : Window) (due rest begun : List Block) (b block : Block) (waits : due ≡ b ∷ rest) where

@@ -1,6 +1,6 @@
 -- Lines and bytes that a checker takes, and what comes of them.
-use Rattle.std.proofs.Common.{◌≡◌, ℕ, ◌+◌, ◌<◌, ◌≤◌, ◌⊎◌, inl, inr, Bool, true, false, is_some, List, [], ◌∷◌, ◌++◌, length, Option, Some, None, refl, sym, ap, ◌∙◌, subst, arith, append_assoc, append-nil, length-append, ⊎_elim}
-use Rattle.formats.specs.Bytes.{line_feed}
+use Rattle.std.proofs.Common.{◌≡◌, ℕ, ◌+◌, ◌<◌, ◌≤◌, ◌⊎◌, inl, inr, Bool, true, false, is_some, List, [], ◌∷◌, ◌++◌, length, take, get_or, Option, Some, None, refl, sym, ap, ◌∙◌, subst, arith, append_assoc, append-nil, length-append, ⊎_elim}
+use Rattle.std.proofs.lemmas.List.{take_all, take_more}
 use Rattle.signal_base.specs.declared.window.Window.{Window}
 use Rattle.definitions.specs.heard.Costs.{Costs}
 use Rattle.certificates.specs.declared.certificate.Line.{Line}
@@ -24,7 +24,7 @@ use Rattle.certificate_judge.specs.declared.heading.Heading.{Heading}
 use Rattle.certificate_judge.specs.declared.judge.Judge.{Judge}
 use Rattle.certificate_judge.specs.Checking.{AreFollowed, HasTaken, IsFollowed, IsFollowedBy, StandsFor}
 use Rattle.certificate_judge.specs.Headings.{IsOfWindow, heading_after, heading_from, heading_of, heading_with, no_heading, step_in, steps_of}
-use Rattle.certificate_judge.specs.Judging.{IsJudged}
+use Rattle.certificate_judge.specs.Judging.{AreAlike, IsJudged}
 use Rattle.certificate_judge.proofs.HeadingLaws.{few_steps, head_before_steps, heading_more, is_of_window, of_window, steps_more, whole_heading, whole_steps}
 
 -- a line more
@@ -149,6 +149,53 @@ many_more bytes byte many = omega (arith, many, length-append bytes (byte ∷ []
 
 pub one_more : (n : ℕ) (bytes : List ℕ) (byte : ℕ) → n ≡ length bytes → n + 1 ≡ length (bytes ++ byte ∷ [])
 one_more n bytes byte e = omega (arith, e, length-append bytes (byte ∷ []))
+
+-- a checker takes a byte
+module _ (c : Checker) (tables : Scored) (ceiling : ℕ) (before : List ℕ) (byte : ℕ) (stands : StandsFor c tables ceiling before) where
+  pub still_large : c.large ≡ true → StandsFor c tables ceiling (before ++ byte ∷ [])
+  still_large large = record {
+    tables_are = stands.tables_are;
+    ceiling_is = stands.ceiling_is;
+    taken = large_taken c.large c (before ++ byte ∷ []) large
+        (omega (arith, taken_large c.large c before large stands.taken, length-append before (byte ∷ [])));
+  }
+
+  module _ (few : c.large ≡ false) where
+    so_many : (c.bytes ≡ length before) × IsFollowedBy c.reader.bad c.reader c.heading c.judge before
+    so_many = taken_few c.large c before few stands.taken
+
+    pub becomes_large : (n : Checker) → n.large ≡ true → n.judge ≡ c.judge → CERTIFICATE_LIMIT ≤ c.bytes → StandsFor n tables ceiling (before ++ byte ∷ [])
+    becomes_large n large same full = record {
+      tables_are = ap (λ (j : Judge). j.due.tables.now) same ∙ stands.tables_are;
+      ceiling_is = ap (λ (j : Judge). j.ceiling) same ∙ stands.ceiling_is;
+      taken = large_taken n.large n (before ++ byte ∷ []) large (many_more before byte (omega (arith, full, so_many.0)));
+    }
+
+    pub takes : (n : Checker) → n.large ≡ false → n.bytes ≡ c.bytes + 1 → AreAlike c.judge n.judge
+        → (IsFollowedBy c.reader.bad c.reader c.heading c.judge before → IsFollowedBy n.reader.bad n.reader n.heading n.judge (before ++ byte ∷ []))
+        → StandsFor n tables ceiling (before ++ byte ∷ [])
+    takes n still counted alike follow = record {
+      tables_are = alike.0 ∙ stands.tables_are;
+      ceiling_is = alike.1 ∙ stands.ceiling_is;
+      taken = few_taken n.large n (before ++ byte ∷ []) still (counted ∙ one_more c.bytes before byte so_many.0) (follow so_many.1);
+    }
+
+-- byte by byte
+module _ (c : Checker) (tables : Scored) (ceiling : ℕ) (before bytes : List ℕ) where
+  pub none_taken : StandsFor c tables ceiling before → StandsFor c tables ceiling (before ++ take 0 bytes)
+  none_taken stands = subst (λ (x : List ℕ). StandsFor c tables ceiling x) (sym (append-nil before)) stands
+
+  pub one_taken : (i byte d : ℕ) → i < length bytes → get_or bytes i d ≡ byte → StandsFor c tables ceiling ((before ++ take i bytes) ++ byte ∷ [])
+      → StandsFor c tables ceiling (before ++ take (i + 1) bytes)
+  one_taken i byte d within is stands =
+      subst (λ (x : List ℕ). StandsFor c tables ceiling x)
+      (append_assoc before (take i bytes) (byte ∷ [])
+      ∙ ap (λ (x : List ℕ). before ++ x)
+      (ap (λ (b : ℕ). take i bytes ++ b ∷ []) (sym is) ∙ sym (take_more bytes i d within)))
+      stands
+
+  pub all_taken : (i : ℕ) → length bytes ≤ i → StandsFor c tables ceiling (before ++ take i bytes) → StandsFor c tables ceiling (before ++ bytes)
+  all_taken i over stands = subst (λ (x : List ℕ). StandsFor c tables ceiling (before ++ x)) (take_all i bytes over) stands
 
 -- at the end
 pub record IsWholeOf (h : Heading) (j : Judge) (bytes : List ℕ) : Type 0 where

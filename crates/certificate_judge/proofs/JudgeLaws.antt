@@ -95,7 +95,7 @@ ended_all b first second ls v is =
     subst (λ (x : List Line). FoundFrom b keys 1 [] [] x v) (append-nil ls) (is keys [])
 
 module _ (b : Bench) (k : Kept) (ls : List Line) (is : IsGoing b k ls) (first second : Option ℕ) where
-  keys : Keys
+  abbrev keys : Keys
   keys = keys_of first second (leaf_ends b.ceiling ls)
 
   at_end : (v : Verdict) → FoundFrom b keys k.step k.due is.begun [] v → FoundAll b first second ls v

@@ -8,7 +8,7 @@ use Rattle.definitions.specs.declared.block.Span.TheVariants.{Year}
 use Rattle.certificates.specs.Validity.{IsOneOf, NoneTwice}
 use Rattle.certificate_judge.specs.Marks.{AreMarked, HaveOwnPlaces}
 
-true_false : (b : Bool) → b ≡ false → b ≡ true → ⊥
+pub true_false : (b : Bool) → b ≡ false → b ≡ true → ⊥
 true_false b unset set = absurd cc
 
 some_block : Block

@@ -12,10 +12,12 @@ ghost use Rattle.certificate_texts.specs.Places.{entry_of};
 ghost use Rattle.certificate_judge.specs.Checking.{AreFollowed, StandsFor};
 ghost use Rattle.certificate_judge.specs.Judging.{AreAlike};
 ghost use Rattle.certificate_judge.specs.Outcomes.{IsOutcome};
+ghost use Rattle.certificate_judge.specs.declared.outcome.Outcome.{Outcome};
+ghost use Rattle.certificate_judge.specs.declared.outcome.Outcome.TheVariants as outcome;
 
 use crate::judging::limit_named;
-use crate::{Checker, Heading, Judge, Outcome};
-use certificate_texts::{Reader, Told, whole_texts_are_certificates};
+use crate::{Checker, Heading, Judge, Outcome, bytes_have_one_outcome};
+use certificate_texts::{BadLine, Reader, Told, whole_texts_are_certificates};
 use certificates::{CERTIFICATE_LIMIT, Verdict};
 use definitions::Block;
 use field_tables::Tables;
@@ -71,9 +73,19 @@ impl<'a> Checker<'a> {
         follow(&mut self.heading, &mut self.judge, &told);
     }
 
-    /// What comes of the bytes that were taken: exactly that, whatever the pieces were.
+    /// What comes of the bytes that were taken, whatever the pieces were.
     pub fn finish(&mut self) -> Outcome
         ensures outcome { (tables : Scored) (ceiling : ℕ) (bytes : List ℕ) → StandsFor self.old tables ceiling bytes
+            → IsOutcome (costs_of tables) tables.window ceiling bytes result }
+        ensures exactly { (tables : Scored) (ceiling : ℕ) (bytes : List ℕ) (other : Outcome) → StandsFor self.old tables ceiling bytes
+            → IsOutcome (costs_of tables) tables.window ceiling bytes other → other ≡ result }
+    {
+        bytes_have_one_outcome();
+        self.outcome()
+    }
+
+    fn outcome(&mut self) -> Outcome
+        ensures { (tables : Scored) (ceiling : ℕ) (bytes : List ℕ) → StandsFor self.old tables ceiling bytes
             → IsOutcome (costs_of tables) tables.window ceiling bytes result }
     {
         whole_texts_are_certificates();
@@ -81,10 +93,7 @@ impl<'a> Checker<'a> {
             return Outcome::TooLarge;
         }
         if let Some(bad) = self.reader.finish() {
-            return Outcome::Refused {
-                line: bad.line,
-                fault: bad.fault,
-            };
+            return refused(bad);
         }
         let heading = self.heading;
         Outcome::Judged {
@@ -92,6 +101,15 @@ impl<'a> Checker<'a> {
             first: heading.first,
             second: heading.second,
         }
+    }
+}
+
+fn refused(bad: BadLine) -> Outcome
+    ensures { result ≡ outcome.Refused bad.line bad.fault }
+{
+    Outcome::Refused {
+        line: bad.line,
+        fault: bad.fault,
     }
 }
 
@@ -111,7 +129,11 @@ fn follow(heading: &mut Heading, judge: &mut Judge, told: &Told)
             judge.take(line, limit);
             return;
         }
-        Told::Part { number: _ } | Told::End => {
+        Told::Part { number } => {
+            let _ = *number;
+            return;
+        }
+        Told::End => {
             return;
         }
     }

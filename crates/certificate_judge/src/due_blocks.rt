@@ -121,7 +121,8 @@ impl<'a> DueBlocks<'a> {
         ensures { (begun : List Block) → AreMarked (items self.old.tables.now.window) self.old.begun.marks begun
             → IsTrue result ↔ AreOver self.old.tables.now.window (left_of self.old.pending) begun }
     {
-        if self.pending.next().is_some() {
+        if let Some(waiting) = self.pending.next() {
+            let _ = waiting;
             return false;
         }
         self.begun.all()

@@ -63,6 +63,7 @@ impl<'a> Judge<'a> {
         ensures alike { AreAlike self.old self.new }
     {
         bound_is_one();
+        let _ = self.due.tables.window();
         let Some(found) = self.due.take(&line.block) else {
             return Some(Verdict::Uncovered { step: self.step });
         };

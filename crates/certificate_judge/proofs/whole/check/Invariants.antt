@@ -7,7 +7,7 @@ abbrev pub invariant-loop-i : goal.invariant-loop-i
 invariant-loop-i l = record {
   within : l.i ≤ length l.lines;
   judged : IsJudged l.limit l.judge (take l.i l.lines);
-  tables : l.judge.due.tables.now ≡ l.tables.now;
+  tables : l.judge.due.tables.now ≡ l.tables;
   ceiling : l.judge.ceiling ≡ l.ceiling;
 }
 

@@ -2,7 +2,7 @@
 use Rattle.std.proofs.Common.{◌-◌, ℕ, ◌≤◌, ◌++◌, List, length, take}
 use Rattle.field_tables.specs.Scored.{Scored}
 use Rattle.certificate_judge.specs.Checking.{StandsFor}
-use Rattle.certificate_judge.proofs.checking.Checker.push.Given as goal
+use Rattle.certificate_judge.proofs.checker.Checker.push.Given as goal
 
 abbrev pub invariant-loop-i : goal.invariant-loop-i
 invariant-loop-i l = record {
