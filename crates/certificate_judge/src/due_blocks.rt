@@ -68,10 +68,10 @@ impl<'a> DueBlocks<'a> {
         let next = self.pending.next();
         match next {
             Some(found) => {
-                if found.block != *block {
-                    return None;
+                if is_same(&found.block, block) {
+                    return Some(found);
                 }
-                Some(found)
+                None
             }
             None => self.begin(block),
         }
@@ -127,4 +127,10 @@ impl<'a> DueBlocks<'a> {
         }
         self.begun.all()
     }
+}
+
+fn is_same(a: &Block, b: &Block) -> bool
+    ensures { IsTrue result ↔ (a.now ≡ b.now) }
+{
+    *a == *b
 }

@@ -1,9 +1,10 @@
 //! A certificate that is there as a whole.
 
-ghost use Rattle.std.specs.Prelude.{◌≡◌, ◌≤◌, ◌↔◌, IsTrue, length};
+ghost use Rattle.std.specs.Prelude.{◌≡◌, ◌<◌, ◌≤◌, ◌↔◌, IsTrue, get_or, length};
 ghost use Rattle.signal_base.specs.declared.limits.TheConstants.{GREATEST_COST};
 ghost use Rattle.definitions.specs.answers.Blocks.{items};
 ghost use Rattle.field_tables.specs.Scored.{costs_of};
+ghost use Rattle.certificates.specs.declared.certificate.Line.{Line};
 ghost use Rattle.certificates.specs.declared.limits.TheConstants.{MOST_STEPS};
 ghost use Rattle.certificates.specs.Certificates.{Certificate, lines_of};
 ghost use Rattle.certificates.specs.Verdicts.{IsVerdict};
@@ -35,7 +36,7 @@ pub fn check<'a>(
     let limit = limit_named(ceiling, head.second);
     let mut i = 0;
     while i < lines.len() {
-        judge.take(&lines[i], limit);
+        judge.take(line_at(lines, i), limit);
         i += 1;
     }
     judge.finish(head.first, head.second)
@@ -49,4 +50,11 @@ fn is_of(head: &Head, tables: &Tables, ceiling: u32) -> bool
         return false;
     }
     head.ceiling == ceiling
+}
+
+fn line_at(lines: &[Line], place: usize) -> &Line
+    requires { place < length lines.now }
+    ensures { (d : Line) → get_or lines.now place d ≡ result.now }
+{
+    &lines[place]
 }
