@@ -9,25 +9,18 @@ use field_tables::Tables;
 use std::test::Fail;
 
 // One text in place of another, and what is found: other lines, and lines in another order or in other parts.
-const STEPS: [(&str, &str, Verdict); 20] = [
+const STEPS: [(&str, &str, Verdict); 13] = [
     ("end", "end", Verdict::Certified),
-    ("end", "worker 1\nend", Verdict::Certified),
+    (
+        "end",
+        "worker 1\nworker 2\nworker 3\nworker 4\nworker 5\nworker 6\nworker 7\nend",
+        Verdict::Certified,
+    ),
     ("E M 0 0", "worker 1\nE M 0 0", Verdict::Certified),
     (
         "E Y 0 1 52595938 52596000 -\nE Y 0 2 52595938 52596000 -\n",
         "E Y 0 2 52595938 52596000 -\nE Y 0 1 52595938 52596000 -\n",
         Verdict::Certified,
-    ),
-    ("start 0", "start 1", Verdict::OtherWindow),
-    ("phase 0", "phase 1", Verdict::OtherWindow),
-    ("seconds 60", "seconds 61", Verdict::OtherWindow),
-    ("station dcf77", "station jjy", Verdict::OtherWindow),
-    ("from 52595938", "from 52595937", Verdict::OtherWindow),
-    ("to 52596000", "to 52595999", Verdict::OtherWindow),
-    (
-        "ceiling 1920000000",
-        "ceiling 1919999999",
-        Verdict::OtherWindow,
     ),
     (
         "O Y 0 0 52595938 52596000 0",
@@ -80,6 +73,62 @@ fn judges_steps(rt: HostRuntime) -> Result<(), Fail> {
                 "{new}, {piece}"
             );
         }
+    }
+    Ok(())
+}
+
+// Each line of the head is that of another window, or of another ceiling.
+#[test]
+fn tells_another_window(rt: HostRuntime) -> Result<(), Fail> {
+    let civil = Civil::make(rt.alloc())?;
+    let grids = [silent_grid(rt.alloc())?];
+    let tables = Tables::make(rt.alloc(), &grids, &civil, &window())?;
+    let list = items(rt.alloc(), &civil, &window())?;
+    let text = good_text(rt.alloc())?;
+    for (old, new) in [
+        ("start 0", "start 1"),
+        ("phase 0", "phase 1"),
+        ("seconds 60", "seconds 61"),
+        ("station dcf77", "station jjy"),
+        ("from 52595938", "from 52595937"),
+        ("to 52596000", "to 52595999"),
+        ("ceiling 1920000000", "ceiling 1919999999"),
+    ] {
+        let other = text.replacen(rt.alloc(), old, new, 1)?;
+        assert_eq!(rt;
+            outcome_of(&tables, &list, other.as_bytes(), 7),
+            judged(Verdict::OtherWindow),
+            "{new}"
+        );
+    }
+    Ok(())
+}
+
+// The year's block has just the key that is named for the second.
+#[test]
+fn compares_with_the_second_key(rt: HostRuntime) -> Result<(), Fail> {
+    let civil = Civil::make(rt.alloc())?;
+    let grids = [silent_grid(rt.alloc())?];
+    let tables = Tables::make(rt.alloc(), &grids, &civil, &window())?;
+    let list = items(rt.alloc(), &civil, &window())?;
+    let text = good_text(rt.alloc())?;
+    let pruned = text.replacen(rt.alloc(), "O Y 0 0", "P Y 0 0", 1)?;
+    for (key, verdict) in [
+        (52_595_938, Verdict::NotAbove { step: 1 }),
+        (52_595_937, Verdict::Uncovered { step: 2 }),
+    ] {
+        let mut keys = String::new(rt.alloc());
+        write!(keys, "first -\nsecond {key}\n")?;
+        let spoiled = pruned.replacen(rt.alloc(), "first 52595938\nsecond -\n", keys.as_str(), 1)?;
+        let found = outcome_of(&tables, &list, spoiled.as_bytes(), 7);
+        assert_eq!(rt;
+            found,
+            Outcome::Judged {
+                verdict,
+                first: None,
+                second: Some(key)
+            }
+        );
     }
     Ok(())
 }
