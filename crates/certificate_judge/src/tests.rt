@@ -12,6 +12,7 @@ mod steps;
 use crate::{Checker, Outcome};
 use bounds::Block;
 use certificates::{CertificateLineFault, Verdict};
+use civil::Civil;
 use field_tables::Tables;
 use pulse_log::read_log;
 use signal_base::{CostTable, Station, Stations, Tuning, Window};
@@ -104,6 +105,59 @@ fn outcome_of(tables: &Tables, list: &[Block], bytes: &[u8], piece: usize) -> Ou
         checker.push(part);
     }
     checker.finish()
+}
+
+// One text in place of another, and what then comes of the certificate.
+#[derive(Clone, Copy)]
+struct Row {
+    old: &'static str,
+    new: &'static str,
+    wanted: Outcome,
+}
+
+fn row(old: &'static str, new: &'static str, wanted: Outcome) -> Row {
+    Row { old, new, wanted }
+}
+
+// The place of the first row of which something else comes, in pieces of 1, 7 or 65,536 bytes.
+fn first_wrong(
+    alloc: Global,
+    tables: &Tables,
+    list: &[Block],
+    text: &str,
+    rows: &[Row],
+) -> Result<Option<usize>, Fail>
+    requires { list.now ≡ items tables.now.window }
+{
+    for (i, row) in rows.iter().enumerate() {
+        let spoiled = text.replacen(alloc, row.old, row.new, 1)?;
+        if !comes(tables, list, spoiled.as_bytes(), row.wanted) {
+            return Ok(Some(i));
+        }
+    }
+    Ok(None)
+}
+
+fn comes(tables: &Tables, list: &[Block], bytes: &[u8], wanted: Outcome) -> bool
+    requires { list.now ≡ items tables.now.window }
+{
+    if outcome_of(tables, list, bytes, 1) != wanted {
+        return false;
+    }
+    if outcome_of(tables, list, bytes, 7) != wanted {
+        return false;
+    }
+    outcome_of(tables, list, bytes, 65_536) == wanted
+}
+
+// The same of the certificate of the century's last minutes.
+fn wrong_of(alloc: Global, rows: &[Row]) -> Result<Option<usize>, Fail> {
+    let civil = Civil::make(alloc)?;
+    let grids = [silent_grid(alloc)?];
+    let tables = Tables::make(alloc, &grids, &civil, &window())?;
+    let list = bounds::items(alloc, &civil, &window())?;
+    let text = good_text(alloc)?;
+    first_wrong(alloc, &tables, &list, text.as_str(), rows)
 }
 
 fn refused(line: u32) -> Outcome {

@@ -1,130 +1,60 @@
 //! Lines that are bad, and which of two faults is told.
 
-use super::{good_text, judged, outcome_of, refused, silent_grid, window};
-use bounds::items;
+use super::{judged, refused, row, wrong_of};
 use certificates::Verdict;
-use civil::Civil;
-use field_tables::Tables;
 use std::test::Fail;
-
-// One text in place of another, and the number of the first bad line.
-const BAD_LINES: [(&str, &str, u32); 15] = [
-    ("tsbank", "\u{feff}tsbank", 1),
-    ("certificate 1\n", "certificate 1\r\n", 1),
-    ("certificate 1", "certificate 2", 2),
-    ("first 52595938", "first 6416712000", 9),
-    ("worker 0", "worker 1", 11),
-    ("0 52595938 52596000 0\n", "0 52595938 52596000 00\n", 12),
-    (
-        "L M 0 0 52595938 52595939 0",
-        "L M 0 0 52595938 52595939 -",
-        15,
-    ),
-    (
-        "L M 0 0 52595938 52595939 0",
-        "O M 0 0 52595938 52595939 0",
-        15,
-    ),
-    ("E M 0 0", "E  M 0 0", 16),
-    ("E M 0 0 52595939", "E M 0 0 18446744073704147555", 16),
-    ("E Y 0 1 ", "E Y 0 61 ", 18),
-    ("E Y 0 2 52595938", "E Y 0 2 52596000", 19),
-    ("end\n", "end", 143),
-    ("end\n", "en\n", 143),
-    ("end\n", "end\nx\n", 144),
-];
 
 #[test]
 fn tells_the_first_bad_line(rt: HostRuntime) -> Result<(), Fail> {
-    let civil = Civil::make(rt.alloc())?;
-    let grids = [silent_grid(rt.alloc())?];
-    let tables = Tables::make(rt.alloc(), &grids, &civil, &window())?;
-    let list = items(rt.alloc(), &civil, &window())?;
-    let text = good_text(rt.alloc())?;
-    for (old, new, line) in BAD_LINES {
-        let spoiled = text.replacen(rt.alloc(), old, new, 1)?;
-        for piece in [1, 7, 65_536] {
-            assert_eq!(rt;
-                outcome_of(&tables, &list, spoiled.as_bytes(), piece),
-                refused(line),
-                "{new}, {piece}"
-            );
-        }
-    }
+    let wrong = wrong_of(
+        rt.alloc(),
+        &[
+            row("tsbank", "\u{feff}tsbank", refused(1)),
+            row("certificate 1\n", "certificate 1\r\n", refused(1)),
+            row("certificate 1", "certificate 2", refused(2)),
+            row("first 52595938", "first 6416712000", refused(9)),
+            row("worker 0", "worker 1", refused(11)),
+            row("52596000 0\n", "52596000 00\n", refused(12)),
+            row("52595939 0\n", "52595939 -\n", refused(15)),
+            row("L M", "O M", refused(15)),
+            row("E M", "E  M", refused(16)),
+            row("E Y 0 1 ", "E Y 0 61 ", refused(18)),
+            row("E Y 0 2 52595938", "E Y 0 2 52596000", refused(19)),
+            row("end\n", "end", refused(143)),
+            row("end\n", "en\n", refused(143)),
+            row("end\n", "end\nx\n", refused(144)),
+        ],
+    )?;
+    assert_eq!(rt; wrong, None);
     Ok(())
 }
 
-// A bad line is told before all that steps say, and another window before these.
+// A bad line is told before all that steps say, and another window before these. Of a step it is told first that it isn't due,
+// then its bound, then its key.
 #[test]
 fn tells_the_first_of_two_faults(rt: HostRuntime) -> Result<(), Fail> {
-    let civil = Civil::make(rt.alloc())?;
-    let grids = [silent_grid(rt.alloc())?];
-    let tables = Tables::make(rt.alloc(), &grids, &civil, &window())?;
-    let list = items(rt.alloc(), &civil, &window())?;
-    let text = good_text(rt.alloc())?;
-    for (old, new, also, wanted) in [
-        (
-            "O Y 0 0 52595938 52596000 0",
-            "P Y 0 0 52595938 52596000 1",
-            ("end\n", "end"),
-            refused(143),
-        ),
-        (
-            "seconds 60",
-            "seconds 61",
-            ("end\n", "end\n\n"),
-            refused(144),
-        ),
-        (
-            "seconds 60",
-            "seconds 61",
-            ("O Y 0", "P Y 0"),
-            judged(Verdict::OtherWindow),
-        ),
-        (
-            "O Y 0 0 52595938 52596000 0",
-            "P Y 0 0 52595938 52595999 1",
-            ("first", "first"),
-            judged(Verdict::Uncovered { step: 1 }),
-        ),
-        (
-            "O Y 0 0 52595938 52596000 0",
-            "P Y 0 0 52595938 52596000 1",
-            ("first", "first"),
-            judged(Verdict::WrongBound { step: 1 }),
-        ),
-    ] {
-        let once = text.replacen(rt.alloc(), old, new, 1)?;
-        let spoiled = once.replacen(rt.alloc(), also.0, also.1, 1)?;
-        for piece in [1, 7, 65_536] {
-            assert_eq!(rt;
-                outcome_of(&tables, &list, spoiled.as_bytes(), piece),
-                wanted,
-                "{new}, {piece}"
-            );
-        }
-    }
-    Ok(())
-}
-
-// A text that is cut is refused for the line that isn't whole, wherever it is cut.
-#[test]
-fn refuses_beginnings(rt: HostRuntime) -> Result<(), Fail> {
-    let civil = Civil::make(rt.alloc())?;
-    let grids = [silent_grid(rt.alloc())?];
-    let tables = Tables::make(rt.alloc(), &grids, &civil, &window())?;
-    let list = items(rt.alloc(), &civil, &window())?;
-    let text = good_text(rt.alloc())?;
-    let bytes = text.as_bytes();
-    for (length, line) in [(0, 1), (20, 1), (21, 2), (47, 4), (139, 11), (140, 12)] {
-        let Some(front) = bytes.get(..length) else {
-            panic!(rt; "{length}");
-        };
-        assert_eq!(rt;
-            outcome_of(&tables, &list, front, 7),
-            refused(line),
-            "{length}"
-        );
-    }
+    let wrong = wrong_of(
+        rt.alloc(),
+        &[
+            row(
+                "O Y 0 0 52595938 52596000 0",
+                "P Y 0 0 52595938 52596000 1\nx",
+                refused(13),
+            ),
+            row("seconds 60", "seconds 61\nx", refused(6)),
+            row("ceiling 1920000000", "ceiling 1920000001", refused(8)),
+            row(
+                "O Y 0 0 52595938 52596000 0",
+                "P Y 0 0 52595938 52595999 1",
+                judged(Verdict::Uncovered { step: 1 }),
+            ),
+            row(
+                "O Y 0 0 52595938 52596000 0",
+                "P Y 0 0 52595938 52596000 1",
+                judged(Verdict::WrongBound { step: 1 }),
+            ),
+        ],
+    )?;
+    assert_eq!(rt; wrong, None);
     Ok(())
 }

@@ -1,4 +1,4 @@
-//! Texts that are too long.
+//! Bytes that are no certificate, and too many of them.
 
 use super::{outcome_of, refused, silent_grid, window};
 use crate::{Checker, Outcome};
@@ -13,9 +13,12 @@ fn refuses_bytes(rt: HostRuntime) -> Result<(), Fail> {
     let grids = [silent_grid(rt.alloc())?];
     let tables = Tables::make(rt.alloc(), &grids, &civil, &window())?;
     let list = items(rt.alloc(), &civil, &window())?;
-    for bytes in [b"".as_slice(), b"\0\n", b"\n\n", &[255], b"end\n"] {
-        assert_eq!(rt; outcome_of(&tables, &list, bytes, 1), refused(1));
-    }
+    assert_eq!(rt; outcome_of(&tables, &list, b"", 1), refused(1));
+    assert_eq!(rt; outcome_of(&tables, &list, b"\n\n", 1), refused(1));
+    assert_eq!(rt;
+        outcome_of(&tables, &list, b"tsbank certificate 1\n", 7),
+        refused(2)
+    );
     Ok(())
 }
 
@@ -26,15 +29,11 @@ fn takes_so_many_bytes(rt: HostRuntime) -> Result<(), Fail> {
     let grids = [silent_grid(rt.alloc())?];
     let tables = Tables::make(rt.alloc(), &grids, &civil, &window())?;
     let list = items(rt.alloc(), &civil, &window())?;
-    for (bytes, wanted) in [
-        (b"x".as_slice(), refused(1)),
-        (b"xy", Outcome::TooLarge),
-        (b"x\n\n", Outcome::TooLarge),
-    ] {
-        let mut checker = Checker::make(&tables, &list, 0);
-        checker.bytes = 127_999_999;
-        checker.push(bytes);
-        assert_eq!(rt; checker.finish(), wanted);
-    }
+    let mut checker = Checker::make(&tables, &list, 0);
+    checker.bytes = 127_999_999;
+    checker.push(b"x");
+    assert_eq!(rt; checker.finish(), refused(1));
+    checker.push(b"x");
+    assert_eq!(rt; checker.finish(), Outcome::TooLarge);
     Ok(())
 }

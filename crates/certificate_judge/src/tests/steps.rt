@@ -1,172 +1,146 @@
 //! Verdicts on texts that can be read.
 
-use super::{FROM, good_text, judged, outcome_of, silent_grid, window};
+use super::{FROM, judged, row, wrong_of};
 use crate::Outcome;
-use bounds::items;
 use certificates::Verdict;
-use civil::Civil;
-use field_tables::Tables;
 use std::test::Fail;
 
-// One text in place of another, and what is found: other lines, and lines in another order or in other parts.
-const STEPS: [(&str, &str, Verdict); 13] = [
-    ("end", "end", Verdict::Certified),
-    (
-        "end",
-        "worker 1\nworker 2\nworker 3\nworker 4\nworker 5\nworker 6\nworker 7\nend",
-        Verdict::Certified,
-    ),
-    ("E M 0 0", "worker 1\nE M 0 0", Verdict::Certified),
-    (
-        "E Y 0 1 52595938 52596000 -\nE Y 0 2 52595938 52596000 -\n",
-        "E Y 0 2 52595938 52596000 -\nE Y 0 1 52595938 52596000 -\n",
-        Verdict::Certified,
-    ),
-    (
-        "O Y 0 0 52595938 52596000 0",
-        "O Y 0 0 52595938 52596000 1",
-        Verdict::WrongBound { step: 1 },
-    ),
-    (
-        "O Y 0 0 52595938 52596000 0",
-        "E Y 0 0 52595938 52596000 -",
-        Verdict::WrongBound { step: 1 },
-    ),
-    ("O Y 0 0", "P Y 0 0", Verdict::NotAbove { step: 1 }),
-    ("O D 0 0", "O H 0 0", Verdict::Uncovered { step: 2 }),
-    (
-        "L M 0 0 52595938 52595939 0\n",
-        "",
-        Verdict::Uncovered { step: 4 },
-    ),
-    (
-        "E M 0 0 52595939 52595940 -",
-        "P M 0 0 52595939 52595940 0",
-        Verdict::WrongBound { step: 5 },
-    ),
-    ("E Y 0 1 ", "E Y 0 0 ", Verdict::Uncovered { step: 7 }),
-    (
-        "E Y 0 1 52595938 52596000 -\n",
-        "E Y 0 1 52595938 52596000 -\nE Y 0 1 52595938 52596000 -\n",
-        Verdict::Uncovered { step: 8 },
-    ),
-    (
-        "E Y 1 60 52595938 52596000 -\n",
-        "",
-        Verdict::Uncovered { step: 131 },
-    ),
-];
+// Lines in another order or in other parts are as good.
+#[test]
+fn certifies(rt: HostRuntime) -> Result<(), Fail> {
+    let wrong = wrong_of(
+        rt.alloc(),
+        &[
+            row("end", "end", judged(Verdict::Certified)),
+            row(
+                "end",
+                "worker 1\nworker 2\nworker 3\nworker 4\nworker 5\nworker 6\nworker 7\nend",
+                judged(Verdict::Certified),
+            ),
+            row("E M 0 0", "worker 1\nE M 0 0", judged(Verdict::Certified)),
+            row(
+                "E Y 0 1 52595938 52596000 -\nE Y 0 2 52595938 52596000 -\n",
+                "E Y 0 2 52595938 52596000 -\nE Y 0 1 52595938 52596000 -\n",
+                judged(Verdict::Certified),
+            ),
+        ],
+    )?;
+    assert_eq!(rt; wrong, None);
+    Ok(())
+}
 
 #[test]
 fn judges_steps(rt: HostRuntime) -> Result<(), Fail> {
-    let civil = Civil::make(rt.alloc())?;
-    let grids = [silent_grid(rt.alloc())?];
-    let tables = Tables::make(rt.alloc(), &grids, &civil, &window())?;
-    let list = items(rt.alloc(), &civil, &window())?;
-    let text = good_text(rt.alloc())?;
-    for (old, new, verdict) in STEPS {
-        let spoiled = text.replacen(rt.alloc(), old, new, 1)?;
-        for piece in [1, 7, 65_536] {
-            assert_eq!(rt;
-                outcome_of(&tables, &list, spoiled.as_bytes(), piece),
-                judged(verdict),
-                "{new}, {piece}"
-            );
-        }
-    }
+    let wrong = wrong_of(
+        rt.alloc(),
+        &[
+            row(
+                "O Y 0 0 52595938 52596000 0",
+                "O Y 0 0 52595938 52596000 1",
+                judged(Verdict::WrongBound { step: 1 }),
+            ),
+            row(
+                "O Y 0 0 52595938 52596000 0",
+                "E Y 0 0 52595938 52596000 -",
+                judged(Verdict::WrongBound { step: 1 }),
+            ),
+            row("O Y 0 0", "P Y 0 0", judged(Verdict::NotAbove { step: 1 })),
+            row("O D 0 0", "O H 0 0", judged(Verdict::Uncovered { step: 2 })),
+            row(
+                "L M 0 0 52595938 52595939 0\n",
+                "",
+                judged(Verdict::Uncovered { step: 4 }),
+            ),
+            row(
+                "E M 0 0 52595939 52595940 -",
+                "P M 0 0 52595939 52595940 0",
+                judged(Verdict::WrongBound { step: 5 }),
+            ),
+            row(
+                "E Y 0 1 ",
+                "E Y 0 0 ",
+                judged(Verdict::Uncovered { step: 7 }),
+            ),
+            row(
+                "E Y 0 1 52595938 52596000 -\n",
+                "E Y 0 1 52595938 52596000 -\nE Y 0 1 52595938 52596000 -\n",
+                judged(Verdict::Uncovered { step: 8 }),
+            ),
+            row(
+                "E Y 1 60 52595938 52596000 -\n",
+                "",
+                judged(Verdict::Uncovered { step: 131 }),
+            ),
+        ],
+    )?;
+    assert_eq!(rt; wrong, None);
     Ok(())
 }
 
 // Each line of the head is that of another window, or of another ceiling.
 #[test]
 fn tells_another_window(rt: HostRuntime) -> Result<(), Fail> {
-    let civil = Civil::make(rt.alloc())?;
-    let grids = [silent_grid(rt.alloc())?];
-    let tables = Tables::make(rt.alloc(), &grids, &civil, &window())?;
-    let list = items(rt.alloc(), &civil, &window())?;
-    let text = good_text(rt.alloc())?;
-    for (old, new) in [
-        ("start 0", "start 1"),
-        ("phase 0", "phase 1"),
-        ("seconds 60", "seconds 61"),
-        ("station dcf77", "station jjy"),
-        ("from 52595938", "from 52595937"),
-        ("to 52596000", "to 52595999"),
-        ("ceiling 1920000000", "ceiling 1919999999"),
-    ] {
-        let other = text.replacen(rt.alloc(), old, new, 1)?;
-        assert_eq!(rt;
-            outcome_of(&tables, &list, other.as_bytes(), 7),
-            judged(Verdict::OtherWindow),
-            "{new}"
-        );
-    }
+    let other = judged(Verdict::OtherWindow);
+    let wrong = wrong_of(
+        rt.alloc(),
+        &[
+            row("start 0", "start 1", other),
+            row("phase 0", "phase 1", other),
+            row("seconds 60", "seconds 61", other),
+            row("station dcf77", "station jjy", other),
+            row("from 52595938", "from 52595937", other),
+            row("to 52596000", "to 52595999", other),
+            row("ceiling 1920000000", "ceiling 1919999999", other),
+        ],
+    )?;
+    assert_eq!(rt; wrong, None);
     Ok(())
 }
 
-// The year's block has just the key that is named for the second.
-#[test]
-fn compares_with_the_second_key(rt: HostRuntime) -> Result<(), Fail> {
-    let civil = Civil::make(rt.alloc())?;
-    let grids = [silent_grid(rt.alloc())?];
-    let tables = Tables::make(rt.alloc(), &grids, &civil, &window())?;
-    let list = items(rt.alloc(), &civil, &window())?;
-    let text = good_text(rt.alloc())?;
-    let pruned = text.replacen(rt.alloc(), "O Y 0 0", "P Y 0 0", 1)?;
-    for (key, verdict) in [
-        (52_595_938, Verdict::NotAbove { step: 1 }),
-        (52_595_937, Verdict::Uncovered { step: 2 }),
-    ] {
-        let mut keys = String::new(rt.alloc());
-        write!(keys, "first -\nsecond {key}\n")?;
-        let spoiled = pruned.replacen(rt.alloc(), "first 52595938\nsecond -\n", keys.as_str(), 1)?;
-        let found = outcome_of(&tables, &list, spoiled.as_bytes(), 7);
-        assert_eq!(rt;
-            found,
-            Outcome::Judged {
-                verdict,
-                first: None,
-                second: Some(key)
-            }
-        );
+fn ends(first: Option<u64>, second: Option<u64>, verdict: Verdict) -> Outcome {
+    Outcome::Judged {
+        verdict,
+        first,
+        second,
     }
-    Ok(())
 }
 
-// Which keys are named, and which one is told in place of a wrong one.
+// Which keys are named, and which one is told in place of a wrong one. A block whose key is the second key isn't passed over.
 #[test]
 fn judges_keys(rt: HostRuntime) -> Result<(), Fail> {
-    let civil = Civil::make(rt.alloc())?;
-    let grids = [silent_grid(rt.alloc())?];
-    let tables = Tables::make(rt.alloc(), &grids, &civil, &window())?;
-    let list = items(rt.alloc(), &civil, &window())?;
-    let text = good_text(rt.alloc())?;
-    let true_first = Some(FROM as u64);
-    for (first, second, key) in [
-        (None, true_first, true_first),
-        (None, None, true_first),
-        (Some(52_595_939), None, true_first),
-        (true_first, true_first, None),
-        (true_first, Some(6_416_711_999), None),
-    ] {
-        let mut keys = String::new(rt.alloc());
-        for (name, named) in [("first", first), ("second", second)] {
-            match named {
-                None => write!(keys, "{name} -\n")?,
-                Some(number) => write!(keys, "{name} {number}\n")?,
-            }
-        }
-        let spoiled = text.replacen(rt.alloc(), "first 52595938\nsecond -\n", keys.as_str(), 1)?;
-        for piece in [1, 7, 65_536] {
-            assert_eq!(rt;
-                outcome_of(&tables, &list, spoiled.as_bytes(), piece),
-                Outcome::Judged {
-                    verdict: Verdict::WrongEnds { key },
-                    first,
-                    second
-                }
-            );
-        }
-    }
+    let keys = "first 52595938\nsecond -\n";
+    let to_the_step = "first 52595938\nsecond -\nworker 0\nO Y 0 0";
+    let key = Some(FROM as u64);
+    let wrong = wrong_of(
+        rt.alloc(),
+        &[
+            row(
+                keys,
+                "first -\nsecond 52595938\n",
+                ends(None, key, Verdict::WrongEnds { key }),
+            ),
+            row(
+                keys,
+                "first -\nsecond -\n",
+                ends(None, None, Verdict::WrongEnds { key }),
+            ),
+            row(
+                keys,
+                "first 52595938\nsecond 52595938\n",
+                ends(key, key, Verdict::WrongEnds { key: None }),
+            ),
+            row(
+                to_the_step,
+                "first -\nsecond 52595938\nworker 0\nP Y 0 0",
+                ends(None, key, Verdict::NotAbove { step: 1 }),
+            ),
+            row(
+                to_the_step,
+                "first -\nsecond 52595937\nworker 0\nP Y 0 0",
+                ends(None, Some(52_595_937), Verdict::Uncovered { step: 2 }),
+            ),
+        ],
+    )?;
+    assert_eq!(rt; wrong, None);
     Ok(())
 }
