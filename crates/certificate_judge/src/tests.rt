@@ -109,14 +109,14 @@ fn outcome_of(tables: &Tables, list: &[Block], bytes: &[u8], piece: usize) -> Ou
 
 // One text in place of another, and what then comes of the certificate.
 #[derive(Clone, Copy)]
-struct Row {
+struct Case {
     old: &'static str,
     new: &'static str,
     wanted: Outcome,
 }
 
-fn row(old: &'static str, new: &'static str, wanted: Outcome) -> Row {
-    Row { old, new, wanted }
+fn row(old: &'static str, new: &'static str, wanted: Outcome) -> Case {
+    Case { old, new, wanted }
 }
 
 // The place of the first row of which something else comes, in pieces of 1, 7 or 65,536 bytes.
@@ -125,7 +125,7 @@ fn first_wrong(
     tables: &Tables,
     list: &[Block],
     text: &str,
-    rows: &[Row],
+    rows: &[Case],
 ) -> Result<Option<usize>, Fail>
     requires { list.now ≡ items tables.now.window }
 {
@@ -151,7 +151,7 @@ fn comes(tables: &Tables, list: &[Block], bytes: &[u8], wanted: Outcome) -> bool
 }
 
 // The same of the certificate of the century's last minutes.
-fn wrong_of(alloc: Global, rows: &[Row]) -> Result<Option<usize>, Fail> {
+fn wrong_of(alloc: Global, rows: &[Case]) -> Result<Option<usize>, Fail> {
     let civil = Civil::make(alloc)?;
     let grids = [silent_grid(alloc)?];
     let tables = Tables::make(alloc, &grids, &civil, &window())?;
