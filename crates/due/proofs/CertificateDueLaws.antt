@@ -20,10 +20,8 @@ use Rattle.race_words.specs.Keys.{two_least}
 use Rattle.block_visits.specs.Facts.{Facts}
 use Rattle.formats.specs.declared.words.Asked.{Asked}
 use Rattle.formats.specs.OrderRanges.{IsAsked}
-use Rattle.formats.specs.Orders.{Checked, Order, order_of}
+use Rattle.formats.specs.Orders.{Checked}
 use Rattle.formats.specs.Orders.Order.{Decode, Check, Feed, Encode, Trial, Follow, Sweep, Judge, Board, Irig, IrigRead}
-use Rattle.formats.specs.Words.{run_commands}
-use Rattle.formats.proofs.OrderRangeLaws.{order_in_range}
 use Rattle.bank_config.specs.Configuration.{PlainConfig, PlainReceiver}
 use Rattle.bank_config.specs.InRange.{IsPlainInRange}
 use Rattle.bank_config.proofs.RangeLaws.{plain_in_range}
@@ -38,11 +36,13 @@ use Rattle.due.specs.Banks.{Bank, IsBankAnswer, bank_of, costs_in, receivers_of,
 use Rattle.due.specs.CertificateRules.{AsksCertificate, CertificateOrder, IsBankCertificate, IsCertificateDue, IsChecked, IsNotCheaper, Not_asked, Not_loaded, Written, certificate_name, certified, name_asked, parts_for}
 use Rattle.due.specs.Inputs.{Configuration, Contents}
 use Rattle.due.specs.Loads.{IsBankLoaded}
+use Rattle.due.specs.Orders.{order_in}
 use Rattle.due.proofs.BoundRangeLaws.{AreTuned, bounds_small}
 use Rattle.due.proofs.CertificateLaws.{is_good, is_valid, keeps, lines_are, named, not_cheaper, one_certificate, some_certificate}
 use Rattle.due.proofs.CheckLaws.{tells_answer}
 use Rattle.due.proofs.DueLaws.{IsBankJudged, bank_judged, not_both, one_bank}
 use Rattle.due.proofs.WindowLaws as windows
+use Rattle.due.proofs.WordLaws.{in_range as order_in_range}
 
 -- a bank that was loaded is in its ranges
 tuned : (rs : List PlainReceiver) (logs : List Records) → AllByRecursion (λ (r : PlainReceiver). IsTuned r.tuning) rs → AreTuned (receivers_of rs logs)
@@ -96,7 +96,7 @@ pub record IsCertificateInRange (o : CertificateOrder) : Type 0 where
 
 pub in_range : (words : List (List ℕ)) (o : CertificateOrder) → AsksCertificate words o → IsCertificateInRange o
 in_range words o asks =
-    let ranges = order_in_range run_commands words (Decode o.config o.asked o.workers (Some o.name)) asks in
+    let ranges = order_in_range words (Decode o.config o.asked o.workers (Some o.name)) asks in
     record { asked = ranges.1; some_worker = omega (arith, ranges.2.0); few_workers = omega (arith, ranges.2.1) }
 
 same_decode : (c : Checked Order) (o p : CertificateOrder) → c ≡ Ok (Decode o.config o.asked o.workers (Some o.name)) → c ≡ Ok (Decode p.config p.asked p.workers (Some p.name))
@@ -105,7 +105,7 @@ same_decode c o p e f = (cc, cc, cc, cc)
 
 pub one_order : (words : List (List ℕ)) (o p : CertificateOrder) → AsksCertificate words o → AsksCertificate words p → o ≡ p
 one_order words o p e f =
-    let same = same_decode (order_of run_commands words) o p e f in
+    let same = same_decode (order_in words) o p e f in
     λ i. record { config = same.0 i; asked = same.1 i; workers = same.2 i; name = same.3 i }
 
 pub asks_by_name : (words : List (List ℕ)) (o : CertificateOrder) → AsksCertificate words o → certificate_name words ≡ Some o.name
@@ -119,12 +119,12 @@ abbrev Asking : List (List ℕ) → Type 0
 Asking words = (certificate_name words ≡ None) ⊎ ((o : CertificateOrder) × AsksCertificate words o)
 
 asking : (words : List (List ℕ)) → Asking words
-asking words = go (order_of run_commands words) refl
+asking words = go (order_in words) refl
   where
-    named : (c : Checked Order) → order_of run_commands words ≡ c → name_asked c ≡ None → Asking words
+    named : (c : Checked Order) → order_in words ≡ c → name_asked c ≡ None → Asking words
     named c e none = inl (ap name_asked e ∙ none)
 
-    go : (c : Checked Order) → order_of run_commands words ≡ c → Asking words
+    go : (c : Checked Order) → order_in words ≡ c → Asking words
     go (Ok (Decode config asked workers (Some name))) e = inr (record { config = config; asked = asked; workers = workers; name = name }, e)
     go (Ok (Decode config asked workers None)) e = named (Ok (Decode config asked workers None)) e refl
     go (Ok (Check config certificate asked)) e = named (Ok (Check config certificate asked)) e refl

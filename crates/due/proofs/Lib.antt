@@ -11,6 +11,7 @@ pub mod CertificateSizeLaws
 pub mod CertificateLaws
 pub mod CheckLaws
 pub mod CertificateDueLaws
+pub mod OwedLaws
 pub mod StationLaws
 pub mod StatusLaws
 pub mod ExampleLaws

@@ -1,14 +1,19 @@
 -- Contents that agree on what is read owe the same, and lead to the same files.
-use Rattle.std.proofs.Common.{◌≡◌, ◌↔◌, ℕ, inl, inr, List, [], ◌∷◌, refl, sym, subst}
+use Rattle.std.proofs.Common.{◌≡◌, ◌↔◌, ℕ, inl, inr, List, [], ◌∷◌, Option, Some, refl, sym, subst}
 use Rattle.definitions.specs.heard.Logs.{Records}
 use Rattle.formats.specs.declared.refusal.Refusal.{Refusal}
+use Rattle.formats.specs.Orders.Order.{Decode}
 use Rattle.bank_config.specs.Configuration.{PlainConfig}
+use Rattle.certificates.specs.Certificates.{Certificate}
 use Rattle.due.specs.declared.due.Due.{Due}
+use Rattle.due.specs.CertificateRules.{AsksCertificate, CertificateOrder, IsCertificateDue, Not_asked, Not_loaded, Written}
 use Rattle.due.specs.Configurations.{IsBadConfiguration, IsConfiguration, logs_of}
 use Rattle.due.specs.Inputs.{Configuration, Contents, Input, LogOf}
 use Rattle.due.specs.LogFiles.{AreGood, IsBad, IsFirstBad, IsGood, IsLogRead, LogFile}
 use Rattle.due.specs.Loads.{IsBankLoaded, IsBankRead, IsBankRefused, Bad_configuration, Bad_log, Reads_configuration, Reads_log}
-use Rattle.due.specs.Rules.{IsDue, Bad_words, Listed, Tried, Bad_bank, Answered, IsRead}
+use Rattle.due.specs.Orders.{BankOrder, Report}
+use Rattle.due.specs.Owed.{IsOwed, Owed}
+use Rattle.due.specs.Rules.{AsksBank, IsDue, Bad_words, Listed, Tried, Bad_bank, Answered, IsRead}
 
 module _ (some other : Contents) where
   -- they agree on the logs that are read
@@ -82,6 +87,13 @@ module _ (name : List ℕ) (some other : Contents) (agree : (input : Input) (fil
 abbrev pub Agree : List (List ℕ) → Contents → Contents → Type 0
 Agree words some other = (input : Input) (file : List ℕ) → IsRead words some input file → some input ≡ other input
 
+-- who asks for a certificate asks something of a bank
+abbrev pub bank_of_order : CertificateOrder → BankOrder
+bank_of_order o = record { config = o.config; asked = o.asked; wanted = Report (Some o.name) }
+
+pub asks_of_bank : (words : List (List ℕ)) (o : CertificateOrder) → AsksCertificate words o → AsksBank words (bank_of_order o)
+asks_of_bank words o asks = (Decode o.config o.asked o.workers (Some o.name), asks, refl)
+
 module _ (words : List (List ℕ)) (some other : Contents) (agree : Agree words some other) where
   due_too : (due : Due) → IsDue words some due → IsDue words other due
   due_too due (Bad_words fault is e) = Bad_words fault is e
@@ -90,6 +102,16 @@ module _ (words : List (List ℕ)) (some other : Contents) (agree : Agree words 
   due_too due (Bad_bank o asks refusal bad e) = Bad_bank o asks refusal (refused_too o.config some other (λ input file read. agree input file (o, asks, read)) refusal bad) e
   due_too due (Answered o asks config records loaded reported) =
       Answered o asks config records (loaded_too o.config some other (λ input file read. agree input file (o, asks, read)) config records loaded) reported
+
+  certificate_too : (owed : Option Certificate) → IsCertificateDue words some owed → IsCertificateDue words other owed
+  certificate_too owed (Not_asked none e) = Not_asked none e
+  certificate_too owed (Not_loaded o asks refusal bad e) =
+      Not_loaded o asks refusal (refused_too o.config some other (λ input file read. agree input file (bank_of_order o, asks_of_bank words o asks, read)) refusal bad) e
+  certificate_too owed (Written o asks config records loaded c is e) =
+      Written o asks config records (loaded_too o.config some other (λ input file read. agree input file (bank_of_order o, asks_of_bank words o asks, read)) config records loaded) c is e
+
+  owed_too : (owed : Owed) → IsOwed words some owed → IsOwed words other owed
+  owed_too owed is = record { due_is = due_too owed.due is.due_is; certificate_is = certificate_too owed.certificate is.certificate_is }
 
   reads_too : (input : Input) (file : List ℕ) → IsRead words some input file → IsRead words other input file
   reads_too input file (o, asks, read) = (o, asks, bank_read_too o.config some other (λ n f r. agree n f (o, asks, r)) input file read)
@@ -103,6 +125,9 @@ turned words some other agree input file is = sym (agree input file (reads_back 
 
 pub same_due : (words : List (List ℕ)) (some other : Contents) → Agree words some other → (due : Due) → IsDue words some due ↔ IsDue words other due
 same_due words some other agree due = (due_too words some other agree due, due_too words other some (turned words some other agree) due)
+
+pub same_owed : (words : List (List ℕ)) (some other : Contents) → Agree words some other → (owed : Owed) → IsOwed words some owed ↔ IsOwed words other owed
+same_owed words some other agree owed = (owed_too words some other agree owed, owed_too words other some (turned words some other agree) owed)
 
 pub same_reads : (words : List (List ℕ)) (some other : Contents) → Agree words some other → (input : Input) (file : List ℕ)
     → IsRead words some input file ↔ IsRead words other input file

@@ -1,5 +1,5 @@
 -- Which statuses are due, and which words are refused although the grammar has them.
-use Rattle.std.proofs.Common.{◌≡◌, ◌≢◌, ℕ, List, Some, Ok, refl, ap}
+use Rattle.std.proofs.Common.{◌≡◌, ◌≢◌, ℕ, List, Ok, refl, ap}
 use Rattle.definitions.specs.declared.answer.Answer.{Answer}
 use Rattle.definitions.specs.declared.answer.Answer.TheVariants as answers
 use Rattle.formats.specs.declared.refusal.Refusal.{Refusal}
@@ -7,7 +7,7 @@ use Rattle.formats.specs.declared.refusal.Refusal.TheVariants.{WordsUsage, Words
 use Rattle.formats.specs.declared.words.Asked.{Asked}
 use Rattle.formats.specs.declared.words.WordFault.TheVariants.{Usage}
 use Rattle.formats.specs.Orders.{◌>>=◌, order_of}
-use Rattle.formats.specs.Orders.Order.{Check, Decode}
+use Rattle.formats.specs.Orders.Order.{Check}
 use Rattle.formats.specs.Words.{run_commands}
 use Rattle.due.specs.declared.due.Due.{Due}
 use Rattle.due.specs.declared.due.Due.TheVariants.{Refused, Report, Feed, Listing, Trial}
@@ -52,11 +52,7 @@ no_frame_failure_is_due (frame_dues.Read frames) = (λ e. cc, λ e. cc)
 no_frame_failure_is_due frame_dues.TooLarge = (λ e. cc, λ e. cc)
 no_frame_failure_is_due (frame_dues.BadLine line fault) = (λ e. cc, λ e. cc)
 
--- orders that speak of a certificate
+-- orders of a check
 pub check_is_refused : (words : List (List ℕ)) (contents : Contents) (config certificate : List ℕ) (asked : Asked)
     → order_of run_commands words ≡ Ok (Check config certificate asked) → IsDue words contents (Refused WordsUsage)
 check_is_refused words contents config certificate asked e = Bad_words Usage (ap (λ c. c >>= built) e) refl
-
-pub certificate_is_refused : (words : List (List ℕ)) (contents : Contents) (config certificate : List ℕ) (asked : Asked) (workers : ℕ)
-    → order_of run_commands words ≡ Ok (Decode config asked workers (Some certificate)) → IsDue words contents (Refused WordsUsage)
-certificate_is_refused words contents config certificate asked workers e = Bad_words Usage (ap (λ c. c >>= built) e) refl

@@ -1,5 +1,5 @@
 -- What accepted words ask for: an order of a run, in its ranges; and of a bank one thing.
-use Rattle.std.proofs.Common.{◌≡◌, true, List, ℕ, Some, None, Result, Ok, ◌∙◌, ap, subst}
+use Rattle.std.proofs.Common.{◌≡◌, true, List, ℕ, Some, Result, Ok, ◌∙◌, ap, subst}
 use Rattle.formats.specs.OrderRanges.{IsAsked, IsInRange, is_run_order}
 use Rattle.formats.specs.Orders.{Order, order_of}
 use Rattle.formats.specs.Orders.Order.{Decode, Check, Feed, Encode, Trial, Follow, Sweep, Judge, Board, Irig, IrigRead}
@@ -10,8 +10,7 @@ use Rattle.due.specs.Rules.{AsksBank}
 
 -- an order that is built stays as it is
 built_keeps : (o order : Order) → built o ≡ Ok order → o ≡ order
-built_keeps (Decode config asked workers None) order e = cc
-built_keeps (Decode config asked workers (Some certificate)) order e = absurd cc
+built_keeps (Decode config asked workers certificate) order e = cc
 built_keeps (Check config certificate asked) order e = absurd cc
 built_keeps (Feed config asked workers) order e = cc
 built_keeps (Encode station minute leap) order e = cc

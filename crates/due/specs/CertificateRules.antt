@@ -16,7 +16,6 @@ use Rattle.bank_config.specs.Configuration.{PlainConfig}
 use Rattle.certificates.specs.declared.certificate.Line.{Line}
 use Rattle.certificates.specs.Certificates.{Certificate}
 use Rattle.certificates.specs.Judged.{IsBadCertificate, IsGoodCertificate}
-use Rattle.certificates.specs.Texts.{certificate_text}
 use Rattle.certificates.specs.Validity.{AreTight, AreWalks, limit_named}
 use Rattle.due.specs.declared.check_due.CertificateFault.{CertificateFault}
 use Rattle.due.specs.declared.check_due.CheckDue.{CheckDue}
@@ -25,6 +24,7 @@ use Rattle.due.specs.Banks.{Bank, bank_of, costs_in, duts_of, window_of}
 use Rattle.due.specs.CheckDues.{fault_of}
 use Rattle.due.specs.Inputs.{Contents}
 use Rattle.due.specs.Loads.{IsBankLoaded, IsBankRefused}
+use Rattle.due.specs.Orders.{order_in}
 
 -- as many parts as workers: the first has all lines, and the others have none
 abbrev pub parts_for : ℕ → List Line → List (List Line)
@@ -67,7 +67,7 @@ pub record CertificateOrder : Type 0 where
   pub name : List ℕ
 
 abbrev pub AsksCertificate : List (List ℕ) → CertificateOrder → Type 0
-AsksCertificate words o = order_of run_commands words ≡ Ok (Decode o.config o.asked o.workers (Some o.name))
+AsksCertificate words o = order_in words ≡ Ok (Decode o.config o.asked o.workers (Some o.name))
 
 -- the file for a certificate, where words ask for one
 abbrev pub name_asked : Checked Order → Option (List ℕ)
@@ -75,7 +75,7 @@ name_asked (Ok (Decode config asked workers certificate)) = certificate
 name_asked other = None
 
 abbrev pub certificate_name : List (List ℕ) → Option (List ℕ)
-certificate_name words = name_asked (order_of run_commands words)
+certificate_name words = name_asked (order_in words)
 
 -- The certificate that is due, by the first rule that fits: none where no one asks for it; none where the configuration or a log
 -- is refused; and that of the bank, whatever the answer is.
@@ -108,8 +108,3 @@ pub data IsChecked (window : Window) (bank : Bank) (bytes : List ℕ) (due : Che
       → due ≡ NotCertified fault → IsChecked window bank bytes due
   Good : (first second : Option ℕ) → IsGoodCertificate (costs_in window bank) window bank.ceiling bytes first second
       → due ≡ certified window bank (answer_from first second) → IsChecked window bank bytes due
-
--- the bytes of a certificate that is due
-abbrev pub owed_text : Option Certificate → Option (List ℕ)
-owed_text None = None
-owed_text (Some c) = Some (certificate_text c)

@@ -11,6 +11,7 @@ pub mod CertificateRules
 pub mod Dues
 pub mod Outputs
 pub mod Rules
+pub mod Owed
 pub mod FrameOrders
 pub mod FrameDues
 pub mod FrameRules

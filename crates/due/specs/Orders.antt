@@ -9,10 +9,9 @@ use Rattle.formats.specs.Orders.{Order, Checked, ◌>>=◌, order_of}
 use Rattle.formats.specs.Orders.Order.{Decode, Check, Feed}
 use Rattle.formats.specs.Words.{run_commands}
 
--- Certificates aren't built yet, so that an order that speaks of one is refused, as words are that no command takes.
+-- The check of a certificate isn't built yet, so that an order of one is refused, as words are that no command takes.
 abbrev pub built : Order → Checked Order
 built (Check config certificate asked) = Err Usage
-built (Decode config asked workers (Some certificate)) = Err Usage
 built order = Ok order
 
 -- what the words ask for, or why they are refused

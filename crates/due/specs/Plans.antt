@@ -1,14 +1,15 @@
 -- What a command reads, owes and writes, in one value, so that how a run ends is said once for all commands.
 use Rattle.std.specs.Prelude.{ℕ, ◌≢◌, List, [], ◌∷◌}
-use Rattle.due.specs.declared.due.Due.{Due}
 use Rattle.due.specs.declared.frame_due.FrameDue.{FrameDue}
 use Rattle.due.specs.declared.status.Status.{Status}
+use Rattle.due.specs.CertificateRules.{certificate_name}
 use Rattle.due.specs.Dues.{status_of}
 use Rattle.due.specs.FrameDues.{frame_outputs, frame_status}
 use Rattle.due.specs.FrameRules.{IsFrameDue, IsFrameRead}
 use Rattle.due.specs.Inputs.{Contents, Input}
-use Rattle.due.specs.Outputs.{EachOf, Output, outputs_of, standard_output}
-use Rattle.due.specs.Rules.{IsDue, IsRead}
+use Rattle.due.specs.Outputs.{EachOf, Output, standard_output}
+use Rattle.due.specs.Owed.{IsOwed, Owed, files_of, no_other_file, owed_outputs}
+use Rattle.due.specs.Rules.{IsRead}
 
 -- D is what can be due.
 pub record Plan (D : Type 0) : Type 1 where
@@ -25,15 +26,15 @@ pub record Plan (D : Type 0) : Type 1 where
   pub no_other : (due : D) (file : List ℕ) → EachOf (λ name. file ≢ name) files → EachOf (λ o. file ≢ o.file) (outputs due)
 
 -- the plan of a run for its words
-abbrev pub run_plan : List (List ℕ) → Plan Due
+abbrev pub run_plan : List (List ℕ) → Plan Owed
 run_plan words =
     record {
-      owes = IsDue words;
+      owes = IsOwed words;
       reads = IsRead words;
-      status = status_of;
-      outputs = outputs_of;
-      files = standard_output ∷ [];
-      no_other = λ due file other. other;
+      status = λ owed. status_of owed.due;
+      outputs = owed_outputs (certificate_name words);
+      files = files_of (certificate_name words);
+      no_other = λ owed. no_other_file (certificate_name words) owed.certificate owed.due;
     }
 
 -- the plan of a command of frames for its words

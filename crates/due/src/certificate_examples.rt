@@ -1,21 +1,25 @@
 //! Worked examples of certificates: what words ask of them, what a decode owes, and what is told of bytes that are to be one.
 #![tactic(auto, unfolding(crate::specs::Examples::digits))]
 
-ghost use Rattle.std.specs.Prelude.{ℕ, ◌≡◌, ◌<◌, ◌+◌, ◌*◌, ◌^◌, ◌++◌, ◌∷◌, [], List, None, Some, codes, length};
+ghost use Rattle.std.specs.Prelude.{ℕ, ◌≡◌, ◌<◌, ◌+◌, ◌*◌, ◌^◌, ◌++◌, ◌∷◌, [], List, None, Some, codes, length, true};
 ghost use Rattle.signal_base.specs.declared.window.Window.{Window};
 ghost use Rattle.definitions.specs.declared.answer.Answer.TheVariants as answer;
 ghost use Rattle.definitions.specs.declared.sequence.Sequence.{Sequence};
 ghost use Rattle.definitions.specs.examples.Sequences.{window_of};
 ghost use Rattle.formats.specs.Bytes.{line};
 ghost use Rattle.formats.specs.WordExamples.{asked, asked_usually, words_in};
+ghost use Rattle.formats.specs.declared.refusal.Refusal.TheVariants.{WordsUsage};
 ghost use Rattle.certificates.specs.Examples.{hour_certificate, opened_hour, two_minutes};
 ghost use Rattle.certificates.specs.Texts.{certificate_text};
 ghost use Rattle.due.specs.declared.check_due.CertificateFault.TheVariants.{BadLine, NotAbove, OtherWindow, TooLarge, TooManySteps, Uncovered, WrongBound, WrongEnds};
 ghost use Rattle.due.specs.declared.check_due.CheckDue.TheVariants.{Certified, NotCertified};
 ghost use Rattle.due.specs.declared.status.Status.TheVariants.{BadCertificate, Done};
 ghost use Rattle.due.specs.Banks.{Bank};
-ghost use Rattle.due.specs.CertificateRules.{AsksCertificate, AsksCheck, IsChecked, IsNotCheaper, certificate_name, certificate_with, owed_text};
+ghost use Rattle.due.specs.CertificateRules.{AsksCertificate, AsksCheck, IsChecked, IsNotCheaper, certificate_name, certificate_with};
+ghost use Rattle.due.specs.declared.due.Due.TheVariants.{Refused};
 ghost use Rattle.due.specs.CheckDues.{check_status, check_text};
+ghost use Rattle.due.specs.Outputs.{printed};
+ghost use Rattle.due.specs.Owed.{files_of, owed_outputs, told_alone};
 
 use certificates::examples::{bad_lines, text_of_an_hour};
 
@@ -47,11 +51,13 @@ pub fn what_is_asked_of_certificates()
     ensures dash { certificate_name (words_in (codes "decode k.toml --certificate -")) ≡ None }
 {}
 
-/// The certificate of two workers has all lines in its first part. Its text is what is written.
+/// The certificate of two workers has all lines in its first part. Its text is written anew to its file, in front of what is told.
 pub fn certificates_of_two_workers()
     ensures parts { certificate_with two_minutes 1_000 2 (Some (116 * 2 ^ 33 + 700)) (Some (118 * 2 ^ 33 + 701)) opened_hour ≡ hour_certificate }
-    ensures text { owed_text (Some hour_certificate) ≡ Some (certificate_text hour_certificate) }
-    ensures none { owed_text None ≡ None }
+    ensures written { owed_outputs (Some (codes "x.cert")) (record { due = Refused WordsUsage; certificate = Some hour_certificate })
+        ≡ record { file = codes "x.cert"; anew = true; text = certificate_text hour_certificate } ∷ printed (Refused WordsUsage) ∷ [] }
+    ensures none { owed_outputs (Some (codes "x.cert")) (told_alone (Refused WordsUsage)) ≡ printed (Refused WordsUsage) ∷ [] }
+    ensures files { files_of (Some (codes "x.cert")) ≡ codes "x.cert" ∷ codes "-" ∷ [] }
 {}
 
 /// What a pruned bound may be: at the costs of both sequences, and above the ceiling where there is only one or none.

@@ -65,7 +65,7 @@ pub fn words_that_are_refused()
     ensures dash { (contents : Contents) → IsDue (words_in (codes "feed -")) contents (Refused WordsUsage) }
     ensures beyond { (contents : Contents) → IsDue (words_in (codes "follow k.toml")) contents (Refused WordsUsage) }
     ensures check { (contents : Contents) → IsDue (words_in (codes "check k.toml x.cert")) contents (Refused WordsUsage) }
-    ensures certificate { (contents : Contents) → IsDue (words_in (codes "decode k.toml --certificate x.cert")) contents (Refused WordsUsage) }
+    ensures certificate { (contents : Contents) → IsDue (words_in (codes "decode k.toml --certificate -")) contents (Refused WordsUsage) }
     ensures seconds { (contents : Contents) → IsDue (words_in (codes "decode k.toml --seconds 59")) contents (Refused (WordsBad Seconds)) }
     ensures number { (contents : Contents) → IsDue (words_in (codes "trial 4294967296")) contents (Refused (WordsBad Number)) }
     ensures minute { (contents : Contents) → IsDue (words_in (codes "encode msf 1")) contents (Refused (WordsBad Minute)) }
@@ -83,6 +83,8 @@ pub fn listings_that_are_due()
 /// What words ask of a bank: a report, or a feed.
 pub fn what_is_asked()
     ensures decode { AsksBank (words_in (codes "decode k.toml")) (record { config = codes "k.toml"; asked = asked_usually; wanted = orders.Report None }) }
+    ensures certificate { AsksBank (words_in (codes "decode k.toml --certificate x.cert"))
+        (record { config = codes "k.toml"; asked = asked_usually; wanted = orders.Report (Some (codes "x.cert")) }) }
     ensures feed { AsksBank (words_in (codes "feed k.toml --seconds 60 --start 7"))
         (record { config = codes "k.toml"; asked = asked (Some 7) 60 0 52_596_000; wanted = orders.Sentences }) }
 {}

@@ -1,11 +1,11 @@
 //! What follows from the rules of what is due: for all words and contents there is one text and one status.
 
-ghost use Rattle.std.specs.Prelude.{ℕ, ◌≡◌, ◌≢◌, ◌⊎◌, ◌↔◌, Bool, List, Some, Ok, Err};
+ghost use Rattle.std.specs.Prelude.{ℕ, ◌≡◌, ◌≢◌, ◌⊎◌, ◌↔◌, Bool, List, Ok, Err};
 ghost use Rattle.signal_base.specs.declared.station.Station.{Station};
 ghost use Rattle.definitions.specs.heard.Logs.{Records};
 ghost use Rattle.formats.specs.OrderRanges.{IsAsked};
 ghost use Rattle.formats.specs.Orders.{order_of};
-ghost use Rattle.formats.specs.Orders.Order.{Check, Decode, Encode, Trial};
+ghost use Rattle.formats.specs.Orders.Order.{Check, Encode, Trial};
 ghost use Rattle.formats.specs.Words.{run_commands};
 ghost use Rattle.formats.specs.declared.refusal.Refusal.{Refusal};
 ghost use Rattle.formats.specs.declared.refusal.Refusal.TheVariants.{WordsUsage};
@@ -19,8 +19,11 @@ ghost use Rattle.due.specs.Configurations.{IsBadConfiguration, IsConfiguration};
 ghost use Rattle.due.specs.Dues.{status_of};
 ghost use Rattle.due.specs.LogFiles.{AreGood, IsFirstBad, LogFile};
 ghost use Rattle.due.specs.Orders.{BankOrder, order_in};
+ghost use Rattle.due.specs.Owed.{IsOwed, Owed};
 ghost use Rattle.due.specs.Inputs.{Configuration, Contents, Input};
 ghost use Rattle.due.specs.Rules.{AsksBank, IsDue, IsRead};
+
+use block_visits::blocks_share_the_sequences;
 
 /// For all words and contents of files there is something due.
 pub fn something_is_due()
@@ -33,11 +36,23 @@ pub fn due_is_one()
         → IsDue words contents a → IsDue words contents b → a ≡ b }
 {}
 
+/// All that a run owes is one thing too: what is told, and the certificate where words ask for one.
+pub fn one_thing_is_owed()
+    ensures some { (words : List (List ℕ)) (contents : Contents) → (owed : Owed) × IsOwed words contents owed }
+    ensures one { (words : List (List ℕ)) (contents : Contents) (a b : Owed)
+        → IsOwed words contents a → IsOwed words contents b → a ≡ b }
+{
+    blocks_share_the_sequences();
+}
+
 /// Where two contents agree on all that is read for the one, the same is due for both, and the same files are read.
 pub fn reads_decide()
     ensures due { (words : List (List ℕ)) (some other : Contents)
         → ((input : Input) (file : List ℕ) → IsRead words some input file → some input ≡ other input)
         → (due : Due) → IsDue words some due ↔ IsDue words other due }
+    ensures owed { (words : List (List ℕ)) (some other : Contents)
+        → ((input : Input) (file : List ℕ) → IsRead words some input file → some input ≡ other input)
+        → (owed : Owed) → IsOwed words some owed ↔ IsOwed words other owed }
     ensures reads { (words : List (List ℕ)) (some other : Contents)
         → ((input : Input) (file : List ℕ) → IsRead words some input file → some input ≡ other input)
         → (input : Input) (file : List ℕ) → IsRead words some input file ↔ IsRead words other input file }
@@ -71,12 +86,10 @@ pub fn no_failure_is_due()
     ensures memory { (due : Due) → status_of due ≢ NoMemory }
 {}
 
-/// Words that speak of a certificate are refused: those of a check, and those of a decode that is asked for one.
-pub fn certificates_are_refused()
-    ensures check { (words : List (List ℕ)) (contents : Contents) (config certificate : List ℕ) (asked : Asked)
+/// Words that ask for the check of a certificate are refused.
+pub fn checks_are_refused()
+    ensures { (words : List (List ℕ)) (contents : Contents) (config certificate : List ℕ) (asked : Asked)
         → order_of run_commands words ≡ Ok (Check config certificate asked) → IsDue words contents (Refused WordsUsage) }
-    ensures decode { (words : List (List ℕ)) (contents : Contents) (config certificate : List ℕ) (asked : Asked) (workers : ℕ)
-        → order_of run_commands words ≡ Ok (Decode config asked workers (Some certificate)) → IsDue words contents (Refused WordsUsage) }
 {}
 
 /// Each text is a configuration, and one only, or it is refused in one way.

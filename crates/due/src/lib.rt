@@ -58,8 +58,8 @@ pub use heard_examples::{
 };
 pub use heard_laws::{one_hearing_is_due, reads_decide_what_is_shown, what_a_decode_would_tell};
 pub use laws::{
-    certificates_are_refused, configuration_has_one_outcome, configuration_is_read_first,
-    due_is_one, logs_have_one_outcome, no_failure_is_due, reads_decide, something_is_due,
+    checks_are_refused, configuration_has_one_outcome, configuration_is_read_first, due_is_one,
+    logs_have_one_outcome, no_failure_is_due, one_thing_is_owed, reads_decide, something_is_due,
     words_ask_one_thing,
 };
 pub use status::Status;

@@ -25,7 +25,7 @@ pub returns-clause-check : goal.returns-clause-check
 returns-clause-check c = refused (words_in (codes "check k.toml x.cert")) Usage refl
 
 pub returns-clause-certificate : goal.returns-clause-certificate
-returns-clause-certificate c = refused (words_in (codes "decode k.toml --certificate x.cert")) Usage refl
+returns-clause-certificate c = refused (words_in (codes "decode k.toml --certificate -")) Usage refl
 
 pub returns-clause-seconds : goal.returns-clause-seconds
 unfolding digits number_of
