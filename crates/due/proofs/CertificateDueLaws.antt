@@ -20,7 +20,7 @@ use Rattle.race_words.specs.Keys.{two_least}
 use Rattle.block_visits.specs.Facts.{Facts}
 use Rattle.formats.specs.declared.words.Asked.{Asked}
 use Rattle.formats.specs.OrderRanges.{IsAsked}
-use Rattle.formats.specs.Orders.{Checked}
+use Rattle.formats.specs.Orders.{Checked, Order}
 use Rattle.formats.specs.Orders.Order.{Decode, Check, Feed, Encode, Trial, Follow, Sweep, Judge, Board, Irig, IrigRead}
 use Rattle.bank_config.specs.Configuration.{PlainConfig, PlainReceiver}
 use Rattle.bank_config.specs.InRange.{IsPlainInRange}
