@@ -10,7 +10,7 @@ use Rattle.due.specs.Plans.{Plan}
 use Rattle.due.specs.Status.{code_of}
 use Rattle.bank.specs.declared.stop.Stop.{Stop}
 use Rattle.bank.specs.declared.stop.Stop.TheVariants.{Failed, NoMemory}
-use Rattle.bank.specs.Ending.{Agrees, AreTold, Delivers, DeliversDue, Ends, FindsDue, HasRun, IsFound, OnlyWritesAmong, SomeReadFails, WritesAll, WritesNothing, status_after}
+use Rattle.bank.specs.Ending.{Agrees, AreTold, Delivers, DeliversDue, Ends, FindsDue, HasRun, IsFound, OnlyWritesAmong, SomeReadFails, SomeWriteFails, WritesAll, WritesFront, WritesNothing, over, status_after}
 
 -- the status is no number that stands for a failed file or for want of memory
 abbrev pub IsNoFailure : Status → Type 0
@@ -134,6 +134,20 @@ module _ {D : Type 0} (plan : Plan D) where
       → DeliversDue plan old new code → (due : D) → plan.owes contents due → Delivers plan old new due code
   delivered_exactly one same old new contents code read (found, (some, agrees, is), delivers) due also =
       subst (λ d. Delivers plan old new d code) (one contents found due (same some contents (read some agrees) found is) also) delivers
+
+-- an end over what is kept is one over what is seen
+pub ends_over : {D E : Type 0} (seen : D → E) (plan : Plan E) (old new : Seen) (r : Result Status Stop) → Ends (over seen plan) old new r → Ends plan old new r
+ends_over seen plan old new (Ok status) ((due, found, delivers), same) = ((seen due, found, delivers), same)
+ends_over seen plan old new (Err Failed) (cause, came) = (by_cause cause, by_front came)
+  where
+    by_cause : SomeWriteFails (over seen plan) old new ⊎ SomeReadFails (over seen plan) old new → SomeWriteFails plan old new ⊎ SomeReadFails plan old new
+    by_cause (inl (due, found, some)) = inl (seen due, found, some)
+    by_cause (inr reads) = inr reads
+
+    by_front : WritesNothing old new ⊎ WritesFront (over seen plan) old new → WritesNothing old new ⊎ WritesFront plan old new
+    by_front (inl nothing) = inl nothing
+    by_front (inr (due, found, front, others)) = inr (seen due, found, front, others)
+ends_over seen plan old new (Err NoMemory) ends = ends
 
 -- reads, and then what is due is written: no file is written but those of the plan
 pub only_written : {D : Type 0} {E : Type 0} (plan : Plan D) (old mid new : Seen) (due : D) (r : Result (Unit {0}) E) → OnlyReads old mid → WritesAll (plan.outputs due) mid new r

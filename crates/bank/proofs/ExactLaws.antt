@@ -2,15 +2,15 @@
 use Rattle.std.proofs.Common.{◌≡◌, ℕ, List, [], ◌∷◌, inl, inr, refl, subst}
 use Rattle.bank_files.specs.Told.{Finds, Holds, Told}
 use Rattle.bank_files.specs.Seen.{Seen}
-use Rattle.due.specs.declared.due.Due.{Due}
 use Rattle.due.specs.Configurations.{IsConfiguration, logs_of}
 use Rattle.due.specs.Inputs.{Configuration, Contents, Input, LogOf}
 use Rattle.due.specs.LogFiles.{IsGood, IsLogRead, LogFile}
 use Rattle.due.specs.Plans.{run_plan}
 use Rattle.due.specs.Loads.{IsBankRead, Reads_configuration, Reads_log}
-use Rattle.due.specs.Rules.{IsDue, IsRead}
-use Rattle.due.proofs.DueLaws.{one_due}
-use Rattle.due.proofs.ReadLaws.{same_due}
+use Rattle.due.specs.Owed.{IsOwed, Owed}
+use Rattle.due.specs.Rules.{IsRead}
+use Rattle.due.proofs.OwedLaws.{one_thing}
+use Rattle.due.proofs.ReadLaws.{same_owed}
 use Rattle.bank.specs.Ending.{Agrees, AreTold, Delivers, DeliversDue}
 use Rattle.bank.specs.Loading.{BankAgrees}
 use Rattle.bank.proofs.EndingLaws.{delivered_exactly}
@@ -46,7 +46,7 @@ all_same old words some told agrees all input file (o, asks, read) =
 
 -- where the contents are told, it is what is due for them
 pub run_exactly : (words : List (List ℕ)) (old new : Seen) (code : ℕ) → DeliversDue (run_plan words) old new code
-    → (contents : Contents) → AreTold (run_plan words) old contents → (due : Due) → IsDue words contents due → Delivers (run_plan words) old new due code
-run_exactly words old new code delivers contents all due also =
-    delivered_exactly (run_plan words) (λ told a b. one_due told words a b) (λ some other same d. (same_due words some other same d).0) old new contents code
-    (λ some agrees. all_same old words some contents agrees all) delivers due also
+    → (contents : Contents) → AreTold (run_plan words) old contents → (owed : Owed) → IsOwed words contents owed → Delivers (run_plan words) old new owed code
+run_exactly words old new code delivers contents all owed also =
+    delivered_exactly (run_plan words) (λ told a b. one_thing told words a b) (λ some other same d. (same_owed words some other same d).0) old new contents code
+    (λ some agrees. all_same old words some contents agrees all) delivers owed also

@@ -108,6 +108,18 @@ module _ {D : Type 0} (plan : Plan D) where
   Ends old new (Err Failed) = (SomeWriteFails old new ⊎ SomeReadFails old new) × (WritesNothing old new ⊎ WritesFront old new)
   Ends old new (Err NoMemory) = WritesNothing old new × SameCounts old new
 
+-- A plan of what is seen is one of what is kept.
+abbrev pub over : {D E : Type 0} → (D → E) → Plan E → Plan D
+over seen plan =
+    record {
+      owes = λ contents due. plan.owes contents (seen due);
+      reads = plan.reads;
+      status = λ due. plan.status (seen due);
+      outputs = λ due. plan.outputs (seen due);
+      files = plan.files;
+      no_other = λ due file other. plan.no_other (seen due) file other;
+    }
+
 -- what finding what is due came to: it only read
 pub record FindsDue {D : Type 0} (plan : Plan D) (old new : Seen) (found : Result D Stop) : Type 0 where
   pub due : IfOk found (IsFound plan old)

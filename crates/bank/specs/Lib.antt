@@ -1,4 +1,5 @@
 pub mod Ending
+pub mod Certifying
 pub mod Finding
 pub mod Hearing
 pub mod Loading

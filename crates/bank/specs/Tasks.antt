@@ -7,13 +7,17 @@ use Rattle.formats.specs.OrderRanges.{IsAsked, IsFile}
 use Rattle.formats.specs.declared.words.TheConstants.{LEAST_WORKERS, MOST_WORKERS}
 use Rattle.due.specs.Orders.{Wanted as PlainWanted, order_in}
 use Rattle.due.specs.Orders as plain
+use Rattle.due.specs.CertificateRules.{AsksCertificate, CertificateOrder}
 use Rattle.due.specs.Rules.{AsksBank}
+use Rattle.bank.specs.declared.words.Certify.{Certify}
+use Rattle.bank.specs.declared.words.Work.{Work}
+use Rattle.bank.specs.declared.words.Work.TheVariants as works
 use Rattle.bank.specs.declared.words.Wanted.{Wanted}
 use Rattle.bank.specs.declared.words.Wanted.TheVariants.{Report, Sentences}
 use Rattle.bank.specs.declared.words.Task.{Task}
 use Rattle.bank.specs.declared.words.Task.TheVariants.{Decode, List as Lists, Try}
 
--- what is wanted of a bank: certificates aren't written yet
+-- what is wanted of a bank, where no certificate is written
 abbrev pub wanted_seen : Wanted → PlainWanted
 wanted_seen Report = plain.Report None
 wanted_seen Sentences = plain.Sentences
@@ -33,3 +37,19 @@ abbrev pub IsInRange : Task → Type 0
 IsInRange (Decode config asked wanted workers) = IsFile config.now × IsAsked asked × AreWorkers workers
 IsInRange (Lists station minute announced) = (minute < century_minutes) × (encoded_year station minute ≤ 2099)
 IsInRange (Try number workers) = AreWorkers workers
+
+-- what is asked of a certificate
+abbrev pub certificate_order : Certify → CertificateOrder
+certificate_order c = record { config = c.config.now; asked = c.asked; workers = c.workers; name = c.name.now }
+
+abbrev pub IsCertifyInRange : Certify → Type 0
+IsCertifyInRange c = IsFile c.config.now × IsAsked c.asked × AreWorkers c.workers × IsFile c.name.now
+
+-- the words ask for this, with a certificate or without
+abbrev pub AsksWork : List (List ℕ) → Work → Type 0
+AsksWork words (works.Tell task) = Asks words task
+AsksWork words (works.Certify c) = AsksCertificate words (certificate_order c)
+
+abbrev pub IsWorkInRange : Work → Type 0
+IsWorkInRange (works.Tell task) = IsInRange task
+IsWorkInRange (works.Certify c) = IsCertifyInRange c

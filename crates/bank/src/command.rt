@@ -1,7 +1,9 @@
 //! A run of the program for words that are in order.
 
 ghost use Rattle.bank_words.specs.Seen.{texts_of};
+ghost use Rattle.due.specs.Owed.{told_alone};
 ghost use Rattle.due.specs.Plans.{run_plan};
+ghost use Rattle.bank.specs.Ending.{over};
 ghost use Rattle.bank.specs.Finding.{CanBeWritten};
 
 use crate::deliver::deliver_due;
@@ -20,7 +22,7 @@ pub struct Command<'a> {
 impl Job for Command<'_> {
     type Due = Due;
 
-    ghost plan = { λ command. run_plan (texts_of command.words.now) };
+    ghost plan = { λ command. over told_alone (run_plan (texts_of command.words.now)) };
 
     ghost can_be_written = { CanBeWritten };
 

@@ -129,8 +129,8 @@ fn answer_for<R: Threads + Sync, G: Gate + Sync>(
     Ok(answer_of(found.first, found.second))
 }
 
-// What the stations of the window tell of DUT1, where the answer is decided.
-fn duts_of(civil: &Civil, grids: &[CostGrid], window: &Window, answer: &Answer) -> Duts
+/// What the stations of the window tell of DUT1, where the answer is decided.
+pub fn duts_of(civil: &Civil, grids: &[CostGrid], window: &Window, answer: &Answer) -> Duts
     requires window { IsWindow window.now }
     requires grids { AreGrids window.now grids.now }
     requires answer { IsReportable window.now answer.now }

@@ -3,10 +3,11 @@
 ghost use Rattle.std.specs.Prelude.{◌≡◌, ◌≢◌, Err, IfErr, IfOk, IsErrOf, List, ℕ};
 ghost use Rattle.bank_files.specs.Seen.{OnlyReads, SameCounts};
 ghost use Rattle.due.specs.Banks.{Bank, duts_of};
+ghost use Rattle.due.specs.Owed.{told_alone};
 ghost use Rattle.due.specs.Plans.{run_plan};
 ghost use Rattle.due.specs.Rules.{reported};
 ghost use Rattle.texts.specs.Reportable.{IsReportable};
-ghost use Rattle.bank.specs.Ending.{IsFound, SomeReadFails};
+ghost use Rattle.bank.specs.Ending.{IsFound, SomeReadFails, over};
 ghost use Rattle.bank.specs.Finding.{CanBeWritten};
 ghost use Rattle.bank.specs.Tasks.{Asks, IsInRange, wanted_seen};
 
@@ -35,9 +36,9 @@ pub fn find_due<R: Threads + Sync, F: Files, G: Gate + Sync>(
     gate: &G,
 ) -> Result<Due, Stop>
     requires { IsInRange task.now }
-    ensures due { IfOk result (λ due. (words : List (List ℕ)) → Asks words task.now → IsFound (run_plan words) (F.view files.old) due) }
+    ensures due { IfOk result (λ due. (words : List (List ℕ)) → Asks words task.now → IsFound (over told_alone (run_plan words)) (F.view files.old) due) }
     ensures can_be_written { IfOk result CanBeWritten }
-    ensures failed { IsErrOf result Stop.Failed → (words : List (List ℕ)) → Asks words task.now → SomeReadFails (run_plan words) (F.view files.old) (F.view files.new) }
+    ensures failed { IsErrOf result Stop.Failed → (words : List (List ℕ)) → Asks words task.now → SomeReadFails (over told_alone (run_plan words)) (F.view files.old) (F.view files.new) }
     ensures same_counts { result ≢ Err Stop.Failed → SameCounts (F.view files.old) (F.view files.new) }
     ensures only { OnlyReads (F.view files.old) (F.view files.new) }
 {

@@ -9,6 +9,7 @@ ghost use Rattle.definitions.specs.sequences.Windows.{IsWindow};
 ghost use Rattle.definitions.specs.answers.FirstTwo.{AreLeastTwo, IsWindowKey};
 ghost use Rattle.field_tables.specs.Grids.{AreGrids, grid_costs};
 ghost use Rattle.field_tables.specs.Scopes.{scopes_of};
+ghost use Rattle.field_tables.specs.Scored.{costs_of};
 ghost use Rattle.workers.specs.Searches.{AreItemsOf};
 
 use bounds::{Block, ItemsFault, announced_last, items};
@@ -161,13 +162,72 @@ fn recorded_by<R: Threads + Sync, G: Gate + Sync, K: Recorder + Send + Drop>(
         × HaveRecorded K.told K.parts K.joins (grid_costs grids.now) window.now ceiling items workers v recorder.old recorder.new)) }
 {
     let tables = Tables::make(alloc, parts, grids, civil, window)?;
-    let items = search_order(alloc, civil, &tables, window)?;
+    decide_over(
+        rt, alloc, civil, &tables, window, ceiling, workers, gate, recorder,
+    )
+}
+
+/// Decides as `decide` does, by tables that were made of the window's grids, so that more can be told by these.
+pub fn decide_tables<R: Threads + Sync, G: Gate + Sync>(
+    rt: &R,
+    alloc: Global,
+    civil: &Civil,
+    tables: &Tables,
+    window: &Window,
+    ceiling: u32,
+    workers: u8,
+    gate: &G,
+) -> Result<Found, DecideFault>
+    requires window { IsWindow window.now }
+    requires same { tables.now.window ≡ window.now }
+    requires ceiling { ceiling ≤ GREATEST_COST }
+    requires workers { (1 ≤ workers) × (workers ≤ 8) }
+    ensures { IfOk result (λ found. AreLeastTwo (IsWindowKey tables.now.window (costs_of tables.now) ceiling) found.first found.second) }
+{
+    let mut recorder = NoRecord;
+    let kept = decide_over(
+        rt,
+        alloc,
+        civil,
+        tables,
+        window,
+        ceiling,
+        workers,
+        gate,
+        &mut recorder,
+    )?;
+    match kept {
+        Ok(found) => Ok(found),
+    }
+}
+
+// The same, and tells the recorder of each step.
+fn decide_over<R: Threads + Sync, G: Gate + Sync, K: Recorder + Send + Drop>(
+    rt: &R,
+    alloc: Global,
+    civil: &Civil,
+    tables: &Tables,
+    window: &Window,
+    ceiling: u32,
+    workers: u8,
+    gate: &G,
+    recorder: &mut K,
+) -> Result<Result<Found, K::Fault>, DecideFault>
+    requires window { IsWindow window.now }
+    requires same { tables.now.window ≡ window.now }
+    requires ceiling { ceiling ≤ GREATEST_COST }
+    requires workers { (1 ≤ workers) × (workers ≤ 8) }
+    ensures found { IfOk result (λ kept. IfOk kept (λ found. AreLeastTwo (IsWindowKey tables.now.window (costs_of tables.now) ceiling) found.first found.second)) }
+    ensures recorded { IfOk result (λ kept. OnOk kept ((items : List Block) × (v : View) × AreItemsOf tables.now.window items
+        × HaveRecorded K.told K.parts K.joins (costs_of tables.now) tables.now.window ceiling items workers v recorder.old recorder.new)) }
+{
+    let items = search_order(alloc, civil, tables, window)?;
     let (race, mut seat) = Race::make(alloc, workers)?;
     let searched = search_with(
-        rt, &race, &mut seat, &tables, &items, ceiling, workers, gate, recorder,
+        rt, &race, &mut seat, tables, &items, ceiling, workers, gate, recorder,
     );
     match searched {
-        Ok(()) => Ok(Ok(finish(race, seat, &tables, &items, ceiling))),
+        Ok(()) => Ok(Ok(finish(race, seat, tables, &items, ceiling))),
         Err(fault) => Ok(Err(fault)),
     }
 }

@@ -3,6 +3,7 @@
 
 #[cfg(test)]
 mod bank_tests;
+mod certify;
 mod command;
 mod decoding;
 mod deliver;

@@ -5,7 +5,9 @@ ghost use Rattle.bank.specs.declared.stop.Stop.TheVariants as stops;
 
 use crate::first_two::DecideFault;
 use bank_files::Failed;
+use bounds::ItemsFault;
 use civil::CivilFault;
+use field_tables::TablesFault;
 use std::alloc::{AllocError, AllocFailed};
 use symbol_cost::GridFault;
 use trial_log::TrialFault;
@@ -71,6 +73,22 @@ impl From<TrialFault> for Stop {
     ghost from_gives = { λ _ stop. stop ≡ stops.NoMemory };
 
     fn from(_fault: TrialFault) -> Stop {
+        Stop::NoMemory
+    }
+}
+
+impl From<ItemsFault> for Stop {
+    ghost from_gives = { λ _ stop. stop ≡ stops.NoMemory };
+
+    fn from(_fault: ItemsFault) -> Stop {
+        Stop::NoMemory
+    }
+}
+
+impl From<TablesFault> for Stop {
+    ghost from_gives = { λ _ stop. stop ≡ stops.NoMemory };
+
+    fn from(_fault: TablesFault) -> Stop {
         Stop::NoMemory
     }
 }

@@ -3,13 +3,13 @@
 ghost use Rattle.std.specs.Prelude.{◌≡◌, Err, IfOk, MatchResult};
 ghost use Rattle.bank_words.specs.Seen.{texts_of};
 ghost use Rattle.due.specs.Orders.{order_in, word_refusal};
-ghost use Rattle.bank.specs.Tasks.{Asks, IsInRange};
+ghost use Rattle.bank.specs.Tasks.{AsksWork, IsWorkInRange};
 
 use bank_words::{Order, read_words};
 use formats::{Asked, Refusal, WordFault};
 use signal_base::Station;
 
-/// What is wanted of a bank. A certificate isn't built yet.
+/// How the answer for a bank is told.
 #[derive(Clone, Copy, Debug, PartialEq, Eq)]
 pub enum Wanted {
     /// The report of its answer.
@@ -18,7 +18,35 @@ pub enum Wanted {
     Sentences,
 }
 
-/// What a run is asked to do. All texts are borrowed from the words.
+/// A decode that writes a certificate. All texts are borrowed from the words.
+#[derive(Clone, Copy, Debug)]
+pub struct Certify<'a> {
+    /// The name of the configuration's file.
+    pub config: &'a str,
+    /// Which window is asked about.
+    pub asked: Asked,
+    /// How many workers search, 1 to 8.
+    pub workers: u8,
+    /// The name of the certificate's file.
+    pub name: &'a str,
+}
+
+/// What a run is asked to do.
+#[derive(Clone, Copy, Debug)]
+pub enum Work<'a> {
+    /// To find what is due, and to tell it.
+    Tell {
+        /// What is due of what.
+        task: Task<'a>,
+    },
+    /// To write a certificate besides.
+    Certify {
+        /// Of what.
+        certify: Certify<'a>,
+    },
+}
+
+/// What a run is asked to tell. All texts are borrowed from the words.
 #[derive(Clone, Copy, Debug)]
 pub enum Task<'a> {
     /// Decode the logs of a configuration.
@@ -50,10 +78,10 @@ pub enum Task<'a> {
     },
 }
 
-/// What the words ask for. Certificates aren't built yet, so that words that speak of one are refused as usage.
-pub fn task_of(words: &[String]) -> Result<Task<'_>, WordFault>
-    ensures task { MatchResult result (Asks (texts_of words.now)) (λ fault. order_in (texts_of words.now) ≡ Err fault) }
-    ensures in_range { IfOk result IsInRange }
+/// What the words ask for. The check of a certificate isn't built yet, so that words that ask for one are refused as usage.
+pub fn work_of(words: &[String]) -> Result<Work<'_>, WordFault>
+    ensures work { MatchResult result (AsksWork (texts_of words.now)) (λ fault. order_in (texts_of words.now) ≡ Err fault) }
+    ensures in_range { IfOk result IsWorkInRange }
 {
     let order = read_words(words)?;
     match order {
@@ -63,12 +91,21 @@ pub fn task_of(words: &[String]) -> Result<Task<'_>, WordFault>
             workers,
             certificate,
         } => match certificate {
-            Some(_) => Err(WordFault::Usage),
-            None => Ok(Task::Decode {
-                config,
-                asked,
-                wanted: Wanted::Report,
-                workers,
+            Some(name) => Ok(Work::Certify {
+                certify: Certify {
+                    config,
+                    asked,
+                    workers,
+                    name,
+                },
+            }),
+            None => Ok(Work::Tell {
+                task: Task::Decode {
+                    config,
+                    asked,
+                    wanted: Wanted::Report,
+                    workers,
+                },
             }),
         },
         Order::Check { .. } => Err(WordFault::Usage),
@@ -76,22 +113,28 @@ pub fn task_of(words: &[String]) -> Result<Task<'_>, WordFault>
             config,
             asked,
             workers,
-        } => Ok(Task::Decode {
-            config,
-            asked,
-            wanted: Wanted::Sentences,
-            workers,
+        } => Ok(Work::Tell {
+            task: Task::Decode {
+                config,
+                asked,
+                wanted: Wanted::Sentences,
+                workers,
+            },
         }),
         Order::Encode {
             station,
             minute,
             leap,
-        } => Ok(Task::List {
-            station,
-            minute,
-            announced: leap,
+        } => Ok(Work::Tell {
+            task: Task::List {
+                station,
+                minute,
+                announced: leap,
+            },
         }),
-        Order::Trial { number, workers } => Ok(Task::Try { number, workers }),
+        Order::Trial { number, workers } => Ok(Work::Tell {
+            task: Task::Try { number, workers },
+        }),
     }
 }
 

@@ -1,7 +1,7 @@
 -- Which call runs some words, and what is then due: their first word decides.
 use Rattle.std.specs.Prelude.{ℕ, Bool, ◌||◌, if◌then◌else◌, List, [], ◌∷◌, bytes_eq, codes}
-use Rattle.due.specs.declared.due.Due.{Due}
 use Rattle.due.specs.declared.frame_due.FrameDue.{FrameDue}
+use Rattle.due.specs.Owed.{Owed as RunOwed}
 use Rattle.due.specs.Plans.{Plan, frame_plan, run_plan}
 use Rattle.follow_due.specs.declared.follow_due.FollowDue.{FollowDue}
 use Rattle.follow_due.specs.FollowPlans.{follow_plan}
@@ -27,7 +27,7 @@ family_of (first ∷ more) = family_of_word first
 
 -- what such commands can owe, and their plan for some words
 abbrev pub Owed : Family → Type 0
-Owed OfRun = Due
+Owed OfRun = RunOwed
 Owed OfFrames = FrameDue
 Owed OfFollow = FollowDue
 

@@ -2,22 +2,26 @@
 use Rattle.std.proofs.Common.{ℕ, List}
 use Rattle.std.proofs.lemmas.Result.{IfOk-weaker}
 use Rattle.due.specs.declared.due.Due.{Due}
+use Rattle.due.specs.Owed.{told_alone}
 use Rattle.due.specs.Plans.{run_plan}
 use Rattle.bank_words.specs.Seen.{texts_of}
-use Rattle.bank.specs.Ending.{IsFound}
+use Rattle.bank.specs.Ending.{IsFound, over}
 use Rattle.bank.specs.Tasks.{Asks}
+use Rattle.bank.proofs.EndingLaws.{ends_over}
 use Rattle.bank.proofs.program.carry_out_task.Goals as goal
 
 pub returns-clause-ends : goal.returns-clause-ends
 returns-clause-ends g c =
     let words = texts_of c.args.words.now in
     let old = g.F.Files.view c.args.files.now in
+    let new = g.F.Files.view c.perform.new.files in
     let found = c.find_due-found.ensures in
-    c.perform.ensures.ends old
+    ends_over told_alone (run_plan words) old new c.perform.result
+    (c.perform.ensures.ends old
     (record {
-      due = IfOk-weaker c.find_due-found.result (λ (due : Due). (words : List (List ℕ)) → Asks words c.args.task.now → IsFound (run_plan words) old due) (IsFound (run_plan words) old)
-          (λ due is. is words c.requires.asks) found.due;
+      due = IfOk-weaker c.find_due-found.result (λ (due : Due). (words : List (List ℕ)) → Asks words c.args.task.now → IsFound (over told_alone (run_plan words)) old due)
+          (IsFound (over told_alone (run_plan words)) old) (λ due is. is words c.requires.asks) found.due;
       failed = λ e. found.failed e words c.requires.asks;
       same_counts = found.same_counts;
       only = found.only;
-    })
+    }))
