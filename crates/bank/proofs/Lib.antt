@@ -19,4 +19,6 @@ pub mod EndingLaws
 pub mod ExactLaws
 pub mod RunLaws
 pub mod TrialLaws
+pub mod CertifiedLaws
+pub mod CertifyLaws
 pub mod MovedLaws

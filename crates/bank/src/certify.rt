@@ -14,22 +14,21 @@ ghost use Rattle.bank.specs.Finding.{CanBeWritten};
 ghost use Rattle.bank.specs.Hearing.{IsBank, bank_seen};
 ghost use Rattle.bank.specs.Tasks.{IsCertifyInRange};
 
-use crate::decoding::duts_of;
+use crate::decoding::decoded_by;
 use crate::deliver::print;
+use crate::find::reported;
 use crate::first_two::decide_tables;
 use crate::grids::grids_of;
 use crate::hearing::{Bank, window_of};
 use crate::stop::Stop;
-use crate::words::Certify;
+use crate::words::{Certify, Wanted};
 use bank_files::{Failed, Files};
 use bounds::{Block, items};
 use certificate_walks::write_certificate;
 use certificates::{Head, tight_walks_are_one};
 use civil::Civil;
-use definitions::the_least_two_are_the_answer;
 use due::{Due, Status};
 use field_tables::{Tables, agreeing_costs_cost_alike, grids_agree_with_their_costs};
-use sequence::answer_of;
 use signal_base::Window;
 use std::alloc::Global;
 use std::thread::Threads;
@@ -88,7 +87,6 @@ fn certify_window<R: Threads + Sync, F: Files, G: Gate + Sync>(
         → Certifies window.now bank certify.now.workers certify.now.name.now (F.view files.old) (F.view files.new) result }
     ensures only { OnlyWritesAmong (files_of (Some certify.now.name.now)) (F.view files.old) (F.view files.new) }
 {
-    the_least_two_are_the_answer();
     agreeing_costs_cost_alike();
     grids_agree_with_their_costs();
     let list = items(alloc, civil, window)?;
@@ -103,28 +101,15 @@ fn certify_window<R: Threads + Sync, F: Files, G: Gate + Sync>(
         certify.workers,
         gate,
     )?;
-    let answer = answer_of(found.first, found.second);
-    let duts = duts_of(civil, grids, window, &answer);
-    let due = Due::Report {
-        window: *window,
-        answer,
-        duts,
-    };
     let head = Head {
         window: *window,
         ceiling,
         first: found.first,
         second: found.second,
     };
-    deliver_certified(
-        files,
-        civil,
-        certify,
-        &tables,
-        list.as_slice(),
-        &head,
-        &due,
-    )?;
+    let decoded = decoded_by(civil, grids, *window, ceiling, found);
+    let due = reported(Wanted::Report, decoded);
+    deliver_certified(files, civil, certify, &tables, list.as_slice(), &head, &due)?;
     Ok(due.status())
 }
 
@@ -147,13 +132,6 @@ fn deliver_certified<F: Files>(
     ensures only { OnlyWritesAmong (files_of (Some certify.now.name.now)) (F.view files.old) (F.view files.new) }
 {
     tight_walks_are_one();
-    write_certificate(
-        files,
-        certify.name,
-        tables,
-        list,
-        head,
-        certify.workers,
-    )?;
+    write_certificate(files, certify.name, tables, list, head, certify.workers)?;
     print(files, civil, due)
 }

@@ -4,9 +4,10 @@ ghost use Rattle.std.specs.Prelude.{◌≡◌, ◌≤◌, IfErr, IfOk};
 ghost use Rattle.signal_base.specs.declared.limits.TheConstants.{GREATEST_COST};
 ghost use Rattle.definitions.specs.heard.Costs.{Costs};
 ghost use Rattle.definitions.specs.answers.Answers.{IsWindowAnswer};
+ghost use Rattle.definitions.specs.answers.FirstTwo.{AreLeastTwo, IsWindowKey};
 ghost use Rattle.definitions.specs.sequences.Windows.{IsWindow};
 ghost use Rattle.formats.specs.OrderRanges.{IsAsked};
-ghost use Rattle.field_tables.specs.Grids.{AreGrids, HaveCosts};
+ghost use Rattle.field_tables.specs.Grids.{AreGrids, HaveCosts, grid_costs};
 ghost use Rattle.texts.specs.Reportable.{IsReportable};
 ghost use Rattle.due.specs.Banks.{Bank as PlainBank, costs_in, duts_of};
 ghost use Rattle.bank.specs.declared.stop.Stop.TheVariants.{NoMemory};
@@ -28,7 +29,7 @@ use signal_base::{StationDut, Window};
 use std::alloc::Global;
 use std::thread::Threads;
 use symbol_cost::CostGrid;
-use workers::Gate;
+use workers::{Found, Gate};
 
 /// The answer for a bank, and what was asked.
 #[derive(Debug, Drop)]
@@ -94,43 +95,52 @@ pub fn decode_window<R: Threads + Sync, G: Gate + Sync>(
     ensures reportable { IfOk result (λ decoded. IsReportable decoded.window decoded.answer) }
     ensures memory { IfErr result (λ stop. stop ≡ NoMemory) }
 {
-    let answer = answer_for(rt, alloc, civil, grids, &window, ceiling, workers, gate)?;
+    let found = decide(rt, alloc, civil, grids, &window, ceiling, workers, gate)?;
+    Ok(decoded_by(civil, grids, window, ceiling, found))
+}
+
+/// What is decoded, by the keys of the first two sequences that were found.
+pub fn decoded_by(
+    civil: &Civil,
+    grids: &[CostGrid],
+    window: Window,
+    ceiling: u32,
+    found: Found,
+) -> Decoded
+    requires window { IsWindow window }
+    requires grids { AreGrids window grids.now }
+    requires found { AreLeastTwo (IsWindowKey window (grid_costs grids.now) ceiling) found.first found.second }
+    ensures window { result.window ≡ window }
+    ensures answer { (costs : Costs) → HaveCosts window grids.now costs → IsWindowAnswer window costs ceiling result.answer }
+    ensures duts { (bank : PlainBank) → HaveCosts window grids.now (costs_in window bank) → result.duts ≡ duts_of window bank result.answer }
+    ensures reportable { IsReportable result.window result.answer }
+{
+    let answer = answer_for(grids, &window, ceiling, found);
     let duts = duts_of(civil, grids, &window, &answer);
-    Ok(Decoded {
+    Decoded {
         window,
         answer,
         duts,
-    })
+    }
 }
 
-// The answer for a window, by the grids of its stations.
-fn answer_for<R: Threads + Sync, G: Gate + Sync>(
-    rt: &R,
-    alloc: Global,
-    civil: &Civil,
-    grids: &[CostGrid],
-    window: &Window,
-    ceiling: u32,
-    workers: u8,
-    gate: &G,
-) -> Result<Answer, Stop>
+// The answer for a window, by the keys that were found by the grids of its stations.
+fn answer_for(grids: &[CostGrid], window: &Window, ceiling: u32, found: Found) -> Answer
     requires window { IsWindow window.now }
     requires grids { AreGrids window.now grids.now }
-    requires ceiling { ceiling ≤ GREATEST_COST }
-    requires workers { AreWorkers workers }
-    ensures answer { IfOk result (λ answer. (costs : Costs) → HaveCosts window.now grids.now costs → IsWindowAnswer window.now costs ceiling answer) }
-    ensures reportable { IfOk result (IsReportable window.now) }
-    ensures memory { IfErr result (λ stop. stop ≡ NoMemory) }
+    requires found { AreLeastTwo (IsWindowKey window.now (grid_costs grids.now) ceiling) found.first found.second }
+    ensures answer { (costs : Costs) → HaveCosts window.now grids.now costs → IsWindowAnswer window.now costs ceiling result }
+    ensures reportable { IsReportable window.now result }
 {
     the_least_two_are_the_answer();
     agreeing_costs_cost_alike();
     grids_agree_with_their_costs();
-    let found = decide(rt, alloc, civil, grids, window, ceiling, workers, gate)?;
-    Ok(answer_of(found.first, found.second))
+    let _ = (grids, window, ceiling);
+    answer_of(found.first, found.second)
 }
 
-/// What the stations of the window tell of DUT1, where the answer is decided.
-pub fn duts_of(civil: &Civil, grids: &[CostGrid], window: &Window, answer: &Answer) -> Duts
+// What the stations of the window tell of DUT1, where the answer is decided.
+fn duts_of(civil: &Civil, grids: &[CostGrid], window: &Window, answer: &Answer) -> Duts
     requires window { IsWindow window.now }
     requires grids { AreGrids window.now grids.now }
     requires answer { IsReportable window.now answer.now }

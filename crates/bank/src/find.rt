@@ -73,8 +73,8 @@ pub fn find_due<R: Threads + Sync, F: Files, G: Gate + Sync>(
     }
 }
 
-// How the answer for a bank is reported: by its report, or where it is decided and sentences are wanted, by these.
-fn reported(wanted: Wanted, decoded: Decoded) -> Due
+/// How the answer for a bank is reported: by its report, or where it is decided and sentences are wanted, by these.
+pub fn reported(wanted: Wanted, decoded: Decoded) -> Due
     requires { IsReportable decoded.window decoded.answer }
     ensures reported { (bank : Bank) → decoded.duts ≡ duts_of decoded.window bank decoded.answer
         → result ≡ reported (wanted_seen wanted) decoded.window bank decoded.answer }

@@ -25,20 +25,6 @@ pub is_no_failure : (due : HeardDue PlainHearing) → IsNoFailure (heard_status 
 is_no_failure (Told due) = runs.is_no_failure due
 is_no_failure (Heard h) = (λ six. omega (arith, six), λ seven. omega (arith, seven))
 
--- an end over what is kept is one over what is seen
-pub ends_as_seen : (words : List (List ℕ)) (old new : Seen) (r : Result Status Stop) → Ends (kept_plan words) old new r → Ends (heard_plan words) old new r
-ends_as_seen words old new (Ok status) ((due, found, delivers), same) = ((due_seen due, found, delivers), same)
-ends_as_seen words old new (Err Failed) (cause, came) = (by_cause cause, by_front came)
-  where
-    by_cause : SomeWriteFails (kept_plan words) old new ⊎ SomeReadFails (kept_plan words) old new → SomeWriteFails (heard_plan words) old new ⊎ SomeReadFails (heard_plan words) old new
-    by_cause (inl (due, found, some)) = inl (due_seen due, found, some)
-    by_cause (inr reads) = inr reads
-
-    by_front : WritesNothing old new ⊎ WritesFront (kept_plan words) old new → WritesNothing old new ⊎ WritesFront (heard_plan words) old new
-    by_front (inl nothing) = inl nothing
-    by_front (inr (due, found, front, others)) = inr (due_seen due, found, front, others)
-ends_as_seen words old new (Err NoMemory) ends = ends
-
 module _ (old new : Seen) (words : List (List ℕ)) (fault : WordFault) where
   found : heard_order words ≡ Err fault → IsFound (heard_plan words) old (Told (Refused (word_refusal fault)))
   found asks =

@@ -1,15 +1,16 @@
 -- What the words ask for, by the decode that they are read as.
-use Rattle.std.proofs.Common.{◌≡◌, ℕ, false, List, Option, Ok, Err, Bor, sym, ap, ◌∙◌, refl}
+use Rattle.std.proofs.Common.{◌≡◌, ℕ, false, List, Option, Some, None, Ok, Err, Bor, sym, ap, ◌∙◌, refl}
 use Rattle.formats.specs.declared.words.Asked.{Asked}
 use Rattle.formats.specs.declared.words.WordFault.TheVariants.{Usage}
 use Rattle.formats.specs.Orders.{Order as PlainOrder, ◌>>=◌, order_of}
+use Rattle.formats.specs.Orders.Order.{Decode}
 use Rattle.formats.specs.Words.{run_commands}
 use Rattle.bank_words.specs.declared.order.Order.{Order}
 use Rattle.bank_words.specs.declared.order.Order.TheVariants as order
 use Rattle.bank_words.specs.Seen.{order_seen}
 use Rattle.due.specs.HeardRuns.{decode_words, heard_order, names_left_out}
 use Rattle.due.specs.Orders.{built, order_in}
-use Rattle.due.proofs.HeardWordLaws.{is_decode, none_named}
+use Rattle.due.proofs.HeardWordLaws.{is_decode, no_certificate, none_named}
 
 module _ (words all : List (List ℕ)) (none : names_left_out words ≡ false) (is : all ≡ decode_words words) where
   ordered : (o : PlainOrder) → order_of run_commands all ≡ Ok o → order_in (decode_words words) ≡ built o
@@ -17,6 +18,14 @@ module _ (words all : List (List ℕ)) (none : names_left_out words ≡ false) (
 
   pub heard_is : (o : PlainOrder) → order_of run_commands all ≡ Ok o → heard_order words ≡ built o
   heard_is o gives = none_named words none ∙ ordered o gives
+
+  some_none : {A : Type 0} (x : A) → Some x ≡ None → ⊥
+  some_none x e = cc
+
+  -- the decode names no certificate
+  pub no_name : (config : List ℕ) (asked : Asked) (workers : ℕ) (name : List ℕ) → order_of run_commands all ≡ Ok (Decode config asked workers (Some name)) → ⊥
+  no_name config asked workers name gives =
+      some_none name (no_certificate words config asked workers (Some name) none (ordered (Decode config asked workers (Some name)) gives))
 
   -- an order of a decode, and of another command
   abbrev pub NotDecode : Order → Type 0

@@ -8,6 +8,7 @@ use Rattle.due.specs.declared.heard_due.HeardDue.TheVariants.{Told, Heard}
 use Rattle.due.specs.Banks.{Bank, IsBankAnswer, window_of}
 use Rattle.due.specs.HeardRuns.{heard_plan, shown}
 use Rattle.due.specs.Plans.{Plan}
+use Rattle.bank.specs.Ending.{over}
 use Rattle.bank.specs.Finding.{CanBeWritten}
 use Rattle.heard.specs.declared.hearing.Hearing.{Hearing}
 use Rattle.heard.specs.Kept.{hearing_in}
@@ -30,17 +31,6 @@ abbrev pub CanBeShown : HeardDue Hearing → Type 0
 CanBeShown (Told due) = CanBeWritten due
 CanBeShown (Heard h) = Unit {0}
 
--- a plan of what is seen is one of what is kept
-abbrev pub over : {D E : Type 0} → (D → E) → Plan E → Plan D
-over seen plan =
-    record {
-      owes = λ contents due. plan.owes contents (seen due);
-      reads = plan.reads;
-      status = λ due. plan.status (seen due);
-      outputs = λ due. plan.outputs (seen due);
-      files = plan.files;
-      no_other = λ due file other. plan.no_other (seen due) file other;
-    }
-
+-- the plan of a run over what is kept
 abbrev pub kept_plan : List (List ℕ) → Plan (HeardDue Hearing)
 kept_plan words = over due_seen (heard_plan words)

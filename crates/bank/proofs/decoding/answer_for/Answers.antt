@@ -11,17 +11,17 @@ pub returns-clause-answer : goal.returns-clause-answer
 returns-clause-answer g c = λ costs have.
     let window = c.args.window.now in
     let grids = c.args.grids.now in
-    let found = c.in_ok-found.found in
+    let found = c.args.found in
     let same = λ (q : Sequence). c.agreeing_costs_cost_alike.ensures.cost window (grid_costs grids) costs q (c.grids_agree_with_their_costs.ensures window grids costs c.requires.grids have) in
     subst (λ (a : Answer). IsWindowAnswer window costs c.args.ceiling a) (sym c.answer_of.ensures)
     (c.the_least_two_are_the_answer.ensures window costs c.args.ceiling found.first found.second c.requires.window.century
-    (same_least window (grid_costs grids) costs c.args.ceiling found.first found.second same c.in_ok-found.ensures))
+    (same_least window (grid_costs grids) costs c.args.ceiling found.first found.second same c.requires.found))
 
 pub returns-clause-reportable : goal.returns-clause-reportable
 returns-clause-reportable g c =
     let window = c.args.window.now in
     let costs = grid_costs c.args.grids.now in
-    let found = c.in_ok-found.found in
+    let found = c.args.found in
     reportable window costs c.args.ceiling c.answer_of.result c.requires.window
     (subst (λ (a : Answer). IsWindowAnswer window costs c.args.ceiling a) (sym c.answer_of.ensures)
-    (c.the_least_two_are_the_answer.ensures window costs c.args.ceiling found.first found.second c.requires.window.century c.in_ok-found.ensures))
+    (c.the_least_two_are_the_answer.ensures window costs c.args.ceiling found.first found.second c.requires.window.century c.requires.found))

@@ -6,6 +6,9 @@ use Rattle.bank.proofs.first_two.decide_over.Goals as goal
 
 pub returns-in-Ok-clause-recorded : goal.returns-in-Ok-clause-recorded
 returns-in-Ok-clause-recorded g c =
-    let items = c.deref.result.now in
-    (items, c.search_with-searched.new.seat.view,
-    subst (λ (list : List Block). AreItemsOf c.args.tables.now.window list) (sym c.deref.ensures.value) c.in_ok-items.ensures, c.in-Ok.ensures.recorded)
+    let items = c.deref.result.now in (
+      items,
+      c.search_with-searched.new.seat.view,
+      subst (λ (list : List Block). AreItemsOf c.args.tables.now.window list) (sym c.deref.ensures.value) c.in_ok-items.ensures,
+      c.in-Ok.ensures.recorded,
+    )

@@ -1,0 +1,22 @@
+-- The certificate is written, and then what is told; or a front of either.
+use Rattle.std.proofs.Common.{◌≡◌, Err, List}
+use Rattle.std.proofs.lemmas.Result.{err_from_is_err_and}
+use Rattle.certificates.specs.declared.certificate.Line.{Line}
+use Rattle.certificates.specs.Texts.{certificate_text}
+use Rattle.certificates.specs.Validity.{limit_named}
+use Rattle.certificate_texts.specs.Layout.{in_first_part}
+use Rattle.definitions.specs.answers.Blocks.{items}
+use Rattle.field_tables.specs.Scored.{costs_of}
+use Rattle.certificate_walks.specs.Written.{AreTightWalks}
+use Rattle.bank.proofs.CertifiedLaws.{cut_off, delivers_told, one_file, two_files}
+use Rattle.bank.proofs.certify.deliver_certified.Goals as goal
+
+pub returns-clause-ends : goal.returns-clause-ends
+returns-clause-ends g c =
+    let costs = costs_of c.args.tables.now in
+    let head = c.args.head.now in
+    let limit = limit_named head.ceiling head.second in
+    delivers_told costs head c.args.certify.now.workers c.args.certify.now.name.now c.args.due.now (g.F.Files.view c.args.files.now) (g.F.Files.view c.write_certificate.new.files)
+    (g.F.Files.view c.print.new.files) _ c.print.result _
+    (λ ls ms one other. c.tight_walks_are_one.ensures.one costs head.window limit (items head.window) ls ms one.walks one.tight other.walks other.tight)
+    c.in_ok-write_certificate.ensures.written c.in_ok-write_certificate.ensures.same_counts c.write_certificate.ensures.only c.print.ensures
