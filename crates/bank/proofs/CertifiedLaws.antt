@@ -8,7 +8,7 @@ use Rattle.definitions.specs.declared.block.Span.TheVariants.{Year, Day, Hour, M
 use Rattle.definitions.specs.declared.sequence.Sequence.{Sequence}
 use Rattle.definitions.specs.heard.Costs.{Costs, sequence_cost}
 use Rattle.definitions.specs.answers.Answers.{IsWindowAnswer}
-use Rattle.definitions.specs.answers.Blocks.{IsBound, IsBoundBy, items}
+use Rattle.definitions.specs.answers.Blocks.{IsBoundBy, items}
 use Rattle.definitions.specs.answers.FirstTwo.{AreLeastTwo, IsWindowKey}
 use Rattle.definitions.specs.time.Calendar.{century_minutes}
 use Rattle.definitions.proofs.AnswerLaws.{window_answer_is_one}
@@ -20,7 +20,7 @@ use Rattle.certificates.specs.declared.certificate.Head.{Head}
 use Rattle.certificates.specs.declared.certificate.Line.{Line}
 use Rattle.certificates.specs.Certificates.{Certificate}
 use Rattle.certificates.specs.Texts.{certificate_text}
-use Rattle.certificates.specs.Validity.{AreTight, AreWalks, IsSaid, limit_named, opened_by}
+use Rattle.certificates.specs.Validity.{AreTight, AreWalks, limit_named, opened_by}
 use Rattle.certificate_texts.specs.Layout.{empty_parts, in_first_part}
 use Rattle.certificate_walks.specs.Written.{AreTightWalks, IsWritten}
 use Rattle.certificate_walks.proofs.CutLaws.{front_after}

@@ -1,5 +1,5 @@
 -- A decode that writes a certificate: what is found due for its words, and how it ends.
-use Rattle.std.proofs.Common.{◌≡◌, ℕ, List, Option, Some, None, Result, Ok, Err, IfOk, refl, sym, ap, ◌∙◌, subst}
+use Rattle.std.proofs.Common.{◌≡◌, ℕ, List, Option, Some, None, Result, Ok, Err, refl, sym, ◌∙◌, subst}
 use Rattle.signal_base.specs.declared.window.Window.{Window}
 use Rattle.definitions.specs.heard.Logs.{Records}
 use Rattle.formats.specs.declared.refusal.Refusal.{Refusal}
@@ -15,7 +15,6 @@ use Rattle.due.specs.CertificateRules.{AsksCertificate, CertificateOrder, IsCert
 use Rattle.due.specs.Inputs.{Contents}
 use Rattle.due.specs.Loads.{IsBankLoaded}
 use Rattle.due.specs.Orders.{BankOrder}
-use Rattle.due.specs.Outputs.{EachOf}
 use Rattle.due.specs.Owed.{IsOwed, Owed, files_of, owed_outputs, told_alone}
 use Rattle.due.specs.Plans.{run_plan}
 use Rattle.due.specs.Rules.{AsksBank, IsDue, IsReported, Bad_words, Listed, Tried, Bad_bank, Answered}

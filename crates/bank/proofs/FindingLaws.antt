@@ -1,5 +1,5 @@
 -- What is found due, and what a file that fails is of.
-use Rattle.std.proofs.Common.{◌≡◌, ℕ, Bool, List, [], Some, None, Result, Ok, Err, IfOk, refl, sym, ap, ◌∙◌, subst}
+use Rattle.std.proofs.Common.{◌≡◌, ℕ, Bool, List, [], Some, None, Ok, refl, sym, ap, subst}
 use Rattle.signal_base.specs.declared.station.Station.{Station}
 use Rattle.definitions.specs.heard.Logs.{Records}
 use Rattle.formats.specs.declared.refusal.Refusal.{Refusal}

@@ -1,5 +1,5 @@
 -- How a run ends that shows what was heard.
-use Rattle.std.proofs.Common.{◌≡◌, ℕ, ◌⊎◌, List, [], Result, Ok, Err, inl, inr, refl, arith}
+use Rattle.std.proofs.Common.{◌≡◌, ℕ, List, [], Ok, Err, refl, arith}
 use Rattle.bank_files.specs.Told.{output_name}
 use Rattle.bank_files.specs.Seen.{Seen, Writes}
 use Rattle.bank_files.proofs.Chaining.{OnlyReads-start, SameCounts-start}
@@ -8,16 +8,13 @@ use Rattle.formats.specs.Heard.{Hearing as PlainHearing}
 use Rattle.due.specs.declared.due.Due.TheVariants.{Refused}
 use Rattle.due.specs.declared.heard_due.HeardDue.{HeardDue}
 use Rattle.due.specs.declared.heard_due.HeardDue.TheVariants.{Heard, Told}
-use Rattle.due.specs.declared.status.Status.{Status}
 use Rattle.due.specs.Dues.{status_of, text_of}
 use Rattle.due.specs.HeardRuns.{Bad_words, heard_order, heard_plan, heard_status}
 use Rattle.due.specs.Orders.{word_refusal}
-use Rattle.bank.specs.declared.stop.Stop.{Stop}
-use Rattle.bank.specs.declared.stop.Stop.TheVariants.{Failed, NoMemory}
-use Rattle.bank.specs.Ending.{Ends, IsFound, SomeReadFails, SomeWriteFails, WritesFront, WritesNothing}
+use Rattle.bank.specs.declared.stop.Stop.TheVariants.{Failed}
+use Rattle.bank.specs.Ending.{Ends, IsFound}
 use Rattle.bank.proofs.EndingLaws.{IsNoFailure, due_not_written, due_written, found_at_once, one_written}
 use Rattle.bank.proofs.RunLaws as runs
-use Rattle.heard.specs.Seen.{due_seen, kept_plan}
 use Rattle.heard.proofs.FindingLaws.{refused_reads_nothing}
 
 -- no status that is due is one of a failure

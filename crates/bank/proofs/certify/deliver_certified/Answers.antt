@@ -1,14 +1,8 @@
 -- The certificate is written, and then what is told; or a front of either.
-use Rattle.std.proofs.Common.{◌≡◌, Err, List}
-use Rattle.std.proofs.lemmas.Result.{err_from_is_err_and}
-use Rattle.certificates.specs.declared.certificate.Line.{Line}
-use Rattle.certificates.specs.Texts.{certificate_text}
 use Rattle.certificates.specs.Validity.{limit_named}
-use Rattle.certificate_texts.specs.Layout.{in_first_part}
 use Rattle.definitions.specs.answers.Blocks.{items}
 use Rattle.field_tables.specs.Scored.{costs_of}
-use Rattle.certificate_walks.specs.Written.{AreTightWalks}
-use Rattle.bank.proofs.CertifiedLaws.{cut_off, delivers_told, one_file, two_files}
+use Rattle.bank.proofs.CertifiedLaws.{delivers_told}
 use Rattle.bank.proofs.certify.deliver_certified.Goals as goal
 
 pub returns-clause-ends : goal.returns-clause-ends

@@ -1,5 +1,5 @@
 -- What is found by the tables is found by their grids, and what is kept is of a search of their window's items.
-use Rattle.std.proofs.Common.{◌≤◌, List, IfOk, OnOk}
+use Rattle.std.proofs.Common.{List, IfOk, OnOk}
 use Rattle.std.proofs.lemmas.Result.{IfOk-weaker, on_ok_weaker}
 use Rattle.definitions.specs.declared.block.Block.{Block}
 use Rattle.definitions.specs.answers.FirstTwo.{AreLeastTwo, IsWindowKey}

@@ -1,5 +1,5 @@
 -- What the words ask is what their order asks.
-use Rattle.std.proofs.Common.{Ok, None, Some, refl, ap, ◌∙◌}
+use Rattle.std.proofs.Common.{Ok, None, refl, ap, ◌∙◌}
 use Rattle.formats.specs.Orders.{◌>>=◌}
 use Rattle.formats.specs.Orders.Order.{Decode, Feed}
 use Rattle.bank_words.specs.Seen.{order_seen, texts_of}
