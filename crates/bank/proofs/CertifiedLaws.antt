@@ -1,5 +1,5 @@
 -- A certificate is written in front of what is told; and what is owed of a bank besides its report.
-use Rattle.std.proofs.Common.{◌≡◌, ◌≢◌, ℕ, zero, suc, ◌-◌, ◌⊎◌, List, [], ◌∷◌, ◌++◌, Option, Some, replicate, Result, Ok, Err, inl, inr, refl, sym, ap, ◌∙◌, subst}
+use Rattle.std.proofs.Common.{◌≡◌, ◌≢◌, ℕ, zero, suc, true, false, ◌-◌, ◌⊎◌, List, [], ◌∷◌, ◌++◌, Option, Some, replicate, Result, Ok, Err, inl, inr, refl, sym, ap, ◌∙◌, subst}
 use Rattle.signal_base.specs.declared.window.Window.{Window}
 use Rattle.definitions.specs.declared.answer.Answer.{Answer}
 use Rattle.definitions.specs.declared.block.Block.{Block}
@@ -12,6 +12,7 @@ use Rattle.definitions.specs.answers.Blocks.{IsBoundBy, items}
 use Rattle.definitions.specs.answers.FirstTwo.{AreLeastTwo, IsWindowKey}
 use Rattle.definitions.specs.time.Calendar.{century_minutes}
 use Rattle.definitions.proofs.AnswerLaws.{window_answer_is_one}
+use Rattle.formats.specs.OrderRanges.{IsFile}
 use Rattle.bank_files.specs.Told.{AppendsFront, Tells, appended, emptied, output_name}
 use Rattle.bank_files.specs.Seen.{OnlyWrites, SameCounts, Seen, WriteFails, Writes}
 use Rattle.bank_files.proofs.Chaining.{HasFault-from, KeepsCounts-then, SameCounts-then}
@@ -82,6 +83,10 @@ module _ {E : Type 0} (name text : List ℕ) (due : Due) (apart : name ≢ outpu
     others = λ file other. Tells-then (a.told file) (b.told file) (c.told file) (only.others file other.0) (written.only.others file other.1.0);
     counts = KeepsCounts-then a b c only.counts written.only.counts;
   }
+
+-- a file that can be named isn't standard output
+pub apart_from_output : (name : List ℕ) → IsFile name → name ≢ output_name
+apart_from_output name is e = absurd (let bad : false ≡ true = subst (λ (n : List ℕ). IsFile n) e is in cc)
 
 -- no other file is written
 pub one_file : (name : List ℕ) (old new : Seen) → OnlyWrites name old new → OnlyWritesAmong (files_of (Some name)) old new

@@ -2,7 +2,7 @@
 use Rattle.certificates.specs.Validity.{limit_named}
 use Rattle.definitions.specs.answers.Blocks.{items}
 use Rattle.field_tables.specs.Scored.{costs_of}
-use Rattle.bank.proofs.CertifiedLaws.{delivers_told}
+use Rattle.bank.proofs.CertifiedLaws.{apart_from_output, cut_off, delivers_told, one_file, two_files}
 use Rattle.bank.proofs.certify.deliver_certified.Goals as goal
 
 pub returns-clause-ends : goal.returns-clause-ends
@@ -11,6 +11,15 @@ returns-clause-ends g c =
     let head = c.args.head.now in
     let limit = limit_named head.ceiling head.second in
     delivers_told costs head c.args.certify.now.workers c.args.certify.now.name.now c.args.due.now (g.F.Files.view c.args.files.now) (g.F.Files.view c.write_certificate.new.files)
-    (g.F.Files.view c.print.new.files) _ c.print.result _
+    (g.F.Files.view c.print.new.files) _ c.print.result (apart_from_output c.args.certify.now.name.now c.requires.certify.3)
     (λ ls ms one other. c.tight_walks_are_one.ensures.one costs head.window limit (items head.window) ls ms one.walks one.tight other.walks other.tight)
-    c.in_ok-write_certificate.ensures.written c.in_ok-write_certificate.ensures.same_counts c.write_certificate.ensures.only c.print.ensures
+    c.in_ok-write_certificate.ensures.written c.in_ok-write_certificate.ensures.same_counts c.in_ok-write_certificate.ensures.only c.print.ensures
+
+pub returns-clause-only : goal.returns-clause-only
+returns-clause-only g c =
+    two_files c.args.certify.now.name.now (g.F.Files.view c.args.files.now) (g.F.Files.view c.write_certificate.new.files) (g.F.Files.view c.print.new.files)
+    c.in_ok-write_certificate.ensures.only c.print.ensures.only
+
+pub returns-in_err-write_certificate-clause-only : goal.returns-in_err-write_certificate-clause-only
+returns-in_err-write_certificate-clause-only g c =
+    one_file c.args.certify.now.name.now (g.F.Files.view c.args.files.now) (g.F.Files.view c.write_certificate.new.files) c.in_err-write_certificate.ensures.only
