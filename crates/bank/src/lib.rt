@@ -3,6 +3,8 @@
 
 #[cfg(test)]
 mod bank_tests;
+#[cfg(test)]
+mod certificate_tests;
 mod certify;
 mod command;
 mod decoding;

@@ -114,7 +114,7 @@ fn refuses_words(rt: HostRuntime) -> Result<(), Fail> {
     for (line, text) in [
         ("decode", "words: usage\n"),
         ("check k.toml y.cert", "words: usage\n"),
-        ("decode k.toml --certificate y.cert", "words: usage\n"),
+        ("decode k.toml --certificate -", "words: usage\n"),
         ("decode k.toml --seconds 59", "words: bad --seconds\n"),
         ("trial 01", "words: bad NUMBER\n"),
         (
