@@ -196,7 +196,7 @@ module _ (window : Window) (bank : Bank) (costs : Costs) (ceiling workers : ℕ)
     )
 
     pub not_delivered : DeliversCertified {E = Unit {0}} costs head workers name due old new (Err tt) → Certifies window bank workers name old new (Err Failed)
-    not_delivered front owed of =
+    not_delivered front = λ owed of.
         let here = lines_here of.certificate of.certificate_is in
         let same_answer = window_answer_is_one window others bank.ceiling of.answer answer century of.answer_is answer_is in
         let due_here : owed.due ≡ due = of.due_is ∙ ap (λ (a : Answer). Report window a (duts_of window bank a)) same_answer ∙ sym due_is in

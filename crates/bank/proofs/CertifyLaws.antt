@@ -7,11 +7,12 @@ use Rattle.bank_files.specs.Told.{Tells, Told}
 use Rattle.bank_files.specs.Seen.{OnlyReads, SameCounts, Seen}
 use Rattle.bank_files.proofs.Chaining.{KeepsCounts-then}
 use Rattle.bank_config.specs.Configuration.{PlainConfig}
+use Rattle.certificates.specs.Certificates.{Certificate}
 use Rattle.due.specs.declared.due.Due.{Due}
 use Rattle.due.specs.declared.due.Due.TheVariants as dues
 use Rattle.due.specs.declared.status.Status.{Status}
 use Rattle.due.specs.Banks.{Bank, bank_of, window_of}
-use Rattle.due.specs.CertificateRules.{AsksCertificate, CertificateOrder, IsCertificateDue, Not_asked, Not_loaded, Written}
+use Rattle.due.specs.CertificateRules.{AsksCertificate, CertificateOrder, IsCertificateDue, Not_asked, Not_loaded, Written, certificate_name}
 use Rattle.due.specs.Inputs.{Contents}
 use Rattle.due.specs.Loads.{IsBankLoaded}
 use Rattle.due.specs.Orders.{BankOrder}
@@ -42,6 +43,9 @@ only_behind_reads files old mid new only written = record {
   others = λ other none. subst (λ (told : List ℕ → Told). Tells (told other) (new.told other)) only.told (written.others other none);
   counts = KeepsCounts-then old mid new only.counts written.counts;
 }
+
+pub nothing_among : (files : List (List ℕ)) (old new : Seen) → OnlyReads old new → OnlyWritesAmong files old new
+nothing_among files old new only = record { others = λ other none. writes_nothing old new only other; counts = only.counts }
 
 module _ (words : List (List ℕ)) (o : CertificateOrder) (asks : AsksCertificate words o) where
   bank_asked : AsksBank words (bank_of_order o)
@@ -104,8 +108,8 @@ module _ (words : List (List ℕ)) (o : CertificateOrder) (asks : AsksCertificat
           reported : IsReported (bank_of_order o) bank owed.due
           reported = reported_for owed.due is.due_is
 
-          by_certificate : (c : Option _) → IsCertificateDue words contents c → owed.certificate ≡ c → IsOwedIn window bank o.workers owed
-          by_certificate c (Not_asked none e) same = absurd (none_some _ o.name none (asks_by_name words o asks))
+          by_certificate : (c : Option Certificate) → IsCertificateDue words contents c → owed.certificate ≡ c → IsOwedIn window bank o.workers owed
+          by_certificate c (Not_asked none e) same = absurd (none_some (certificate_name words) o.name none (asks_by_name words o asks))
           by_certificate c (Not_loaded p also refusal bad e) same = absurd (not_both contents config records refusal loaded bad)
           by_certificate c (Written p also other others too d for_bank e) same = record {
             answer = reported.0;
