@@ -28,7 +28,7 @@ use certificate_walks::write_certificate;
 use certificates::{Head, tight_walks_are_one};
 use civil::Civil;
 use due::{Due, Status};
-use field_tables::{Tables, agreeing_costs_cost_alike, grids_agree_with_their_costs};
+use field_tables::{Tables, agreeing_costs_cost_alike, grids_agree_with_their_costs, parts_of};
 use signal_base::Window;
 use std::alloc::Global;
 use std::thread::Threads;
@@ -90,7 +90,8 @@ fn certify_window<R: Threads + Sync, F: Files, G: Gate + Sync>(
     agreeing_costs_cost_alike();
     grids_agree_with_their_costs();
     let list = items(alloc, civil, window)?;
-    let tables = Tables::make_with_days(alloc, grids, civil, window)?;
+    let parts = parts_of(alloc, civil, window)?;
+    let tables = Tables::make_with_days(alloc, &parts, grids, civil, window)?;
     let found = decide_tables(
         rt,
         alloc,
