@@ -1,5 +1,5 @@
 -- A certificate is written in front of what is told; and what is owed of a bank besides its report.
-use Rattle.std.proofs.Common.{◌≡◌, ◌≢◌, ℕ, zero, suc, true, false, ◌-◌, ◌⊎◌, List, [], ◌∷◌, ◌++◌, Option, Some, replicate, Result, Ok, Err, inl, inr, refl, sym, ap, ◌∙◌, subst}
+use Rattle.std.proofs.Common.{◌≡◌, ◌≢◌, ◌≤◌, ℕ, zero, suc, true, false, ◌-◌, ◌⊎◌, List, [], ◌∷◌, ◌++◌, Option, Some, replicate, Result, Ok, Err, inl, inr, refl, sym, ap, ◌∙◌, subst}
 use Rattle.signal_base.specs.declared.window.Window.{Window}
 use Rattle.definitions.specs.declared.answer.Answer.{Answer}
 use Rattle.definitions.specs.declared.block.Block.{Block}
@@ -50,7 +50,7 @@ module _ {E : Type 0} (name text : List ℕ) (due : Due) (apart : name ≢ outpu
       → WriteFails name old new → OnlyWrites name old new → WritesAll (certified_outputs name text due) old new (Err e)
   cut_off old new e front cause only = record {
     whole = tt;
-    front = inl (front, only.others output_name (λ same. apart (sym same)), tt);
+    front = inl (front, (only.others output_name (λ same. apart (sym same)), tt));
     cause = inl cause;
     same_counts = tt;
     others = λ file other. only.others file other.0;
@@ -63,8 +63,7 @@ module _ {E : Type 0} (name text : List ℕ) (due : Due) (apart : name ≢ outpu
   told_behind a b c (Ok u) whole same only written = record {
     whole = (
       Tells-then (appended (emptied (a.told name)) text) (b.told name) (c.told name) whole (written.only.others name apart),
-      Tells-appended_after (a.told output_name) (b.told output_name) (c.told output_name) (text_of due) (only.others output_name (λ e. apart (sym e))) written.whole,
-      tt,
+      (Tells-appended_after (a.told output_name) (b.told output_name) (c.told output_name) (text_of due) (only.others output_name (λ e. apart (sym e))) written.whole, tt),
     );
     front = tt;
     cause = tt;

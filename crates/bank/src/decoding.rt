@@ -135,7 +135,9 @@ fn answer_for(grids: &[CostGrid], window: &Window, ceiling: u32, found: Found) -
     the_least_two_are_the_answer();
     agreeing_costs_cost_alike();
     grids_agree_with_their_costs();
-    let _ = (grids, window, ceiling);
+    let _ = grids;
+    let _ = window;
+    let _ = ceiling;
     answer_of(found.first, found.second)
 }
 

@@ -1,7 +1,12 @@
 -- The certificate is written, and then what is told; or a front of either.
+use Rattle.std.proofs.Common.{sym, subst}
+use Rattle.std.proofs.lemmas.Result.{err_from_is_err_and}
+use Rattle.certificates.specs.Texts.{certificate_text}
 use Rattle.certificates.specs.Validity.{limit_named}
+use Rattle.certificate_texts.specs.Layout.{in_first_part}
 use Rattle.definitions.specs.answers.Blocks.{items}
 use Rattle.field_tables.specs.Scored.{costs_of}
+use Rattle.bank.specs.Certifying.{DeliversCertified}
 use Rattle.bank.proofs.CertifiedLaws.{apart_from_output, cut_off, delivers_told, one_file, two_files}
 use Rattle.bank.proofs.certify.deliver_certified.Goals as goal
 
@@ -23,3 +28,16 @@ returns-clause-only g c =
 pub returns-in_err-write_certificate-clause-only : goal.returns-in_err-write_certificate-clause-only
 returns-in_err-write_certificate-clause-only g c =
     one_file c.args.certify.now.name.now (g.F.Files.view c.args.files.now) (g.F.Files.view c.write_certificate.new.files) c.in_err-write_certificate.ensures.only
+
+pub returns-in_err-write_certificate-clause-ends : goal.returns-in_err-write_certificate-clause-ends
+returns-in_err-write_certificate-clause-ends g c =
+    let costs = costs_of c.args.tables.now in
+    let head = c.args.head.now in
+    let name = c.args.certify.now.name.now in
+    let old = g.F.Files.view c.args.files.now in
+    let new = g.F.Files.view c.write_certificate.new.files in
+    let failed = c.in_err-write_certificate.ensures in
+    let p = err_from_is_err_and c.from_residual.result c.from_residual.ensures.1 in
+    subst (λ r. DeliversCertified costs head c.args.certify.now.workers name c.args.due.now old new r) (sym p.1) (λ lines are.
+    cut_off {E = Unit {0}} name (certificate_text (in_first_part head c.args.certify.now.workers lines)) c.args.due.now (apart_from_output name c.requires.certify.3) old new tt
+    (failed.failed lines are) failed.cause failed.only)
