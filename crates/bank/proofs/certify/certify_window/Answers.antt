@@ -14,8 +14,8 @@ use Rattle.bank.proofs.CertifiedLaws.{delivered, not_delivered}
 use Rattle.bank.proofs.FirstTwoLaws.{found_by}
 use Rattle.bank.proofs.certify.certify_window.Goals as goal
 
-pub decoded_by-requires-clause-found : goal.decoded_by-requires-clause-found
-decoded_by-requires-clause-found g c =
+pub decoded_by-decoded-requires-clause-found : goal.decoded_by-decoded-requires-clause-found
+decoded_by-decoded-requires-clause-found g c =
     let found = c.in_ok-found.found in
     found_by c.args.window.now c.args.grids.now c.in_ok-tables.tables c.args.ceiling found.first found.second c.in_ok-tables.ensures.window c.in_ok-tables.ensures.grids c.in_ok-found.ensures
 
@@ -60,5 +60,5 @@ returns-clause-ends g c = λ bank is have.
     ∙ ap (λ (w : Window). reported (Report None) w bank d.answer) c.decoded_by-decoded.ensures.window in
     delivered window bank (grid_costs grids) c.args.ceiling o.workers found.first found.second c.requires.window.century is agree same named o.name.now c.reported-due.result d.answer answer_is due_is
     old new c.status.result c.status.ensures
-    (subst (λ (gs : List Grid). DeliversCertified (grid_costs gs) (record { window = window; ceiling = c.args.ceiling; first = found.first; second = found.second }) o.workers o.name.now
-    c.reported-due.result old new (Ok tt)) c.in_ok-tables.ensures.grids c.in_ok-deliver_certified.ensures.ends)
+    (subst (λ (gs : List Grid). DeliversCertified {E = Unit {0}} (grid_costs gs) (record { window = window; ceiling = c.args.ceiling; first = found.first; second = found.second }) o.workers
+    o.name.now c.reported-due.result old new (Ok tt)) c.in_ok-tables.ensures.grids c.in_ok-deliver_certified.ensures.ends)

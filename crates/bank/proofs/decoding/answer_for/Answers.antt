@@ -8,7 +8,7 @@ use Rattle.bank.proofs.DecodedLaws.{reportable, same_least}
 use Rattle.bank.proofs.decoding.answer_for.Goals as goal
 
 pub returns-clause-answer : goal.returns-clause-answer
-returns-clause-answer g c = λ costs have.
+returns-clause-answer c = λ costs have.
     let window = c.args.window.now in
     let grids = c.args.grids.now in
     let found = c.args.found in
@@ -18,7 +18,7 @@ returns-clause-answer g c = λ costs have.
     (same_least window (grid_costs grids) costs c.args.ceiling found.first found.second same c.requires.found))
 
 pub returns-clause-reportable : goal.returns-clause-reportable
-returns-clause-reportable g c =
+returns-clause-reportable c =
     let window = c.args.window.now in
     let costs = grid_costs c.args.grids.now in
     let found = c.args.found in

@@ -36,8 +36,8 @@ returns-in-Ok-clause-only g c =
     only_certified (texts_of c.args.words.now) (certificate_order c.args.certify.now) c.requires.asks (g.F.Files.view c.args.files.now) (g.F.Files.view c.load.new.files)
     (g.F.Files.view c.decode_certified.new.files) c.load.ensures.only c.decode_certified.ensures.only
 
-pub returns-in-Err-clause-ends : goal.returns-in-Err-clause-ends
-returns-in-Err-clause-ends g c =
+pub returns-clause-ends : goal.returns-clause-ends
+returns-clause-ends g c =
     let words = texts_of c.args.words.now in
     let old = g.F.Files.view c.args.files.now in
     let mid = g.F.Files.view c.load.new.files in
