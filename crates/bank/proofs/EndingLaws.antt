@@ -1,5 +1,5 @@
 -- How the parts of a run make its end, whatever its plan.
-use Rattle.std.proofs.Common.{◌≡◌, ◌≢◌, ℕ, ◌≤◌, ◌⊎◌, false, List, [], ◌∷◌, Result, Ok, Err, IfOk, inl, inr, refl, sym, ap, ◌∙◌, subst, arith}
+use Rattle.std.proofs.Common.{◌≡◌, ◌≢◌, ℕ, false, List, [], ◌∷◌, Result, Ok, Err, IfOk, inl, inr, refl, sym, ap, ◌∙◌, subst, arith}
 use Rattle.bank_files.specs.Told.{Tells, Told, output_name}
 use Rattle.bank_files.specs.Seen.{OnlyReads, SameCounts, Seen, Writes}
 use Rattle.bank_files.proofs.Chaining.{KeepsCounts-then, Seen-same}

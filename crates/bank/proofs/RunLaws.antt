@@ -1,5 +1,5 @@
 -- What a run reports of a bank or a trial, and which statuses are due.
-use Rattle.std.proofs.Common.{◌≡◌, ◌≢◌, ℕ, ◌≤◌, refl, ap, ◌∙◌, subst, arith}
+use Rattle.std.proofs.Common.{◌≡◌, ℕ, ◌≤◌, refl, ap, ◌∙◌, subst, arith}
 use Rattle.signal_base.specs.declared.station.Station.{Station}
 use Rattle.definitions.specs.declared.answer.Answer.TheVariants as answers
 use Rattle.definitions.specs.declared.sequence.Sequence.{Sequence}

@@ -24,7 +24,7 @@ mod words;
 
 pub use decoding::{Decoded, decode, decode_window, duts_of};
 pub use deliver::{deliver_due, print};
-pub use first_two::{DecideFault, decide, decide_with};
+pub use first_two::{DecideFault, decide, decide_by, decide_with};
 pub use grids::{advance_grids, grids_of, places_of};
 pub use hearing::{Bank, bank_of, window_of};
 pub use job::{Job, perform, status_after};

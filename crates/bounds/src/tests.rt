@@ -6,7 +6,7 @@ ghost use Rattle.signal_base.specs.declared.station.Station.TheVariants.{Dcf77};
 
 use crate::{Block, BoundedChildren, Span, announced_last, bounded_children, items, ranked};
 use civil::Civil;
-use field_tables::Tables;
+use field_tables::{Tables, parts_of};
 use pulse_log::read_log;
 use signal_base::{CostTable, Station, Stations, Tuning, Window};
 use std::alloc::Global;
@@ -91,7 +91,8 @@ fn ranks_the_years_of_the_last_minutes(rt: HostRuntime) -> Result<(), Fail> {
     let civil = Civil::make(rt.alloc())?;
     let window = window_from(FROM);
     let grids = [silent_grid(rt.alloc())?];
-    let tables = Tables::make(rt.alloc(), &grids, &civil, &window)?;
+    let parts = parts_of(rt.alloc(), &civil, &window)?;
+    let tables = Tables::make(rt.alloc(), &parts, &grids, &civil, &window)?;
     let list = items(rt.alloc(), &civil, &window)?;
     let order = ranked(rt.alloc(), &tables, &list)?;
     assert_eq!(rt; order.len(), 121);
@@ -109,7 +110,7 @@ fn ranks_the_years_of_the_last_minutes(rt: HostRuntime) -> Result<(), Fail> {
             (Span::Year, FROM, CENTURY)
         );
     }
-    let parted = announced_last(rt.alloc(), &order)?;
+    let parted = announced_last(rt.alloc(), &tables, &list)?;
     assert_eq!(rt; parted.len(), 121);
     for (i, block) in parted.iter().enumerate() {
         let place = if i < 60 { (false, i) } else { (true, i - 60) };
@@ -139,7 +140,8 @@ fn bounds_the_parts_of_the_last_minutes(rt: HostRuntime) -> Result<(), Fail> {
     let civil = Civil::make(rt.alloc())?;
     let window = window_from(FROM);
     let grids = [silent_grid(rt.alloc())?];
-    let tables = Tables::make(rt.alloc(), &grids, &civil, &window)?;
+    let parts = parts_of(rt.alloc(), &civil, &window)?;
+    let tables = Tables::make(rt.alloc(), &parts, &grids, &civil, &window)?;
     let list = items(rt.alloc(), &civil, &window)?;
     let Some(year) = list.first() else {
         panic!(rt; "no year");

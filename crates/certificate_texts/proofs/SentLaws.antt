@@ -4,7 +4,7 @@ use Rattle.std.proofs.lemmas.List.{append-nil}
 use Rattle.bank_files.specs.Told.{Told, Untold, Missing, Holds, Tells, appended, emptied}
 use Rattle.bank_files.specs.Seen.{Seen, Writes}
 use Rattle.bank_files.proofs.Chaining.{HasFault-from, OnlyWrites-start, OnlyWrites-then, SameCounts-start, SameCounts-then}
-use Rattle.bank_files.proofs.Telling.{AppendsFront-after, AppendsFront-longer, Tells-appended, Tells-untold}
+use Rattle.bank_files.proofs.Telling.{AppendsFront-after, AppendsFront-longer, Tells-appended}
 use Rattle.certificate_texts.specs.Sending.{IsSent, WritesFront, WritesWhole}
 
 -- no byte more is at the end of a file that is there
@@ -59,7 +59,7 @@ module _ (name : List ℕ) where
   front_of_more a b x y is =
       record { front = AppendsFront-longer (a.told name) (b.told name) x y is.front; cause = is.cause; only = is.only }
 
--- What a file that was made anew holds, once a text was appended
+-- a file that was made anew is there
 pub is_there : (t u : Told) → Tells (emptied t) u → u ≢ Missing
 is_there Untold u (inl e) = λ m. not_untold (sym e ∙ m)
   where
@@ -77,9 +77,3 @@ is_there t u (inr e) = λ m. not_untold (sym e ∙ m)
   where
     not_untold : Untold ≡ Missing → ⊥
     not_untold h = absurd cc
-
-pub holds_text : (t u v : Told) (text : List ℕ) → Tells (emptied t) u → Tells (appended u text) v → Tells (Holds text) v
-holds_text Untold u v text (inl e) h = inr (Tells-untold v (subst (λ (s : Told). Tells (appended s text) v) e h))
-holds_text Missing u v text (inl e) h = subst (λ (s : Told). Tells (appended s text) v) e h
-holds_text (Holds bytes) u v text (inl e) h = subst (λ (s : Told). Tells (appended s text) v) e h
-holds_text t u v text (inr e) h = inr (Tells-untold v (subst (λ (s : Told). Tells (appended s text) v) e h))

@@ -1,19 +1,12 @@
--- What a file that was made anew holds after a fault.
-use Rattle.std.proofs.Common.{ℕ, List, [], refl, ⊎_elim}
-use Rattle.bank_files.specs.Told.{Told, Tells, appended, emptied, AppendsFront}
-use Rattle.bank_files.proofs.Telling.{Tells-then}
-use Rattle.certificate_walks.specs.Written.{HoldsFront}
-use Rattle.certificate_texts.proofs.SentLaws.{holds_text, is_there, nothing_more}
+-- What is appended to a file that stayed as it was told is appended to what was told.
+use Rattle.std.proofs.Common.{ℕ, List, inl, inr, ⊎_elim}
+use Rattle.bank_files.specs.Told.{AppendsFront, Tells, Told}
+use Rattle.bank_files.proofs.Telling.{Tells-appended_after, Tells-then}
 
--- a front of what was to be written
-pub holds_front : (t u v : Told) (text : List ℕ) → Tells (emptied t) u → AppendsFront u text v → HoldsFront text v
-holds_front t u v text made front =
+-- a front of it too
+pub front_after : (a b c : Told) (text : List ℕ) → Tells a b → AppendsFront b text c → AppendsFront a text c
+front_after a b c text same front =
     ⊎_elim
-    (λ same. record {
-      front = [];
-      rest = text;
-      joined = refl;
-      holds = holds_text t u v [] made (Tells-then (appended u []) u v (nothing_more u (is_there t u made)) same);
-    })
-    (λ p. record { front = p.0; rest = p.1; joined = p.2; holds = holds_text t u v p.0 made p.3 })
+    (λ none. inl (Tells-then a b c same none))
+    (λ p. inr (p.0, p.1, p.2, Tells-appended_after a b c p.0 same p.3))
     front

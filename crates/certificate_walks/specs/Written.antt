@@ -1,9 +1,9 @@
 -- The certificate that is written of keys that were found, and what its file holds.
-use Rattle.std.specs.Prelude.{ℕ, ◌≡◌, ◌⊎◌, List, ◌++◌, length, min}
+use Rattle.std.specs.Prelude.{ℕ, ◌≡◌, ◌⊎◌, List, length, min}
 use Rattle.definitions.specs.heard.Costs.{Costs}
 use Rattle.definitions.specs.answers.Blocks.{items}
 use Rattle.bank_files.specs.Fault.{greatest}
-use Rattle.bank_files.specs.Told.{Told, Holds, Tells}
+use Rattle.bank_files.specs.Told.{AppendsFront, Tells, Told, appended, emptied}
 use Rattle.certificates.specs.declared.certificate.Head.{Head}
 use Rattle.certificates.specs.declared.certificate.Line.{Line}
 use Rattle.certificates.specs.Texts.{certificate_text}
@@ -15,22 +15,15 @@ pub record AreTightWalks (costs : Costs) (head : Head) (lines : List Line) : Typ
   pub walks : AreWalks costs head.window (limit_named head.ceiling head.second) (items head.window) lines
   pub tight : AreTight (limit_named head.ceiling head.second) lines
 
--- the file holds a certificate of these lines, and this is how many there are, as far as a u64 counts
-pub record IsWritten (costs : Costs) (head : Head) (parts : ℕ) (now : Told) (steps : ℕ) : Type 0 where
+-- The file was emptied, and a certificate of these lines is at its end; this is how many there are, as far as a u64 counts.
+pub record IsWritten (costs : Costs) (head : Head) (parts : ℕ) (before now : Told) (steps : ℕ) : Type 0 where
   pub lines : List Line
   pub walks : AreTightWalks costs head lines
-  pub text : Tells (Holds (certificate_text (in_first_part head parts lines))) now
+  pub text : Tells (appended (emptied before) (certificate_text (in_first_part head parts lines))) now
   pub count : steps ≡ min (length lines) greatest
 
--- the file holds a front of a text
-pub record HoldsFront (text : List ℕ) (now : Told) : Type 0 where
-  pub front : List ℕ
-  pub rest : List ℕ
-  pub joined : front ++ rest ≡ text
-  pub holds : Tells (Holds front) now
-
--- The file is as before, or it holds a front of the certificate. There is one list of such lines.
+-- The file is as before, or it was emptied, and a front of the certificate is at its end. There is one list of such lines.
 abbrev pub IsCutOff : Costs → Head → ℕ → Told → Told → Type 0
 IsCutOff costs head parts before now =
     (lines : List Line) → AreTightWalks costs head lines
-    → Tells before now ⊎ HoldsFront (certificate_text (in_first_part head parts lines)) now
+    → Tells before now ⊎ AppendsFront (emptied before) (certificate_text (in_first_part head parts lines)) now

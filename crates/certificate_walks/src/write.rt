@@ -36,7 +36,7 @@ pub fn write_certificate<F: Files>(
     requires items { list.now ≡ items head.now.window }
     requires some_part { 1 ≤ parts }
     requires few_parts { parts ≤ MOST_PARTS }
-    ensures written { IfOk result (λ steps. IsWritten (costs_of tables.now) head.now parts ((F.view files.new).told name.now) steps) }
+    ensures written { IfOk result (λ steps. IsWritten (costs_of tables.now) head.now parts ((F.view files.old).told name.now) ((F.view files.new).told name.now) steps) }
     ensures failed { OnErr result (IsCutOff (costs_of tables.now) head.now parts ((F.view files.old).told name.now) ((F.view files.new).told name.now)) }
     ensures cause { OnErr result (WriteFails name.now (F.view files.old) (F.view files.new)) }
     ensures same_counts { OnOk result (SameCounts (F.view files.old) (F.view files.new)) }

@@ -1,5 +1,5 @@
 -- What is told of a bank in the order of its stations is told of the bank.
-use Rattle.std.proofs.Common.{◌≡◌, ◌≢◌, ℕ, true, false, List, [], ◌∷◌, refl, ◌∙◌, subst, arith}
+use Rattle.std.proofs.Common.{◌≡◌, true, false, List, [], ◌∷◌, refl, ◌∙◌, subst, arith}
 use Rattle.signal_base.specs.declared.window.Window.{Window}
 use Rattle.definitions.specs.answers.Answers.{IsWindowAnswer}
 use Rattle.definitions.specs.heard.Costs.{Costs}

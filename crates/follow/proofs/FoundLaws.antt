@@ -1,5 +1,5 @@
 -- What is found due of `follow`, and what a file that fails is of.
-use Rattle.std.proofs.Common.{◌≡◌, ℕ, List, refl, sym, ap, subst}
+use Rattle.std.proofs.Common.{ℕ, List, refl, ap, subst}
 use Rattle.definitions.specs.heard.Logs.{Records}
 use Rattle.formats.specs.declared.refusal.Refusal.{Refusal}
 use Rattle.bank_files.specs.Seen.{Seen}

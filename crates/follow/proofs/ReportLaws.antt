@@ -1,5 +1,5 @@
 -- The reports so far, and one more.
-use Rattle.std.proofs.Common.{◌≡◌, List, [], ◌∷◌, ◌++◌, All, refl, ap}
+use Rattle.std.proofs.Common.{List, [], ◌∷◌, ◌++◌, All, refl}
 use Rattle.std.proofs.lemmas.List.Elements.{All-append, All-cons, All-nil}
 use Rattle.signal_base.specs.declared.window.Window.{Window}
 use Rattle.due.specs.Banks.{Bank}

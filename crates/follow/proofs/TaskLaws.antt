@@ -1,6 +1,4 @@
 -- What the words ask is in its ranges.
-use Rattle.std.proofs.Common.{ℕ, List}
-use Rattle.formats.specs.declared.words.Asked.{Asked}
 use Rattle.formats.specs.OrderRanges.{IsInRange as IsOrderInRange}
 use Rattle.formats.specs.Orders.Order.{Follow}
 use Rattle.follow.specs.declared.words.FollowTask.{FollowTask}

@@ -1,5 +1,5 @@
 -- What is found due of a command of frames, and what a file that fails is of.
-use Rattle.std.proofs.Common.{◌≡◌, ℕ, List, Ok, refl, sym, ap, subst}
+use Rattle.std.proofs.Common.{◌≡◌, ℕ, List, refl, sym, subst}
 use Rattle.definitions.specs.heard.Logs.{Records}
 use Rattle.formats.specs.declared.refusal.Refusal.{Refusal}
 use Rattle.formats.specs.declared.words.Asked.{Asked}

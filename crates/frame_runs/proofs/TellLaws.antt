@@ -1,5 +1,5 @@
 -- What is told of a text of frames that was read.
-use Rattle.std.proofs.Common.{◌≡◌, ℕ, ◌<◌, ◌≤◌, List, length, All, Result, Ok, Err, IfOk, sym, ap, subst, arith}
+use Rattle.std.proofs.Common.{◌≡◌, ℕ, ◌<◌, ◌≤◌, List, length, All, Result, Ok, Err, IfOk, sym, ap, subst}
 use Rattle.definitions.specs.time.Calendar.{century_minutes}
 use Rattle.formats.specs.declared.frame.Frame.{Frame}
 use Rattle.formats.specs.declared.frame.TheConstants.{FRAMES_LIMIT, MOST_FRAMES}

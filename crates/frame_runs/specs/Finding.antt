@@ -1,5 +1,5 @@
 -- What can be found due of a command of frames.
-use Rattle.std.specs.Prelude.{ℕ, ◌<◌, ◌≤◌, All, length}
+use Rattle.std.specs.Prelude.{◌<◌, ◌≤◌, All, length}
 use Rattle.signal_base.specs.declared.limits.TheConstants.{MOST_SECONDS, START_LIMIT}
 use Rattle.signal_base.specs.declared.window.Window.{Window}
 use Rattle.definitions.specs.declared.sequence.Sequence.{Sequence}

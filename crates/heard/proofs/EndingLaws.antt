@@ -1,24 +1,20 @@
 -- How a run ends that shows what was heard.
-use Rattle.std.proofs.Common.{◌≡◌, ◌≢◌, ℕ, ◌⊎◌, false, List, [], ◌∷◌, Result, Ok, Err, inl, inr, refl, arith}
+use Rattle.std.proofs.Common.{◌≡◌, ℕ, ◌⊎◌, List, [], Result, Ok, Err, inl, inr, refl, arith}
 use Rattle.bank_files.specs.Told.{output_name}
 use Rattle.bank_files.specs.Seen.{Seen, Writes}
 use Rattle.bank_files.proofs.Chaining.{OnlyReads-start, SameCounts-start}
 use Rattle.formats.specs.declared.words.WordFault.{WordFault}
-use Rattle.formats.specs.declared.words.WordFault.TheVariants.{BadMinute, BadNumber, EmptyRange, Usage}
 use Rattle.formats.specs.Heard.{Hearing as PlainHearing}
 use Rattle.due.specs.declared.due.Due.TheVariants.{Refused}
 use Rattle.due.specs.declared.heard_due.HeardDue.{HeardDue}
 use Rattle.due.specs.declared.heard_due.HeardDue.TheVariants.{Heard, Told}
 use Rattle.due.specs.declared.status.Status.{Status}
-use Rattle.due.specs.declared.status.Status.TheVariants.{BadWords}
 use Rattle.due.specs.Dues.{status_of, text_of}
 use Rattle.due.specs.HeardRuns.{Bad_words, heard_order, heard_plan, heard_status}
 use Rattle.due.specs.Orders.{word_refusal}
-use Rattle.due.specs.Outputs.{standard_output}
-use Rattle.due.specs.Status.{code_of}
 use Rattle.bank.specs.declared.stop.Stop.{Stop}
 use Rattle.bank.specs.declared.stop.Stop.TheVariants.{Failed, NoMemory}
-use Rattle.bank.specs.Ending.{Ends, IsFound, SomeReadFails, SomeWriteFails, WritesAll, WritesFront, WritesNothing}
+use Rattle.bank.specs.Ending.{Ends, IsFound, SomeReadFails, SomeWriteFails, WritesFront, WritesNothing}
 use Rattle.bank.proofs.EndingLaws.{IsNoFailure, due_not_written, due_written, found_at_once, one_written}
 use Rattle.bank.proofs.RunLaws as runs
 use Rattle.heard.specs.Seen.{due_seen, kept_plan}

@@ -1,6 +1,6 @@
 //! The program `tsheard`, which shows what was heard: all as in `tsbank`, but for the one call in its middle.
 
-ghost use Rattle.std.specs.Prelude.{◌≡◌, ℕ};
+ghost use Rattle.std.specs.Prelude.{ℕ};
 ghost use Rattle.std.specs.Process.{exit_status};
 ghost use Rattle.bank_words.specs.Seen.{texts_of};
 ghost use Rattle.due.specs.HeardRuns.{heard_plan};

@@ -22,7 +22,7 @@ use bank::{grids_of, window_of};
 use bounds::{Bounded, bound, items};
 use civil::Civil;
 use definitions::{Block, MINUTES_PER_DAY, Sequence};
-use field_tables::Tables;
+use field_tables::{Tables, parts_of};
 use formats::Asked;
 use plain_costs::plain_cost;
 use sequence::{legal, walkable};
@@ -170,7 +170,8 @@ fn compare_window(
     let bank = noisy_bank(alloc, chance, stations, asked.seconds)?;
     let window = window_of(&bank, asked);
     let grids = grids_of(alloc, &bank, &window)?;
-    let tables = Tables::make(alloc, &grids, civil, &window)?;
+    let parts = parts_of(alloc, civil, &window)?;
+    let tables = Tables::make(alloc, &parts, &grids, civil, &window)?;
     let case = Case {
         civil,
         grids: &grids,

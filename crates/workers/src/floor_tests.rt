@@ -8,7 +8,7 @@ use crate::{Found, NoGate, finish, search_with};
 use bounds::{bounded_children, items};
 use civil::Civil;
 use definitions::{Block, Span, items_share_the_sequences};
-use field_tables::Tables;
+use field_tables::{Tables, parts_of};
 use race_words::Race;
 use signal_base::{GREATEST_COST, Station};
 use std::alloc::Global;
@@ -113,7 +113,8 @@ fn floors_change_no_key<R: Threads + Abort + Sync>(
     let civil = Civil::make(alloc)?;
     let window = jjy(YEAR_2001 - 2880, YEAR_2001 + 1440);
     let grids = [grid_of(alloc, Station::Jjy, text)?];
-    let tables = Tables::make(alloc, &grids, &civil, &window)?;
+    let parts = parts_of(alloc, &civil, &window)?;
+    let tables = Tables::make(alloc, &parts, &grids, &civil, &window)?;
     let list = items(alloc, &civil, &window)?;
     keys_are_found_each_way(rt, alloc, &tables, &list)
 }
@@ -134,7 +135,8 @@ fn a_day_of_noise_has_a_floor(rt: HostRuntime) -> Result<(), Fail> {
     let civil = Civil::make(rt.alloc())?;
     let window = jjy(YEAR_2001 - 2880, YEAR_2001 + 1440);
     let grids = [grid_of(rt.alloc(), Station::Jjy, NOISE)?];
-    let tables = Tables::make(rt.alloc(), &grids, &civil, &window)?;
+    let parts = parts_of(rt.alloc(), &civil, &window)?;
+    let tables = Tables::make(rt.alloc(), &parts, &grids, &civil, &window)?;
     let list = items(rt.alloc(), &civil, &window)?;
     items_share_the_sequences();
     let Some(year) = list.first() else {
@@ -147,7 +149,7 @@ fn a_day_of_noise_has_a_floor(rt: HostRuntime) -> Result<(), Fail> {
     if day.span != Span::Day {
         panic!(rt; "no day");
     }
-    let floor = tables.floor(&day);
+    let floor = tables.floor(&day, 0);
     assert!(rt; floor.is_some() && floor != Some(0), "a floor of nothing");
     Ok(())
 }

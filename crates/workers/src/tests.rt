@@ -11,7 +11,7 @@ use crate::{Found, Gate, NoGate, finish, search, search_with};
 use bounds::items;
 use civil::Civil;
 use definitions::{Block, Span, items_share_the_sequences};
-use field_tables::Tables;
+use field_tables::{Tables, parts_of};
 use pulse_log::read_log;
 use race_words::{Race, Seat};
 use signal_base::{CostTable, GREATEST_COST, Station, Stations, Tuning, Window};
@@ -132,7 +132,8 @@ fn one_sequence_is_left_at_the_end_of_the_century(rt: HostRuntime) -> Result<(),
     let civil = Civil::make(rt.alloc())?;
     let window = dcf77(CENTURY - 62, CENTURY);
     let grids = [silent_grid(rt.alloc(), Station::Dcf77)?];
-    let tables = Tables::make(rt.alloc(), &grids, &civil, &window)?;
+    let parts = parts_of(rt.alloc(), &civil, &window)?;
+    let tables = Tables::make(rt.alloc(), &parts, &grids, &civil, &window)?;
     let list = items(rt.alloc(), &civil, &window)?;
     each_crew_finds(&rt, rt.alloc(), &tables, &list, Some(52_595_938), None)
 }
@@ -142,7 +143,8 @@ fn a_silent_hour_ties(rt: HostRuntime) -> Result<(), Fail> {
     let civil = Civil::make(rt.alloc())?;
     let window = jjy(0, 60);
     let grids = [silent_grid(rt.alloc(), Station::Jjy)?];
-    let tables = Tables::make(rt.alloc(), &grids, &civil, &window)?;
+    let parts = parts_of(rt.alloc(), &civil, &window)?;
+    let tables = Tables::make(rt.alloc(), &parts, &grids, &civil, &window)?;
     let list = items(rt.alloc(), &civil, &window)?;
     each_crew_finds(&rt, rt.alloc(), &tables, &list, Some(0), Some(1))
 }
@@ -181,7 +183,8 @@ fn two_workers_meet_at_the_gate(rt: HostRuntime) -> Result<(), Fail> {
     let civil = Civil::make(rt.alloc())?;
     let window = jjy(0, 60);
     let grids = [silent_grid(rt.alloc(), Station::Jjy)?];
-    let tables = Tables::make(rt.alloc(), &grids, &civil, &window)?;
+    let parts = parts_of(rt.alloc(), &civil, &window)?;
+    let tables = Tables::make(rt.alloc(), &parts, &grids, &civil, &window)?;
     let list = items(rt.alloc(), &civil, &window)?;
     let gate = Meeting {
         first: AtomicBool::new(false),
@@ -288,7 +291,8 @@ fn a_visit_goes_by_what_another_seat_offered(rt: HostRuntime) -> Result<(), Fail
     let civil = Civil::make(rt.alloc())?;
     let window = jjy(YEAR_2001 - 2, YEAR_2001 + 2);
     let grids = [silent_grid(rt.alloc(), Station::Jjy)?];
-    let tables = Tables::make(rt.alloc(), &grids, &civil, &window)?;
+    let parts = parts_of(rt.alloc(), &civil, &window)?;
+    let tables = Tables::make(rt.alloc(), &parts, &grids, &civil, &window)?;
     let list = items(rt.alloc(), &civil, &window)?;
     assert_eq!(rt;
         list.get(1).map(|b| (b.span, b.lo, b.second, b.announced)),
@@ -335,7 +339,8 @@ fn a_day_is_passed_over_by_what_another_seat_offered(rt: HostRuntime) -> Result<
     let civil = Civil::make(rt.alloc())?;
     let window = jjy(last, last + 2);
     let grids = [silent_grid(rt.alloc(), Station::Jjy)?];
-    let tables = Tables::make(rt.alloc(), &grids, &civil, &window)?;
+    let parts = parts_of(rt.alloc(), &civil, &window)?;
+    let tables = Tables::make(rt.alloc(), &parts, &grids, &civil, &window)?;
     let list = items(rt.alloc(), &civil, &window)?;
 
     // After greater keys the visit comes to the year, two days, two hours and two minutes.
@@ -393,7 +398,8 @@ fn each_workers_steps_are_told(rt: HostRuntime) -> Result<(), Fail> {
     let civil = Civil::make(rt.alloc())?;
     let window = jjy(0, 60);
     let grids = [silent_grid(rt.alloc(), Station::Jjy)?];
-    let tables = Tables::make(rt.alloc(), &grids, &civil, &window)?;
+    let parts = parts_of(rt.alloc(), &civil, &window)?;
+    let tables = Tables::make(rt.alloc(), &parts, &grids, &civil, &window)?;
     let list = items(rt.alloc(), &civil, &window)?;
     for workers in 1..=8 {
         let blocks = blocks_of_all(&rt, rt.alloc(), &tables, &list, workers)?;

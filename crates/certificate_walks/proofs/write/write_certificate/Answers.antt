@@ -1,12 +1,14 @@
 -- The file is made, and then the certificate is appended.
 use Rattle.std.proofs.Common.{inr, rules}
+use Rattle.bank_files.specs.Told.{emptied}
 use Rattle.bank_files.proofs.Chaining.{HasFault-from, OnlyWrites-then, SameCounts-then}
+use Rattle.bank_files.proofs.Telling.{Tells-appended_after}
 use Rattle.certificates.specs.Texts.{certificate_text}
 use Rattle.certificate_texts.specs.Layout.{in_first_part}
-use Rattle.certificate_texts.proofs.SentLaws.{holds_text, is_there}
+use Rattle.certificate_texts.proofs.SentLaws.{is_there}
 use Rattle.field_tables.specs.Scored.{costs_of}
 use Rattle.certificate_walks.specs.Written.{IsCutOff}
-use Rattle.certificate_walks.proofs.CutLaws.{holds_front}
+use Rattle.certificate_walks.proofs.CutLaws.{front_after}
 use Rattle.certificate_walks.proofs.write.write_certificate.Goals as goal
 
 pub append_certificate-requires-clause-there : goal.append_certificate-requires-clause-there
@@ -26,7 +28,7 @@ returns-in_err-steps-clause-failed g c =
     let now = (g.F.Files.view c.append_certificate.new.files).told name in
     let cut : IsCutOff (costs_of c.args.tables.now) c.args.head.now c.args.parts before now = λ lines are.
     inr
-    (holds_front before ((g.F.Files.view c.create.new.self).told name) now (certificate_text (in_first_part c.args.head.now c.args.parts lines))
+    (front_after (emptied before) ((g.F.Files.view c.create.new.self).told name) now (certificate_text (in_first_part c.args.head.now c.args.parts lines))
     c.in_ok-create.ensures.emptied (c.in_err-steps.ensures.failed.front lines are)) in
     search rules
 
@@ -48,7 +50,7 @@ returns-clause-written g c =
     let is = c.in_ok-steps.ensures.written in record {
       lines = is.lines;
       walks = is.walks;
-      text = holds_text ((g.F.Files.view c.args.files.now).told name) ((g.F.Files.view c.create.new.self).told name) ((g.F.Files.view c.append_certificate.new.files).told name)
+      text = Tells-appended_after (emptied ((g.F.Files.view c.args.files.now).told name)) ((g.F.Files.view c.create.new.self).told name) ((g.F.Files.view c.append_certificate.new.files).told name)
           (certificate_text (in_first_part c.args.head.now c.args.parts is.lines)) c.in_ok-create.ensures.emptied is.writes.whole;
       count = is.count;
     }

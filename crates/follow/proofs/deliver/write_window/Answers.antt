@@ -1,5 +1,4 @@
 -- The line of a window, and then its report.
-use Rattle.std.proofs.Common.{◌++◌, Ok, Err, subst}
 use Rattle.std.proofs.lemmas.Result.{err_from_is_err_and}
 use Rattle.bank_files.specs.Told.{output_name}
 use Rattle.bank_files.specs.Seen.{Writes}

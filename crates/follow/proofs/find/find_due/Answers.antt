@@ -1,5 +1,5 @@
 -- What is due for what is to be done.
-use Rattle.std.proofs.Common.{ℕ, List, ◌∙◌, subst}
+use Rattle.std.proofs.Common.{◌∙◌, subst}
 use Rattle.bank_config.specs.Configuration.{plain_config}
 use Rattle.due.specs.Banks.{bank_of}
 use Rattle.bank.specs.declared.loading.Unloaded.{Unloaded}

@@ -1,5 +1,5 @@
 -- One window after the other.
-use Rattle.std.proofs.Common.{◌≡◌, ◌+◌, ◌-◌, List, All, refl, sym, ap, ◌∙◌, subst, arith}
+use Rattle.std.proofs.Common.{◌≡◌, ◌+◌, ◌-◌, List, All, sym, subst, arith}
 use Rattle.std.proofs.lemmas.List.Elements.{All-nil}
 use Rattle.signal_base.specs.declared.window.Window.{Window}
 use Rattle.follow_due.specs.declared.window_report.WindowReport.{WindowReport}

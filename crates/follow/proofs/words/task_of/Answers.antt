@@ -3,7 +3,7 @@ use Rattle.std.proofs.Common.{Ok, ap, ◌∙◌, subst}
 use Rattle.formats.specs.OrderRanges.{IsInRange as IsOrderInRange}
 use Rattle.formats.specs.Orders.{◌>>=◌}
 use Rattle.bank_words.specs.declared.order.Reach.{Reach}
-use Rattle.bank_words.specs.Seen.{reach_seen, texts_of}
+use Rattle.bank_words.specs.Seen.{reach_seen}
 use Rattle.follow_due.specs.FollowOrders.{of_follow}
 use Rattle.follow.proofs.TaskLaws.{task_in_range}
 use Rattle.follow.proofs.words.task_of.Goals as goal

@@ -1,7 +1,7 @@
 -- What the words ask of the commands of frames is what their order asks.
 use Rattle.std.proofs.Common.{Ok, ap, ◌∙◌}
 use Rattle.formats.specs.Orders.{◌>>=◌}
-use Rattle.bank_words.specs.Seen.{reach_seen, texts_of}
+use Rattle.bank_words.specs.Seen.{reach_seen}
 use Rattle.due.specs.FrameOrders.{of_frames}
 use Rattle.frame_runs.proofs.words.task_of.Goals as goal
 
