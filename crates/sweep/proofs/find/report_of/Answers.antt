@@ -69,10 +69,9 @@ returns-clause-can_be_written c =
     let s = c.args.standing in
     let law = c.searches_decide_a_sweep.ensures in
     let all = all_offsets window.phase in
-    let answer = c.answer_of-answer.ensures ∙ ap (λ (first : Option ℕ). answer_from first s.second) c.first_key.ensures in
-    (
+    let answer = c.answer_of-answer.ensures ∙ ap (λ (first : Option ℕ). answer_from first s.second) c.first_key.ensures in (
       standing_can_be_reported window bank s c.answer_of-answer.result c.told_window-told.result c.requires.window answer c.told_window-told.ensures.window
-      (law.answer window bank offsets s c.requires.window.century c.requires.window.phase all c.requires.searched)
-      (law.told window bank offsets s c.requires.window.century c.requires.window.phase all c.requires.searched),
+          (law.answer window bank offsets s c.requires.window.century c.requires.window.phase all c.requires.searched)
+          (law.told window bank offsets s c.requires.window.century c.requires.window.phase all c.requires.searched),
       search rules,
     )
