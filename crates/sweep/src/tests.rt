@@ -282,6 +282,7 @@ fn finds_a_phase_near_the_whole_second(rt: HostRuntime) -> Result<(), Fail> {
 }
 
 // Counts the phases that are come to, and keeps the numbers of the latest.
+#[derive(Drop)]
 struct Steps {
     count: AtomicU64,
     number: AtomicU64,
