@@ -31,7 +31,7 @@ run: ## decodes the sample over the century: by build/tsbank, or in about a minu
 			2> ../../build/quick-run.txt || { cat ../../build/quick-run.txt >&2; exit 1; }; \
 	fi
 
-build: ## proves the programs' crates and leaves build/tsbank and build/tsheard (half an hour at first)
+build: ## proves the programs' crates and leaves build/tsbank and build/tsheard (an hour at first)
 	cd crates/tsbank && rt run -- encode wwvb 2024-02-29T12:34Z > /dev/null
 	cd crates/tsheard && rt run --data k.toml=data/k.toml --data a.log=data/a.log -- k.toml --seconds 120 > /dev/null
 	install -d build
@@ -75,11 +75,14 @@ fmt: ## lays out the files of every crate
 
 bench: ## measures the program: speed, memory, and how often its answers are wrong
 	@$(FRESH) || $(MAKE) build
-	cd crates/search_bench && rt run > /dev/null
+	cd crates/search_bench && rt run -- compare > /dev/null
+	cd crates/board_bench && rt run -- compare > /dev/null
 	bench/decode
 	bench/search
+	bench/board
 	bench/reading
 	bench/irig-frames
+	bench/certificates
 	bench/certificate-faults
 	bench/failures
 	bench/terminal

@@ -157,6 +157,22 @@ def head_at_its_ends(text, judge, chance):
 
 
 @fault
+def step_at_its_ends(text, judge, chance):
+    """A field of a step is the least or the greatest that it may be: the text is in order, the step isn't."""
+    lines = text.split("\n")
+    at = picked(chance, steps_of(lines))
+    kind, block, bound = step_in(lines[at])
+    place, new = picked(chance, [
+        (4, 0), (4, block[4] - 1), (5, block[3] + 1), (5, 52_596_000),
+        *[(3, 0), (3, 60)] * (block[0] != "Y"), *[(6, 0), (6, 1_920_000_000)] * (kind != "E"),
+    ])
+    changed = field(lines[at], place, new)
+    if changed == lines[at]:
+        return None
+    return spoil(lines, at, changed), f"wrong bound at step {at - STEPS + 1}" if place == 6 else uncovered(at)
+
+
+@fault
 def key_at_its_end(text, judge, chance):
     lines = text.split("\n")
     at, new = 8 + chance.below(2), picked(chance, [6_416_711_999, 1_920_000_000 * KEY_COSTS + 6_416_711_999])

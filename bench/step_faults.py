@@ -143,6 +143,14 @@ def a_leaf_above_the_limit(text, judge, chance):
     return (spoil(lines, at, "L" + lines[at][1:]), "certified") if at else None
 
 
+@fault
+def a_leaf_above_the_ceiling(text, judge, chance):
+    lines = text.split("\n")
+    dear = [n for n in steps_of(lines, "P", "M") if step_in(lines[n])[2] > judge.heard.ceiling]
+    at = picked(chance, dear or [0])
+    return (spoil(lines, at, "L" + lines[at][1:]), "certified") if at else None
+
+
 # Bounds
 
 
@@ -178,6 +186,29 @@ def bound_of_another(text, judge, chance):
 
 
 @fault
+def bound_of_the_twin(text, judge, chance):
+    """The bound of the same block with the other announcement."""
+    lines = text.split("\n")
+    at = picked(chance, steps_of(lines, "OPL"))
+    _, (span, announced, *rest), bound = step_in(lines[at])
+    new = judge.bound((span, 1 - announced, *rest))
+    if new is None or new == bound:
+        return None
+    return spoil(lines, at, field(lines[at], 6, new)), f"wrong bound at step {at - STEPS + 1}"
+
+
+@fault
+def bound_of_the_neighbour(text, judge, chance):
+    """The bound of the block behind it in the same list."""
+    lines = text.split("\n")
+    at = picked(chance, [n for n in steps_of(lines, "OPL")[:-1] if (step_in(lines[n + 1]) or [None] * 3)[2] is not None])
+    new = step_in(lines[at + 1])[2]
+    if new == step_in(lines[at])[2]:
+        return None
+    return spoil(lines, at, field(lines[at], 6, new)), f"wrong bound at step {at - STEPS + 1}"
+
+
+@fault
 def bound_without_dut1(text, judge, chance):
     """A minute's bound as if each second of DUT1 stood by itself."""
     lines = text.split("\n")
@@ -208,6 +239,16 @@ def pruned_within_the_limit(text, judge, chance):
     if not at:
         return None
     return joined(lines[:at] + ["P" + lines[at][1:]] + lines[walk_end(lines, at):]), f"not above at step {at - STEPS + 1}"
+
+
+@fault
+def pruned_at_the_limit(text, judge, chance):
+    """The leaf whose key the certificate names second is passed over: its key is the limit, and not above it."""
+    lines = text.split("\n")
+    limit = limit_of(keys_of(lines)[1], judge.heard.ceiling)
+    steps = ((n, step_in(lines[n])) for n in steps_of(lines, "L"))
+    at = next((n for n, (_, block, bound) in steps if block_key(bound, block) == limit), 0)
+    return (spoil(lines, at, "P" + lines[at][1:]), f"not above at step {at - STEPS + 1}") if at else None
 
 
 def keys_of(lines):
@@ -261,11 +302,26 @@ def all_pruned(text, judge, chance):
     return with_keys(lines[:STEPS] + items + lines[-2:], 0, 0), "wrong ends -"
 
 
+# A program reads a text in pieces of so many bytes.
+PIECE = 65_536
+
+
+@fault
+def one_field_at_a_border(text, judge, chance):
+    """A field changes of a step in which a piece ends."""
+    border = PIECE * (1 + chance.below(len(text) // PIECE)) if len(text) > PIECE else 0
+    at = text[:border].count("\n") if border else 0
+    return changed_field(text.split("\n"), at, chance) if at in steps_of(text.split("\n")) else None
+
+
 @fault
 def one_field(text, judge, chance):
     """A step's field becomes another that is well formed."""
     lines = text.split("\n")
-    at = picked(chance, steps_of(lines))
+    return changed_field(lines, picked(chance, steps_of(lines)), chance)
+
+
+def changed_field(lines, at, chance):
     kind, block, bound = step_in(lines[at])
     place, new = picked(chance, [
         (0, picked(chance, "OPEL")), (1, picked(chance, "YDHM")), (2, 1 - block[1]), (3, chance.below(61)),

@@ -7,7 +7,7 @@ use Rattle.bank_files.specs.Told.{Finds, Holds, Missing, Told, Untold}
 use Rattle.bank_files.specs.Seen.{ReadFails, Seen}
 use Rattle.bank_config.specs.Configuration.{PlainReceiver}
 use Rattle.due.specs.Configurations.{logs_from}
-use Rattle.due.specs.Inputs.{Certificate, Configuration, Contents, FramesText, Input, LogOf}
+use Rattle.due.specs.Inputs.{Certificate, CertificateAt, Configuration, Contents, FramesText, Input, LogOf, QueriesText}
 use Rattle.due.specs.LogFiles.{AreGood, IsBad, IsFirstBad, IsGood, IsLogRead, LogFile}
 use Rattle.due.proofs.LogFileLaws.{good_not_bad}
 use Rattle.bank.specs.Ending.{MayHold}
@@ -17,7 +17,9 @@ use Rattle.bank.specs.Loading.{AreRead, FailsAmong, IsRefusedAmong, log_file}
 abbrev pub with_bytes : Contents → ℕ → List ℕ → Contents
 with_bytes base n bytes Configuration = base Configuration
 with_bytes base n bytes Certificate = base Certificate
+with_bytes base n bytes (CertificateAt i) = base (CertificateAt i)
 with_bytes base n bytes FramesText = base FramesText
+with_bytes base n bytes QueriesText = base QueriesText
 with_bytes base n bytes (LogOf k) = if nat_eq k n then bytes else base (LogOf k)
 
 -- the configuration, and the logs of the receivers before n, are the same

@@ -1,6 +1,5 @@
 -- What the search of a window is handed, and what it finds.
 use Rattle.std.proofs.Common.{◌≡◌, ℕ, List, Option, IsPermutation, sym, subst}
-use Rattle.std.proofs.lemmas.List.Sorted.{IsPermutation-trans}
 use Rattle.signal_base.specs.declared.window.Window.{Window}
 use Rattle.definitions.specs.declared.block.Block.{Block}
 use Rattle.definitions.specs.answers.Blocks.{items}
@@ -14,12 +13,12 @@ use Rattle.workers.specs.Searches.{AreItemsOf}
 use Rattle.workers.specs.Steps.{Step}
 
 -- a list that is in another order than the items is one of them still
-pub still_items : (window : Window) (tables : Scored) (ws xs ys zs : List Block) → tables.window ≡ window → ws ≡ items window → xs ≡ ws → IsPermutation xs ys → IsPermutation ys zs
+pub still_items : (window : Window) (tables : Scored) (ws xs zs : List Block) → tables.window ≡ window → ws ≡ items window → xs ≡ ws → IsPermutation xs zs
     → AreItemsOf tables.window zs
-still_items window tables ws xs ys zs same are copied first second =
+still_items window tables ws xs zs same are copied moved =
     subst (λ (w : Window). AreItemsOf w zs) (sym same)
     (subst (λ (list : List Block). IsPermutation list zs) are
-    (subst (λ (list : List Block). IsPermutation list zs) copied (IsPermutation-trans xs ys zs first second)))
+    (subst (λ (list : List Block). IsPermutation list zs) copied moved))
 
 -- what is found by tables is found by their window and grids
 pub found_by : (window : Window) (grids : List Grid) (tables : Scored) (ceiling : ℕ) (first second : Option ℕ) → tables.window ≡ window → tables.grids ≡ grids

@@ -14,6 +14,7 @@ ghost use Rattle.bank.specs.Finding.{CanBeWritten};
 ghost use Rattle.bank.specs.Hearing.{IsBank, bank_seen};
 ghost use Rattle.bank.specs.Tasks.{IsCertifyInRange};
 
+use crate::certificate_gate::CertificateGate;
 use crate::decoding::decoded_by;
 use crate::deliver::print;
 use crate::find::reported;
@@ -28,7 +29,7 @@ use certificate_walks::write_certificate;
 use certificates::{Head, tight_walks_are_one};
 use civil::Civil;
 use due::{Due, Status};
-use field_tables::{Tables, agreeing_costs_cost_alike, grids_agree_with_their_costs};
+use field_tables::{Tables, agreeing_costs_cost_alike, grids_agree_with_their_costs, parts_of};
 use signal_base::Window;
 use std::alloc::Global;
 use std::thread::Threads;
@@ -37,7 +38,7 @@ use workers::Gate;
 
 /// Decodes what a bank heard in the window that is asked about, writes the certificate anew to its file, and then the report to
 /// standard output. All memory is taken before the file is made.
-pub fn decode_certified<R: Threads + Sync, F: Files, G: Gate + Sync>(
+pub fn decode_certified<R: Threads + Sync, F: Files, G: Gate + CertificateGate + Sync>(
     rt: &R,
     alloc: Global,
     civil: &Civil,
@@ -68,7 +69,7 @@ pub fn decode_certified<R: Threads + Sync, F: Files, G: Gate + Sync>(
 }
 
 // The same of what the grids of a window's stations say.
-fn certify_window<R: Threads + Sync, F: Files, G: Gate + Sync>(
+fn certify_window<R: Threads + Sync, F: Files, G: Gate + CertificateGate + Sync>(
     rt: &R,
     alloc: Global,
     civil: &Civil,
@@ -90,7 +91,8 @@ fn certify_window<R: Threads + Sync, F: Files, G: Gate + Sync>(
     agreeing_costs_cost_alike();
     grids_agree_with_their_costs();
     let list = items(alloc, civil, window)?;
-    let tables = Tables::make_with_days(alloc, grids, civil, window)?;
+    let parts = parts_of(alloc, civil, window)?;
+    let tables = Tables::make_with_days(alloc, &parts, grids, civil, window)?;
     let found = decide_tables(
         rt,
         alloc,
@@ -109,12 +111,21 @@ fn certify_window<R: Threads + Sync, F: Files, G: Gate + Sync>(
     };
     let decoded = decoded_by(civil, grids, *window, ceiling, found);
     let due = reported(Wanted::Report, decoded);
-    deliver_certified(files, civil, certify, &tables, list.as_slice(), &head, &due)?;
+    deliver_certified(
+        files,
+        civil,
+        certify,
+        &tables,
+        list.as_slice(),
+        &head,
+        &due,
+        gate,
+    )?;
     Ok(due.status())
 }
 
 // Writes the certificate anew to its file, and then what is told to standard output. No memory is taken.
-fn deliver_certified<F: Files>(
+fn deliver_certified<F: Files, G: CertificateGate>(
     files: &mut F,
     civil: &Civil,
     certify: &Certify,
@@ -122,6 +133,7 @@ fn deliver_certified<F: Files>(
     list: &[Block],
     head: &Head,
     due: &Due,
+    gate: &G,
 ) -> Result<(), Failed>
     requires certify { IsCertifyInRange certify.now }
     requires window { head.now.window ≡ tables.now.window }
@@ -132,6 +144,7 @@ fn deliver_certified<F: Files>(
     ensures only { OnlyWritesAmong (files_of (Some certify.now.name.now)) (F.view files.old) (F.view files.new) }
 {
     tight_walks_are_one();
-    write_certificate(files, certify.name, tables, list, head, certify.workers)?;
+    let steps = write_certificate(files, certify.name, tables, list, head, certify.workers)?;
+    gate.wrote(steps);
     print(files, civil, due)
 }

@@ -8,6 +8,7 @@ ghost use Rattle.definitions.specs.answers.FirstTwo.{AreLeastTwo, IsWindowKey};
 ghost use Rattle.definitions.specs.sequences.Windows.{IsWindow};
 ghost use Rattle.formats.specs.OrderRanges.{IsAsked};
 ghost use Rattle.field_tables.specs.Grids.{AreGrids, HaveCosts, grid_costs};
+ghost use Rattle.field_tables.specs.Scopes.{scopes_of};
 ghost use Rattle.texts.specs.Reportable.{IsReportable};
 ghost use Rattle.due.specs.Banks.{Bank as PlainBank, costs_in, duts_of};
 ghost use Rattle.bank.specs.declared.stop.Stop.TheVariants.{NoMemory};
@@ -15,14 +16,16 @@ ghost use Rattle.bank.specs.Finding.{IsDecoded};
 ghost use Rattle.bank.specs.Hearing.{IsBank, bank_seen};
 ghost use Rattle.bank.specs.Tasks.{AreWorkers};
 
-use crate::first_two::decide;
+use crate::first_two::decide_by;
 use crate::grids::grids_of;
 use crate::hearing::{Bank, window_of};
 use crate::stop::Stop;
 use civil::Civil;
 use definitions::the_least_two_are_the_answer;
 use due::Duts;
-use field_tables::{agreeing_costs_cost_alike, dut1, grids_agree_with_their_costs};
+use field_tables::{
+    StationParts, agreeing_costs_cost_alike, dut1, grids_agree_with_their_costs, parts_of,
+};
 use formats::Asked;
 use sequence::{Answer, answer_of};
 use signal_base::{StationDut, Window};
@@ -95,7 +98,39 @@ pub fn decode_window<R: Threads + Sync, G: Gate + Sync>(
     ensures reportable { IfOk result (λ decoded. IsReportable decoded.window decoded.answer) }
     ensures memory { IfErr result (λ stop. stop ≡ NoMemory) }
 {
-    let found = decide(rt, alloc, civil, grids, &window, ceiling, workers, gate)?;
+    let parts = parts_of(alloc, civil, &window)?;
+    decode_window_by(
+        rt, alloc, civil, &parts, grids, window, ceiling, workers, gate,
+    )
+}
+
+/// Decodes as `decode_window` does, by parts that were made of the window's stations (`field_tables::parts_of`), perhaps for
+/// other windows of the same stations and length.
+pub fn decode_window_by<R: Threads + Sync, G: Gate + Sync>(
+    rt: &R,
+    alloc: Global,
+    civil: &Civil,
+    parts: &[StationParts],
+    grids: &[CostGrid],
+    window: Window,
+    ceiling: u32,
+    workers: u8,
+    gate: &G,
+) -> Result<Decoded, Stop>
+    requires window { IsWindow window }
+    requires parts { parts.now ≡ scopes_of window.stations window.seconds }
+    requires grids { AreGrids window grids.now }
+    requires ceiling { ceiling ≤ GREATEST_COST }
+    requires workers { AreWorkers workers }
+    ensures window { IfOk result (λ decoded. decoded.window ≡ window) }
+    ensures answer { IfOk result (λ decoded. (costs : Costs) → HaveCosts window grids.now costs → IsWindowAnswer window costs ceiling decoded.answer) }
+    ensures duts { IfOk result (λ decoded. (bank : PlainBank) → HaveCosts window grids.now (costs_in window bank) → decoded.duts ≡ duts_of window bank decoded.answer) }
+    ensures reportable { IfOk result (λ decoded. IsReportable decoded.window decoded.answer) }
+    ensures memory { IfErr result (λ stop. stop ≡ NoMemory) }
+{
+    let found = decide_by(
+        rt, alloc, civil, parts, grids, &window, ceiling, workers, gate,
+    )?;
     Ok(decoded_by(civil, grids, window, ceiling, found))
 }
 

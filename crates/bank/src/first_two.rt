@@ -8,12 +8,13 @@ ghost use Rattle.signal_base.specs.declared.limits.TheConstants.{GREATEST_COST};
 ghost use Rattle.definitions.specs.sequences.Windows.{IsWindow};
 ghost use Rattle.definitions.specs.answers.FirstTwo.{AreLeastTwo, IsWindowKey};
 ghost use Rattle.field_tables.specs.Grids.{AreGrids, grid_costs};
+ghost use Rattle.field_tables.specs.Scopes.{scopes_of};
 ghost use Rattle.field_tables.specs.Scored.{costs_of};
 ghost use Rattle.workers.specs.Searches.{AreItemsOf};
 
-use bounds::{Block, ItemsFault, announced_last, items, ranked};
+use bounds::{Block, ItemsFault, announced_last, items};
 use civil::Civil;
-use field_tables::{Tables, TablesFault};
+use field_tables::{StationParts, Tables, TablesFault, parts_of};
 use race_words::{Race, RaceFault};
 use signal_base::Window;
 use std::alloc::Global;
@@ -67,11 +68,38 @@ pub fn decide<R: Threads + Sync, G: Gate + Sync>(
     requires workers { (1 ≤ workers) × (workers ≤ 8) }
     ensures { IfOk result (λ found. AreLeastTwo (IsWindowKey window.now (grid_costs grids.now) ceiling) found.first found.second) }
 {
+    let parts = parts_of(alloc, civil, window)?;
+    decide_by(
+        rt, alloc, civil, &parts, grids, window, ceiling, workers, gate,
+    )
+}
+
+/// Decides as `decide` does, by parts that were made of the window's stations (`field_tables::parts_of`), perhaps for other windows
+/// of the same stations and length.
+pub fn decide_by<R: Threads + Sync, G: Gate + Sync>(
+    rt: &R,
+    alloc: Global,
+    civil: &Civil,
+    parts: &[StationParts],
+    grids: &[CostGrid],
+    window: &Window,
+    ceiling: u32,
+    workers: u8,
+    gate: &G,
+) -> Result<Found, DecideFault>
+    requires window { IsWindow window.now }
+    requires parts { parts.now ≡ scopes_of window.now.stations window.now.seconds }
+    requires grids { AreGrids window.now grids.now }
+    requires ceiling { ceiling ≤ GREATEST_COST }
+    requires workers { (1 ≤ workers) × (workers ≤ 8) }
+    ensures { IfOk result (λ found. AreLeastTwo (IsWindowKey window.now (grid_costs grids.now) ceiling) found.first found.second) }
+{
     let mut recorder = NoRecord;
-    let kept = decide_with(
+    let kept = recorded_by(
         rt,
         alloc,
         civil,
+        parts,
         grids,
         window,
         ceiling,
@@ -97,6 +125,8 @@ pub fn decide_with<R: Threads + Sync, G: Gate + Sync, K: Recorder + Send + Drop>
     gate: &G,
     recorder: &mut K,
 ) -> Result<Result<Found, K::Fault>, DecideFault>
+where
+    K::Fault: Send,
     requires window { IsWindow window.now }
     requires grids { AreGrids window.now grids.now }
     requires ceiling { ceiling ≤ GREATEST_COST }
@@ -105,7 +135,37 @@ pub fn decide_with<R: Threads + Sync, G: Gate + Sync, K: Recorder + Send + Drop>
     ensures recorded { IfOk result (λ kept. OnOk kept ((items : List Block) × (v : View) × AreItemsOf window.now items
         × HaveRecorded K.told K.parts K.joins (grid_costs grids.now) window.now ceiling items workers v recorder.old recorder.new)) }
 {
-    let tables = Tables::make(alloc, grids, civil, window)?;
+    let parts = parts_of(alloc, civil, window)?;
+    recorded_by(
+        rt, alloc, civil, &parts, grids, window, ceiling, workers, gate, recorder,
+    )
+}
+
+// The same by parts that were made.
+fn recorded_by<R: Threads + Sync, G: Gate + Sync, K: Recorder + Send + Drop>(
+    rt: &R,
+    alloc: Global,
+    civil: &Civil,
+    parts: &[StationParts],
+    grids: &[CostGrid],
+    window: &Window,
+    ceiling: u32,
+    workers: u8,
+    gate: &G,
+    recorder: &mut K,
+) -> Result<Result<Found, K::Fault>, DecideFault>
+where
+    K::Fault: Send,
+    requires window { IsWindow window.now }
+    requires parts { parts.now ≡ scopes_of window.now.stations window.now.seconds }
+    requires grids { AreGrids window.now grids.now }
+    requires ceiling { ceiling ≤ GREATEST_COST }
+    requires workers { (1 ≤ workers) × (workers ≤ 8) }
+    ensures found { IfOk result (λ kept. IfOk kept (λ found. AreLeastTwo (IsWindowKey window.now (grid_costs grids.now) ceiling) found.first found.second)) }
+    ensures recorded { IfOk result (λ kept. OnOk kept ((items : List Block) × (v : View) × AreItemsOf window.now items
+        × HaveRecorded K.told K.parts K.joins (grid_costs grids.now) window.now ceiling items workers v recorder.old recorder.new)) }
+{
+    let tables = Tables::make(alloc, parts, grids, civil, window)?;
     decide_over(
         rt, alloc, civil, &tables, window, ceiling, workers, gate, recorder,
     )
@@ -157,6 +217,8 @@ fn decide_over<R: Threads + Sync, G: Gate + Sync, K: Recorder + Send + Drop>(
     gate: &G,
     recorder: &mut K,
 ) -> Result<Result<Found, K::Fault>, DecideFault>
+where
+    K::Fault: Send,
     requires window { IsWindow window.now }
     requires same { tables.now.window ≡ window.now }
     requires ceiling { ceiling ≤ GREATEST_COST }
@@ -189,6 +251,5 @@ fn search_order(
     ensures { IfOk result (λ list. AreItemsOf tables.now.window list.items) }
 {
     let items = items(alloc, civil, window)?;
-    let ranked = ranked(alloc, tables, &items)?;
-    announced_last(alloc, &ranked)
+    announced_last(alloc, tables, &items)
 }

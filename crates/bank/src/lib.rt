@@ -3,6 +3,7 @@
 
 #[cfg(test)]
 mod bank_tests;
+mod certificate_gate;
 #[cfg(test)]
 mod certificate_tests;
 mod certify;
@@ -25,9 +26,10 @@ mod tests;
 mod trial;
 mod words;
 
-pub use decoding::{Decoded, decode, decode_window, duts_of};
+pub use certificate_gate::CertificateGate;
+pub use decoding::{Decoded, decode, decode_window, decode_window_by, duts_of};
 pub use deliver::{deliver_due, print};
-pub use first_two::{DecideFault, decide, decide_with};
+pub use first_two::{DecideFault, decide, decide_by, decide_tables, decide_with};
 pub use grids::{advance_grids, grids_of, places_of};
 pub use hearing::{Bank, bank_of, window_of};
 pub use job::{Job, perform, status_after};

@@ -9,6 +9,7 @@ ghost use Rattle.bank.specs.Ending.{Ends, HasRun, OnlyWritesAmong};
 ghost use Rattle.bank.specs.Finding.{CanBeWritten, IsToldUnloaded};
 ghost use Rattle.bank.specs.Tasks.{Asks, IsCertifyInRange, IsInRange, certificate_order};
 
+use crate::certificate_gate::CertificateGate;
 use crate::certify::decode_certified;
 use crate::command::Command;
 use crate::find::find_due;
@@ -34,14 +35,14 @@ use workers::Gate;
 /// | 0 | where one sequence costs less than every other, or a minute is listed | the report, the sentences, the summary or the listing |
 /// | 1 | where the two cheapest sequences cost the same | the report or the summary |
 /// | 2 | where no sequence is admitted | the report or the summary |
-/// | 3 | where the words aren't of the grammar, or ask for the check of a certificate | the refusal |
+/// | 3 | where the words aren't of the grammar, or of another command | the refusal |
 /// | 4 | where the configuration is refused | the refusal |
 /// | 5 | where a log is refused | the refusal of the first |
 /// | 6 | only where reading a file, or writing a certificate or standard output has failed | nothing, or a front of the text due |
 /// | 7 | where memory wasn't found | nothing |
 ///
-/// A certificate that is asked for is written anew to its file, before standard output is.
-pub fn run<R: Threads + Sync, F: Files, G: Gate + Sync>(
+/// A certificate that is asked for is written anew to its file, before standard output is, and the gate is told how many steps it has.
+pub fn run<R: Threads + Sync, F: Files, G: Gate + CertificateGate + Sync>(
     rt: &R,
     alloc: Global,
     words: &[String],
@@ -55,7 +56,7 @@ pub fn run<R: Threads + Sync, F: Files, G: Gate + Sync>(
 }
 
 // Judges the words, and does what they ask for.
-fn carry_out<R: Threads + Sync, F: Files, G: Gate + Sync>(
+fn carry_out<R: Threads + Sync, F: Files, G: Gate + CertificateGate + Sync>(
     rt: &R,
     alloc: Global,
     words: &[String],
@@ -108,7 +109,7 @@ fn carry_out_task<R: Threads + Sync, F: Files, G: Gate + Sync>(
 }
 
 // Loads what is asked about, and decodes it with a certificate; or tells what is refused of it.
-fn certify_bank<R: Threads + Sync, F: Files, G: Gate + Sync>(
+fn certify_bank<R: Threads + Sync, F: Files, G: Gate + CertificateGate + Sync>(
     rt: &R,
     alloc: Global,
     words: &[String],

@@ -61,6 +61,14 @@ impl From<GridFault> for Stop {
     }
 }
 
+impl From<TablesFault> for Stop {
+    ghost from_gives = { λ _ stop. stop ≡ stops.NoMemory };
+
+    fn from(_fault: TablesFault) -> Stop {
+        Stop::NoMemory
+    }
+}
+
 impl From<DecideFault> for Stop {
     ghost from_gives = { λ _ stop. stop ≡ stops.NoMemory };
 
@@ -81,14 +89,6 @@ impl From<ItemsFault> for Stop {
     ghost from_gives = { λ _ stop. stop ≡ stops.NoMemory };
 
     fn from(_fault: ItemsFault) -> Stop {
-        Stop::NoMemory
-    }
-}
-
-impl From<TablesFault> for Stop {
-    ghost from_gives = { λ _ stop. stop ≡ stops.NoMemory };
-
-    fn from(_fault: TablesFault) -> Stop {
         Stop::NoMemory
     }
 }

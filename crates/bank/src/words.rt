@@ -78,7 +78,7 @@ pub enum Task<'a> {
     },
 }
 
-/// What the words ask for. The check of a certificate isn't built yet, so that words that ask for one are refused as usage.
+/// What the words ask for. The check of a certificate is a command of its own, so that words that ask for one are refused as usage.
 pub fn work_of(words: &[String]) -> Result<Work<'_>, WordFault>
     ensures work { MatchResult result (AsksWork (texts_of words.now)) (λ fault. order_in (texts_of words.now) ≡ Err fault) }
     ensures in_range { IfOk result IsWorkInRange }

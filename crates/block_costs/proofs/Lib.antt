@@ -3,4 +3,3 @@ pub mod SumLaws
 pub mod TotalLaws
 pub mod UnionLaws
 pub mod HourLaws
-mod CrossLaws

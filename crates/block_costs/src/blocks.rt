@@ -18,14 +18,14 @@ use walk_costs::StationWalks;
 /// What the blocks of a search cost one station. Contracts see the parts of its telegrams and the grid of costs, as with
 /// the walks.
 #[derive(Drop)]
-pub struct StationBlocks {
-    walks: StationWalks,
+pub struct StationBlocks<'a> {
+    walks: StationWalks<'a>,
     days: Kept,
     years: Kept,
     hours: Hours,
 }
 
-impl Model for StationBlocks {
+impl<'a> Model for StationBlocks<'a> {
     ghost use Rattle.walk_costs.specs.Walks.{PricedParts};
 
     ghost Value = { PricedParts };
@@ -39,15 +39,15 @@ impl Model for StationBlocks {
         × AreHours b.walks b.hours.begin b.hours.call b.hours.firsts.items b.hours.rests.items b.hours.costs.items };
 }
 
-impl StationBlocks {
+impl<'a> StationBlocks<'a> {
     /// Makes ready for the blocks of walks that cost this. What whole days cost is kept where that is asked: it takes longer than
     /// all else here, and a search that passes days over by their floors asks for few of them.
     pub fn make(
         alloc: Global,
-        walks: StationWalks,
+        walks: StationWalks<'a>,
         keep_days: bool,
-    ) -> Result<StationBlocks, AllocError>
-        ensures { IfOk result (λ blocks. blocks ≡ walks) }
+    ) -> Result<StationBlocks<'a>, AllocError>
+        ensures { IfOk result (λ blocks. blocks ≡ walks.entry) }
     {
         let days = if keep_days { CENTURY_DAYS } else { 0 };
         let days = kept_days(alloc, &walks, days)?;
@@ -62,7 +62,7 @@ impl StationBlocks {
     }
 
     /// What the station's sequences cost one by one.
-    pub fn walks(&self) -> &StationWalks
+    pub fn walks(&self) -> &StationWalks<'a>
         ensures { result.now ≡ self.now }
     {
         &self.walks
@@ -126,9 +126,6 @@ impl StationBlocks {
         ensures { IsHourCost self.now walks.now.announced walks.now.second walks.now.lo result }
     {
         if let Some(cost) = self.hours.in_run(walks) {
-            return cost;
-        }
-        if let Some(cost) = self.hours.across(walks) {
             return cost;
         }
         walks.cost_as_asked()

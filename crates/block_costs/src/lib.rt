@@ -2,7 +2,6 @@
 //! what their sequences may carry, all of them together.
 #![tactic(auto)]
 
-mod across;
 mod blocks;
 mod kept;
 mod local_hours;

@@ -165,8 +165,8 @@ impl Hours {
     }
 }
 
-/// A part has a byte for each second: this says so, and does nothing.
-pub fn bytes_of(part: &Part)
+// A part has a byte for each second: this says so, and does nothing.
+fn bytes_of(part: &Part)
     ensures { (s : ℕ) → s < SECONDS_PER_MINUTE → slice_index part.now s < 2 ^ 8 }
 {
     for s in 0..SECONDS_PER_MINUTE {

@@ -53,11 +53,18 @@ fn grid(alloc: Global, seconds: u16) -> Result<CostGrid, Fail>
     Ok(grid)
 }
 
-fn walks(alloc: Global, seconds: u16) -> Result<StationWalks, Fail>
-    requires { seconds ≤ 1200 }
+fn unions(alloc: Global) -> Result<Unions, Fail>
+    ensures { IfOk result (λ unions. unions.station ≡ Station.Jjy) }
 {
     let civil = Civil::make(alloc)?;
     let unions = Unions::make(alloc, Parts::make(alloc, &civil, Station::Jjy)?)?;
+    Ok(unions)
+}
+
+fn walks<'a>(alloc: Global, unions: &'a Unions, seconds: u16) -> Result<StationWalks<'a>, Fail>
+    requires few { seconds ≤ 1200 }
+    requires station { unions.now.station ≡ Station.Jjy }
+{
     let walks = StationWalks::make(alloc, unions, &grid(alloc, seconds)?)?;
     Ok(walks)
 }
@@ -112,7 +119,8 @@ const YEAR: u32 = 12_623_040;
 // nothing in the minutes of the call sign.
 #[test]
 fn unions_of_known_seconds(rt: HostRuntime) -> Result<(), Fail> {
-    let blocks = StationBlocks::make(rt.alloc(), walks(rt.alloc(), 62)?, true)?;
+    let unions = unions(rt.alloc())?;
+    let blocks = StationBlocks::make(rt.alloc(), walks(rt.alloc(), &unions, 62)?, true)?;
     for (second, lo, hi, expected) in [
         (0, MINUTE, MINUTE + 10, 180 + 120 + 180 + 150),
         (1, MINUTE, MINUTE + 10, 150 + 120 + 150 + 120),
@@ -137,7 +145,8 @@ fn unions_of_known_seconds(rt: HostRuntime) -> Result<(), Fail> {
 // the local day's number does, of which the last bit changes at 15:00Z.
 #[test]
 fn minutes_one_by_one(rt: HostRuntime) -> Result<(), Fail> {
-    let blocks = StationBlocks::make(rt.alloc(), walks(rt.alloc(), 62)?, true)?;
+    let unions = unions(rt.alloc())?;
+    let blocks = StationBlocks::make(rt.alloc(), walks(rt.alloc(), &unions, 62)?, true)?;
     for (second, minute, expected) in [
         (1, MINUTE + 3, 150 + 120 + 150 + 120),
         (1, MINUTE + 4, 150 + 150 + 150 + 120),
@@ -213,10 +222,15 @@ fn times_of(rt: &HostRuntime, blocks: &StationBlocks) -> Result<u32, Fail> {
     Ok(sum)
 }
 
-fn made_in_time(rt: &HostRuntime, seconds: u16) -> Result<StationBlocks, Fail>
-    requires { seconds ≤ 1200 }
+fn made_in_time<'a>(
+    rt: &HostRuntime,
+    unions: &'a Unions,
+    seconds: u16,
+) -> Result<StationBlocks<'a>, Fail>
+    requires few { seconds ≤ 1200 }
+    requires station { unions.now.station ≡ Station.Jjy }
 {
-    let walks = walks(rt.alloc(), seconds)?;
+    let walks = walks(rt.alloc(), unions, seconds)?;
     let begin = Instant::now(rt)?;
     let blocks = StationBlocks::make(rt.alloc(), walks, true)?;
     tell(rt, "all that is kept", begin, 1)?;
@@ -226,8 +240,9 @@ fn made_in_time(rt: &HostRuntime, seconds: u16) -> Result<StationBlocks, Fail>
 // Tells the times of three minutes and of twenty.
 #[test]
 fn times_of_unions(rt: HostRuntime) -> Result<(), Fail> {
+    let unions = unions(rt.alloc())?;
     for seconds in [180, 1200] {
-        let blocks = made_in_time(&rt, seconds)?;
+        let blocks = made_in_time(&rt, &unions, seconds)?;
         let sum = times_of(&rt, &blocks)?;
         println!(&rt; "{seconds} seconds, {sum}")?;
     }

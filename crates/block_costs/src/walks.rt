@@ -12,7 +12,7 @@ use walk_costs::StationWalks;
 #[derive(Clone, Copy)]
 pub struct Walks<'a> {
     /// What the station's walks cost.
-    pub station: &'a StationWalks,
+    pub station: &'a StationWalks<'a>,
     /// Whether a leap second is announced.
     pub announced: bool,
     /// The second in which they begin.

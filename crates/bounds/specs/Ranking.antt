@@ -1,6 +1,7 @@
 -- The order of blocks by their bounds.
-use Rattle.std.specs.Prelude.{ℕ, ◌≡◌, ◌≢◌, ◌+◌, ◌<◌, ◌≤◌, ◌^◌, List, [], ◌∷◌, map, Option, Some, None, IfSome}
+use Rattle.std.specs.Prelude.{ℕ, ◌≡◌, ◌≢◌, ◌+◌, ◌<◌, ◌≤◌, ◌^◌, List, [], ◌∷◌, ◌++◌, filter, map, not, Option, Some, None, IfSome}
 use Rattle.std.specs.List.{All, AllByRecursion}
+use Rattle.std.specs.List.Sorted.{IsPermutation}
 use Rattle.signal_base.specs.declared.limits.TheConstants.{GREATEST_COST}
 use Rattle.signal_base.specs.declared.window.Window.{Window}
 use Rattle.definitions.specs.declared.block.Block.{Block}
@@ -29,6 +30,13 @@ pub record IsBefore (costs : Costs) (window : Window) (b c : Block) : Type 0 whe
 abbrev pub IsRanked : Costs → Window → List Block → Type 0
 IsRanked costs window [] = Unit {0}
 IsRanked costs window (b ∷ bs) = AllByRecursion (IsBefore costs window b) bs × IsRanked costs window bs
+
+-- those that aren't announced are ranked, and behind them stand those that are, as they stood
+pub record IsParted (costs : Costs) (window : Window) (blocks list : List Block) : Type 0 where
+  pub front : List Block
+  pub same : IsPermutation (filter (λ b. not b.announced) blocks) front
+  pub ranked : IsRanked costs window front
+  pub parted : list ≡ front ++ filter (λ b. b.announced) blocks
 
 -- the order as one number: the key, and above all keys where there is no bound
 abbrev pub rank_of : Option ℕ → Block → ℕ

@@ -7,7 +7,7 @@ ghost use Rattle.definitions.specs.answers.Blocks.{IsBlock, first_of};
 ghost use Rattle.definitions.specs.sequences.Walks.{IsSequence};
 ghost use Rattle.field_tables.specs.Scored.{costs_of};
 ghost use Rattle.signal_base.specs.declared.limits.TheConstants.{GREATEST_COST};
-ghost use Rattle.bounds.specs.Ranking.{AreEntries, IsEntry, IsRanked, rank_of};
+ghost use Rattle.bounds.specs.Ranking.{AreEntries, IsEntry, IsParted, IsRanked, rank_of};
 
 use crate::keyed::first_of;
 use crate::least::know_the_window;
@@ -81,22 +81,37 @@ fn rank(bound: Option<u32>, block: &Block) -> u64
     }
 }
 
-/// The same blocks, those that aren't announced before those that are, and else in their order. Announced years have the
-/// least bounds, as near a leap second their unions are wide, and yet hardly a legal sequence: a search that begins with
-/// them goes through all their minutes before it finds a key to prune by.
-pub fn announced_last(alloc: Global, blocks: &[Block]) -> Result<Vec<Block>, ItemsFault>
+/// The same blocks: those that aren't announced in the order of their keys, and behind them those that are, as they stand.
+/// Announced years have the least bounds, as near a leap second their unions are wide, and yet hardly a legal sequence: a search
+/// that begins with them goes through all their minutes before it finds a key to prune by. Their bounds take most of the time
+/// that those of all years take, and a search asks for them as it comes to them, so none is asked for here.
+pub fn announced_last(
+    alloc: Global,
+    tables: &Tables,
+    blocks: &[Block],
+) -> Result<Vec<Block>, ItemsFault>
+    requires { AllByRecursion (IsBlock tables.now.window) blocks.now }
     ensures same { IfOk result (λ list. IsPermutation blocks.now list.items) }
-    ensures parted { IfOk result (λ list. list.items ≡ filter (λ b. not b.announced) blocks.now ++ filter (λ b. b.announced) blocks.now) }
+    ensures parted { IfOk result (λ list. IsParted (costs_of tables.now) tables.now.window blocks.now list.items) }
 {
-    let list = parted(alloc, blocks)?;
+    let others = unannounced(alloc, blocks)?;
+    let front = ranked(alloc, tables, &others)?;
+    let list = followed(alloc, &front, blocks)?;
     Ok(list)
 }
 
-// The same list.
-fn parted(alloc: Global, blocks: &[Block]) -> Result<Vec<Block>, AllocError>
-    ensures { IfOk result (λ list. list.items ≡ filter (λ b. not b.announced) blocks.now ++ filter (λ b. b.announced) blocks.now) }
+// Those that aren't announced.
+fn unannounced(alloc: Global, blocks: &[Block]) -> Result<Vec<Block>, AllocError>
+    ensures { IfOk result (λ list. list.items ≡ filter (λ b. not b.announced) blocks.now) }
 {
     let others = blocks.iter().filter(|block| !block.announced);
+    others.copied().collect(alloc)
+}
+
+// Some blocks, and behind them those of others that are announced.
+fn followed(alloc: Global, front: &[Block], blocks: &[Block]) -> Result<Vec<Block>, AllocError>
+    ensures { IfOk result (λ list. list.items ≡ front.now ++ filter (λ b. b.announced) blocks.now) }
+{
     let announced = blocks.iter().filter(|block| block.announced);
-    others.chain(announced).copied().collect(alloc)
+    front.iter().chain(announced).copied().collect(alloc)
 }

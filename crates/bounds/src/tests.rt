@@ -1,16 +1,15 @@
-//! The years of the century, and of its last minutes: their order, and the bounds of their parts.
+//! The years of the century, and of its last minutes, and their order.
 
 ghost use Rattle.std.specs.Prelude.{◌≡◌, IfOk, length};
 ghost use Rattle.signal_base.specs.Limits.{IsPriced};
 ghost use Rattle.signal_base.specs.declared.station.Station.TheVariants.{Dcf77};
 
-use crate::{Block, BoundedChildren, Span, announced_last, bounded_children, items, ranked};
+use crate::{Block, Span, announced_last, items, ranked};
 use civil::Civil;
-use field_tables::Tables;
+use field_tables::{Tables, parts_of};
 use pulse_log::read_log;
 use signal_base::{CostTable, Station, Stations, Tuning, Window};
 use std::alloc::Global;
-use std::process::Abort;
 use std::test::Fail;
 use symbol_cost::CostGrid;
 
@@ -91,7 +90,8 @@ fn ranks_the_years_of_the_last_minutes(rt: HostRuntime) -> Result<(), Fail> {
     let civil = Civil::make(rt.alloc())?;
     let window = window_from(FROM);
     let grids = [silent_grid(rt.alloc())?];
-    let tables = Tables::make(rt.alloc(), &grids, &civil, &window)?;
+    let parts = parts_of(rt.alloc(), &civil, &window)?;
+    let tables = Tables::make(rt.alloc(), &parts, &grids, &civil, &window)?;
     let list = items(rt.alloc(), &civil, &window)?;
     let order = ranked(rt.alloc(), &tables, &list)?;
     assert_eq!(rt; order.len(), 121);
@@ -109,61 +109,11 @@ fn ranks_the_years_of_the_last_minutes(rt: HostRuntime) -> Result<(), Fail> {
             (Span::Year, FROM, CENTURY)
         );
     }
-    let parted = announced_last(rt.alloc(), &order)?;
+    let parted = announced_last(rt.alloc(), &tables, &list)?;
     assert_eq!(rt; parted.len(), 121);
     for (i, block) in parted.iter().enumerate() {
         let place = if i < 60 { (false, i) } else { (true, i - 60) };
         assert_eq!(rt; (block.announced, block.second as usize), place, "at {i}");
     }
-    Ok(())
-}
-
-// The bounds of the children that are left, and where each child begins and ends.
-fn assert_children(
-    rt: &impl Abort,
-    mut row: BoundedChildren,
-    children: &[(u32, u32, Option<u32>)],
-) {
-    for (lo, hi, bound) in children {
-        let found = row
-            .next()
-            .map(|child| (child.block.lo, child.block.hi, child.bound));
-        assert_eq!(rt; found, Some((*lo, *hi, *bound)));
-    }
-    assert_eq!(rt; row.next(), None);
-}
-
-// The same of the minutes of an hour.
-#[test]
-fn bounds_the_parts_of_the_last_minutes(rt: HostRuntime) -> Result<(), Fail> {
-    let civil = Civil::make(rt.alloc())?;
-    let window = window_from(FROM);
-    let grids = [silent_grid(rt.alloc())?];
-    let tables = Tables::make(rt.alloc(), &grids, &civil, &window)?;
-    let list = items(rt.alloc(), &civil, &window)?;
-    let Some(year) = list.first() else {
-        panic!(rt; "no year");
-    };
-    let Some(day) = bounded_children(&tables, year).next() else {
-        panic!(rt; "no day");
-    };
-    let Some(hour) = bounded_children(&tables, &day.block).next() else {
-        panic!(rt; "no hour");
-    };
-    assert_children(
-        &rt,
-        bounded_children(&tables, year),
-        &[(FROM, CENTURY, Some(0))],
-    );
-    assert_children(
-        &rt,
-        bounded_children(&tables, &day.block),
-        &[(FROM, FROM + 2, Some(0)), (FROM + 2, CENTURY, None)],
-    );
-    assert_children(
-        &rt,
-        bounded_children(&tables, &hour.block),
-        &[(FROM, FROM + 1, Some(0)), (FROM + 1, FROM + 2, None)],
-    );
     Ok(())
 }

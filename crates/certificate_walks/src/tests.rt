@@ -9,7 +9,7 @@ use bank_files::{Failed, MemoryFiles, OneByte};
 use bounds::items;
 use certificates::Head;
 use civil::Civil;
-use field_tables::Tables;
+use field_tables::{Tables, parts_of};
 use pulse_log::read_log;
 use signal_base::{CostTable, Station, Stations, Tuning, Window};
 use std::alloc::{AllocError, Global};
@@ -111,8 +111,10 @@ fn text_of(alloc: Global, parts: u8) -> Result<String, AllocError> {
 fn writes_the_last_minutes(rt: HostRuntime) -> Result<(), Fail> {
     let civil = Civil::make(rt.alloc())?;
     let grids = [silent_grid(rt.alloc())?];
-    let tables = Tables::make(rt.alloc(), &grids, &civil, &window_from(FROM))?;
-    let list = items(rt.alloc(), &civil, &window_from(FROM))?;
+    let window = window_from(FROM);
+    let parts = parts_of(rt.alloc(), &civil, &window)?;
+    let tables = Tables::make(rt.alloc(), &parts, &grids, &civil, &window)?;
+    let list = items(rt.alloc(), &civil, &window)?;
     for parts in [1, 2, 8] {
         let mut files = MemoryFiles::make(rt.alloc());
         files.put("x.cert", b"what was there")?;
@@ -131,8 +133,10 @@ fn writes_the_last_minutes(rt: HostRuntime) -> Result<(), Fail> {
 fn writes_byte_by_byte(rt: HostRuntime) -> Result<(), Fail> {
     let civil = Civil::make(rt.alloc())?;
     let grids = [silent_grid(rt.alloc())?];
-    let tables = Tables::make(rt.alloc(), &grids, &civil, &window_from(FROM))?;
-    let list = items(rt.alloc(), &civil, &window_from(FROM))?;
+    let window = window_from(FROM);
+    let parts = parts_of(rt.alloc(), &civil, &window)?;
+    let tables = Tables::make(rt.alloc(), &parts, &grids, &civil, &window)?;
+    let list = items(rt.alloc(), &civil, &window)?;
     let text = text_of(rt.alloc(), 1)?;
     let mut files = OneByte {
         inner: MemoryFiles::make(rt.alloc()),
@@ -148,8 +152,10 @@ fn writes_byte_by_byte(rt: HostRuntime) -> Result<(), Fail> {
 fn ends_at_a_failing_write(rt: HostRuntime) -> Result<(), Fail> {
     let civil = Civil::make(rt.alloc())?;
     let grids = [silent_grid(rt.alloc())?];
-    let tables = Tables::make(rt.alloc(), &grids, &civil, &window_from(FROM))?;
-    let list = items(rt.alloc(), &civil, &window_from(FROM))?;
+    let window = window_from(FROM);
+    let parts = parts_of(rt.alloc(), &civil, &window)?;
+    let tables = Tables::make(rt.alloc(), &parts, &grids, &civil, &window)?;
+    let list = items(rt.alloc(), &civil, &window)?;
     let text = text_of(rt.alloc(), 1)?;
     for call in [1, 2, 3, 1_000, 3_914] {
         let mut inner = MemoryFiles::make(rt.alloc());
@@ -174,8 +180,10 @@ fn ends_at_a_failing_write(rt: HostRuntime) -> Result<(), Fail> {
 fn writes_in_pieces(rt: HostRuntime) -> Result<(), Fail> {
     let civil = Civil::make(rt.alloc())?;
     let grids = [silent_grid(rt.alloc())?];
-    let tables = Tables::make(rt.alloc(), &grids, &civil, &window_from(FROM - 58))?;
-    let list = items(rt.alloc(), &civil, &window_from(FROM - 58))?;
+    let window = window_from(FROM - 58);
+    let parts = parts_of(rt.alloc(), &civil, &window)?;
+    let tables = Tables::make(rt.alloc(), &parts, &grids, &civil, &window)?;
+    let list = items(rt.alloc(), &civil, &window)?;
     let head = Head {
         window: window_from(FROM - 58),
         ceiling: 0,

@@ -1,5 +1,5 @@
 -- A minute without a leap second stays in the century, so an entry of it may be made.
-use Rattle.std.proofs.Common.{◌≡◌, ℕ, ◌+◌, ◌/◌, ◌<◌, false, sym, refl, subst, arith}
+use Rattle.std.proofs.Common.{ℕ, ◌+◌, ◌/◌, ◌<◌, false, sym, refl, subst, arith}
 use Rattle.definitions.specs.declared.sequence.Sequence.{Sequence}
 use Rattle.definitions.specs.time.Calendar.{century_minutes}
 use Rattle.definitions.proofs.PlaceLaws.{place_at-plain}

@@ -3,3 +3,4 @@ pub mod Shown
 pub mod Views
 pub mod Rule
 pub mod Seats
+pub mod Telling

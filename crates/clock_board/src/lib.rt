@@ -23,5 +23,6 @@ pub use news::News;
 pub use reading::Reading;
 pub use rule::Published;
 pub use shelf::{MOST_ENTRIES, Shelf};
+pub use told::told_of;
 pub use tracker::Tracker;
 pub use view::View;

@@ -1,11 +1,12 @@
 //! What a shelf tells of a millisecond.
 
-ghost use Rattle.std.specs.Prelude.{◌≡◌, ◌%◌, true, List, [], map, None, Some, IfSome, slice_index_or};
+ghost use Rattle.std.specs.Prelude.{◌≡◌, ◌%◌, ◌<◌, true, List, [], length, map, None, Some, IfSome, slice_index_or};
 ghost use Rattle.board_entries.specs.declared.entry.Entry.{Entry};
 ghost use Rattle.board_entries.specs.Board.{has, last_entries, last_with, told_by};
 ghost use Rattle.board_entries.specs.Plain.{plain};
 ghost use Rattle.clock_board.specs.Shelves.{or_laid, plain_or_none, told};
 ghost use Rattle.clock_board.specs.Shown.{Shows};
+ghost use Rattle.clock_board.specs.Telling.{IsTold};
 
 use crate::Shelf;
 use board_entries::{Entry, LAST_ENTRIES, Told};
@@ -39,13 +40,45 @@ fn or_before(before: Option<Entry>, laid: Option<Entry>, ms: u64) -> Option<Entr
 // What the entry tells of a millisecond that it has.
 fn told_by(civil: &Civil, entry: &Entry, ms: u64) -> Told
     requires { has (plain entry.now) ms ≡ true }
-    ensures { result ≡ told_by (Some (plain entry.now)) ms }
+    ensures told { result ≡ told_by (Some (plain entry.now)) ms }
+    ensures century { IsTold result }
 {
     let slot = (ms - entry.start - entry.phase as u64) / 1000;
     match at(civil, &entry.sequence, slot as u16) {
         Some((minute, second)) => Told::At { minute, second },
         None => unreachable!(),
     }
+}
+
+/// What entries tell of a millisecond.
+pub fn told_of(civil: &Civil, entries: &[Entry], ms: u64) -> Told
+    ensures told { result ≡ told entries.now ms }
+    ensures century { IsTold result }
+{
+    match last_of(entries, ms) {
+        None => Told::Unknown,
+        Some(entry) => told_by(civil, &entry, ms),
+    }
+}
+
+// Of the last 64 of these entries, the last that has the millisecond.
+fn last_of(entries: &[Entry], ms: u64) -> Option<Entry>
+    ensures list { plain_or_none result ≡ last_with ms (last_entries (map plain entries.now)) }
+    ensures has { IfSome result (λ e. has (plain e) ms ≡ true) }
+{
+    let mut found = None;
+    for n in entries.len().saturating_sub(LAST_ENTRIES)..entries.len() {
+        found = or_before(found, Some(entry_at(entries, n)), ms);
+    }
+    found
+}
+
+// The entry of this number.
+fn entry_at(entries: &[Entry], n: usize) -> Entry
+    requires { n < length entries.now }
+    ensures { result ≡ slice_index_or entries.now n result }
+{
+    entries[n]
 }
 
 impl Shelf {

@@ -19,10 +19,10 @@ use Rattle.due.specs.Configurations.{IsConfiguration, logs_of}
 use Rattle.due.specs.Loads.{IsBankLoaded, IsBankRefused, Bad_configuration, Bad_log}
 use Rattle.due.specs.Inputs.{Configuration, Contents}
 use Rattle.due.specs.LogFiles.{AreGood, IsFirstBad}
-use Rattle.due.specs.Orders.{BankOrder, Report, Sentences, bank_order, built, order_in, word_refusal}
+use Rattle.due.specs.Orders.{BankOrder, Report, Sentences, bank_order, of_run, order_in, word_refusal}
 use Rattle.due.specs.Rules.{AsksBank, IsDue, Bad_words, Listed, Tried, Bad_bank, Answered, IsReported, reported}
 use Rattle.due.specs.Trials.{trial_asked, trial_bank}
-use Rattle.due.proofs.WordLaws.{asked_of_bank, is_built, is_run}
+use Rattle.due.proofs.WordLaws.{asked_of_bank, is_of_run, is_run}
 use Rattle.due.proofs.ConfigurationLaws as configurations
 use Rattle.due.proofs.LogFileLaws.{AreJudged, all_good_once, all_good_none_bad, all_judged, first_bad_once}
 
@@ -169,7 +169,7 @@ module _ (contents : Contents) where
           let found = bank_has_answer o.asked bank (asked_of_bank words o asks).century in
           (reported o.wanted (window_of o.asked bank.receivers) bank found.0, Answered o asks good.0 good.1 good.2 (found.0, found.1, refl))
 
-  order_owes : (words : List (List ℕ)) (order : Order) → order_in words ≡ Ok order → built order ≡ Ok order → is_run_order order ≡ true → (due : Due) × IsDue words contents due
+  order_owes : (words : List (List ℕ)) (order : Order) → order_in words ≡ Ok order → of_run order ≡ Ok order → is_run_order order ≡ true → (due : Due) × IsDue words contents due
   order_owes words (Decode config asked workers certificate) is made run =
       bank_owes words (record { config = config; asked = asked; wanted = Report certificate }) (Decode config asked workers certificate, is, refl)
   order_owes words (Feed config asked workers) is made run =
@@ -186,4 +186,4 @@ module _ (contents : Contents) where
     where
       by_order : (c : Checked Order) → order_in words ≡ c → (due : Due) × IsDue words contents due
       by_order (Err fault) is = (dues.Refused (word_refusal fault), Bad_words fault is refl)
-      by_order (Ok order) is = order_owes words order is (is_built words order is).1 (is_run words order is)
+      by_order (Ok order) is = order_owes words order is (is_of_run words order is).1 (is_run words order is)

@@ -15,7 +15,7 @@ use Rattle.formats.specs.Words.{Line, certificate_option, is_line, run_commands,
 use Rattle.due.specs.HeardRuns.{AsksHeard, decode_words, heard_order, is_left_out, names_left_out}
 use Rattle.due.specs.Orders.{BankOrder, Report, bank_order, order_in}
 use Rattle.due.specs.Rules.{AsksBank}
-use Rattle.due.proofs.WordLaws.{asked_of_bank, bank_order_is_one, is_built}
+use Rattle.due.proofs.WordLaws.{asked_of_bank, bank_order_is_one, is_of_run}
 
 -- accepted words name no option that is left out, and a decode of them gives the same order
 abbrev IsOfDecode : List (List ℕ) → Order → Type 0
@@ -76,7 +76,7 @@ decode_command (word ∷ words) = refl
 pub is_decode : (words : List (List ℕ)) (order : Order) → order_in (decode_words words) ≡ Ok order → IsDecode order
 is_decode words order e =
     let line = line_of_decode words in
-    by_line line (decode_command words) (is_line line) (subst (λ c. c ≡ Ok order) (of_words words) (is_built (decode_words words) order e).0)
+    by_line line (decode_command words) (is_line line) (subst (λ c. c ≡ Ok order) (of_words words) (is_of_run (decode_words words) order e).0)
   where
     by_line : (line : Line) → line.command ≡ command.Decode → (b : Bool) → (ok_or (if b then Some line else None) Usage >>= order_on) ≡ Ok order → IsDecode order
     by_line line is false f = absurd cc
@@ -148,7 +148,7 @@ pub no_certificate : (words : List (List ℕ)) (config : List ℕ) (asked : Aske
 no_certificate words config asked workers certificate none e =
     let line = line_of_decode words in
     by_line line (decode_command words) (is_line line)
-    (subst (λ c. c ≡ Ok (Decode config asked workers certificate)) (of_words words) (is_built (decode_words words) (Decode config asked workers certificate) e).0) ∙ no_name words none
+    (subst (λ c. c ≡ Ok (Decode config asked workers certificate)) (of_words words) (is_of_run (decode_words words) (Decode config asked workers certificate) e).0) ∙ no_name words none
   where
     by_line : (line : Line) → line.command ≡ command.Decode → (b : Bool) → (ok_or (if b then Some line else None) Usage >>= order_on) ≡ Ok (Decode config asked workers certificate)
         → certificate ≡ certificate_of line

@@ -17,7 +17,7 @@ use Rattle.due.specs.declared.frame_due.FrameDue.TheVariants as frame_dues
 use Rattle.due.specs.FrameDues.{frame_status}
 use Rattle.due.specs.Dues.{answer_status, refusal_status, status_of}
 use Rattle.due.specs.Inputs.{Contents}
-use Rattle.due.specs.Orders.{built}
+use Rattle.due.specs.Orders.{of_run}
 use Rattle.due.specs.Rules.{IsDue, Bad_words}
 
 refusal_is_due : (r : Refusal) → (refusal_status r ≢ Failed) × (refusal_status r ≢ NoMemory)
@@ -55,4 +55,4 @@ no_frame_failure_is_due (frame_dues.BadLine line fault) = (λ e. cc, λ e. cc)
 -- orders of a check
 pub check_is_refused : (words : List (List ℕ)) (contents : Contents) (config certificate : List ℕ) (asked : Asked)
     → order_of run_commands words ≡ Ok (Check config certificate asked) → IsDue words contents (Refused WordsUsage)
-check_is_refused words contents config certificate asked e = Bad_words Usage (ap (λ c. c >>= built) e) refl
+check_is_refused words contents config certificate asked e = Bad_words Usage (ap (λ c. c >>= of_run) e) refl

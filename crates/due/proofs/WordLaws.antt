@@ -5,35 +5,35 @@ use Rattle.formats.specs.Orders.{Order, order_of}
 use Rattle.formats.specs.Orders.Order.{Decode, Check, Feed, Encode, Trial, Follow, Sweep, Judge, Board, Irig, IrigRead}
 use Rattle.formats.specs.Words.{run_commands}
 use Rattle.formats.proofs.OrderRangeLaws.{along, order_in_range, run_order}
-use Rattle.due.specs.Orders.{BankOrder, bank_order, built, order_in}
+use Rattle.due.specs.Orders.{BankOrder, bank_order, of_run, order_in}
 use Rattle.due.specs.Rules.{AsksBank}
 
--- an order that is built stays as it is
-built_keeps : (o order : Order) → built o ≡ Ok order → o ≡ order
-built_keeps (Decode config asked workers certificate) order e = cc
-built_keeps (Check config certificate asked) order e = absurd cc
-built_keeps (Feed config asked workers) order e = cc
-built_keeps (Encode station minute leap) order e = cc
-built_keeps (Trial number workers) order e = cc
-built_keeps (Follow config asked workers step count) order e = cc
-built_keeps (Sweep config asked workers certificate) order e = cc
-built_keeps (Judge config certificate asked) order e = cc
-built_keeps (Board config queries asked workers step count readers) order e = cc
-built_keeps (Irig config asked workers) order e = cc
-built_keeps (IrigRead file) order e = cc
+-- an order of a run stays as it is
+of_run_keeps : (o order : Order) → of_run o ≡ Ok order → o ≡ order
+of_run_keeps (Decode config asked workers certificate) order e = cc
+of_run_keeps (Check config certificate asked) order e = absurd cc
+of_run_keeps (Feed config asked workers) order e = cc
+of_run_keeps (Encode station minute leap) order e = cc
+of_run_keeps (Trial number workers) order e = cc
+of_run_keeps (Follow config asked workers step count) order e = cc
+of_run_keeps (Sweep config asked workers certificate) order e = cc
+of_run_keeps (Judge config certificate asked) order e = cc
+of_run_keeps (Board config queries asked workers step count readers) order e = cc
+of_run_keeps (Irig config asked workers) order e = cc
+of_run_keeps (IrigRead file) order e = cc
 
--- accepted words give an order that is built
-pub is_built : (words : List (List ℕ)) (order : Order) → order_in words ≡ Ok order → (order_of run_commands words ≡ Ok order) × (built order ≡ Ok order)
-is_built words order e =
-    along (order_of run_commands words) built order e (λ o is made.
-    let same = built_keeps o order made in
-    (is ∙ ap Ok same, subst (λ p. built p ≡ Ok order) same made))
+-- accepted words give an order of a run
+pub is_of_run : (words : List (List ℕ)) (order : Order) → order_in words ≡ Ok order → (order_of run_commands words ≡ Ok order) × (of_run order ≡ Ok order)
+is_of_run words order e =
+    along (order_of run_commands words) of_run order e (λ o is made.
+    let same = of_run_keeps o order made in
+    (is ∙ ap Ok same, subst (λ p. of_run p ≡ Ok order) same made))
 
 pub in_range : (words : List (List ℕ)) (order : Order) → order_in words ≡ Ok order → IsInRange order
-in_range words order e = order_in_range run_commands words order (is_built words order e).0
+in_range words order e = order_in_range run_commands words order (is_of_run words order e).0
 
 pub is_run : (words : List (List ℕ)) (order : Order) → order_in words ≡ Ok order → is_run_order order ≡ true
-is_run words order e = run_order words order (is_built words order e).0
+is_run words order e = run_order words order (is_of_run words order e).0
 
 -- the minutes that are asked for are of the century
 some_same : {A : Type 0} (a b : A) → Some a ≡ Some b → a ≡ b

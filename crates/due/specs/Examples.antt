@@ -11,7 +11,7 @@ use Rattle.definitions.specs.heard.Logs.{Records}
 use Rattle.definitions.specs.examples.Sequences.{window_of}
 use Rattle.due.specs.Banks.{Bank, costs_in}
 use Rattle.bank_config.specs.Configuration.{PlainConfig}
-use Rattle.due.specs.Inputs.{Certificate, Configuration, Contents, FramesText, LogOf}
+use Rattle.due.specs.Inputs.{Certificate, CertificateAt, Configuration, Contents, FramesText, LogOf, QueriesText}
 -- the digits of a number, which examples open by this name
 pub use Rattle.std.specs.Fmt.{digits}
 
@@ -44,7 +44,9 @@ abbrev pub held : List ℕ → List ℕ → List ℕ → Contents
 held config first second Configuration = config
 held config first second (LogOf receiver) = if receiver == 1 then first else second
 held config first second Certificate = []
+held config first second (CertificateAt offset) = []
 held config first second FramesText = []
+held config first second QueriesText = []
 
 -- a cost table whose two lists differ: 3 for each tenth where the symbol is low, 5 for each where it is high
 abbrev pub three_and_five : CostTable

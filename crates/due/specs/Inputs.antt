@@ -2,12 +2,15 @@
 -- may hold something else when it is read again.
 use Rattle.std.specs.Prelude.{ℕ, List}
 
--- the configuration; the log of a receiver, which are numbered from 1; a certificate; and a text of frames
+-- the configuration; the log of a receiver, which are numbered from 1; a certificate; that of an offset of a sweep; a text of frames;
+-- and a text of queries
 pub data Input : Type 0 where
   Configuration : Input
   LogOf : (receiver : ℕ) → Input
   Certificate : Input
+  CertificateAt : (offset : ℕ) → Input
   FramesText : Input
+  QueriesText : Input
 
 -- the bytes of each
 abbrev pub Contents : Type 0

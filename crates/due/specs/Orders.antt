@@ -9,14 +9,15 @@ use Rattle.formats.specs.Orders.{Order, Checked, ◌>>=◌, order_of}
 use Rattle.formats.specs.Orders.Order.{Decode, Check, Feed}
 use Rattle.formats.specs.Words.{run_commands}
 
--- The check of a certificate isn't built yet, so that an order of one is refused, as words are that no command takes.
-abbrev pub built : Order → Checked Order
-built (Check config certificate asked) = Err Usage
-built order = Ok order
+-- Of the orders, those of a run. The check of a certificate is a command of its own, so that an order of one is refused here, as
+-- words are that no command takes.
+abbrev pub of_run : Order → Checked Order
+of_run (Check config certificate asked) = Err Usage
+of_run order = Ok order
 
 -- what the words ask for, or why they are refused
 abbrev pub order_in : List (List ℕ) → Checked Order
-order_in words = order_of run_commands words >>= built
+order_in words = order_of run_commands words >>= of_run
 
 -- the line that a refused order gets
 abbrev pub word_refusal : WordFault → Refusal

@@ -18,7 +18,7 @@ ghost use Rattle.bank_config.specs.Configuration.{configuration_of};
 ghost use Rattle.bank_config.specs.declared.fault.ConfigFault.TheVariants.{OutOfRange};
 ghost use Rattle.bank_config.specs.declared.fault.Key.TheVariants as key;
 ghost use Rattle.due.specs.declared.due.Due.TheVariants.{Feed, Listing, Refused, Report, Trial};
-ghost use Rattle.due.specs.declared.status.Status.TheVariants.{BadCertificate, BadConfiguration, BadLog, BadWords, Done, Failed, NoMemory, Nothing, Undecided};
+ghost use Rattle.due.specs.declared.status.Status.TheVariants.{BadCertificate, BadConfiguration, BadLog, BadQueries, BadWords, Done, Failed, NoMemory, Nothing, Undecided};
 ghost use Rattle.due.specs.Banks.{Bank, IsBankAnswer, by_station, duts_of, first_time, stations_heard, window_of};
 ghost use Rattle.due.specs.Configurations.{IsConfiguration, logs_of};
 ghost use Rattle.due.specs.Dues.{status_of, text_of};
@@ -41,6 +41,7 @@ pub fn numbers_of_statuses()
     ensures failed { code_of Failed ≡ 6 }
     ensures memory { code_of NoMemory ≡ 7 }
     ensures certificate { code_of BadCertificate ≡ 8 }
+    ensures queries { code_of BadQueries ≡ 9 }
 {}
 
 /// With which status a run ends that told this.

@@ -24,6 +24,8 @@ pub enum Status {
     NoMemory,
     /// A certificate isn't valid.
     BadCertificate,
+    /// A text of queries is refused.
+    BadQueries,
     /// A text of frames is refused.
     BadFrames,
 }
@@ -43,6 +45,7 @@ impl Status {
             Status::Failed => 6,
             Status::NoMemory => 7,
             Status::BadCertificate => 8,
+            Status::BadQueries => 9,
             Status::BadFrames => 10,
         }
     }

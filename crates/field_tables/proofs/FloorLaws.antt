@@ -6,7 +6,7 @@ use Rattle.signal_base.specs.declared.window.Window.{Window}
 use Rattle.definitions.specs.declared.block.Block.{Block}
 use Rattle.definitions.specs.declared.sequence.Sequence.{Sequence}
 use Rattle.definitions.specs.declared.block.Span.TheVariants.{Minute}
-use Rattle.definitions.specs.answers.Blocks.{IsIn, IsMinuteBound, first_of}
+use Rattle.definitions.specs.answers.Blocks.{IsIn, IsMinuteBound}
 use Rattle.definitions.specs.sequences.Walks.{IsLegal}
 use Rattle.definitions.specs.heard.Costs.{Costs, sequence_cost}
 use Rattle.definitions.proofs.KeyLaws.{same_sequence}

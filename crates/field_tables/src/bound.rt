@@ -1,11 +1,9 @@
 //! What the sequences of a block cost at the least, by sums.
 
-ghost use Rattle.std.specs.Prelude.{◌≡◌, ◌+◌, ◌<◌, ◌≤◌, ℕ, IfSome, length, slice_index, true};
+ghost use Rattle.std.specs.Prelude.{◌≡◌, ◌+◌, ◌<◌, ◌≤◌, ℕ, IfSome, true};
 ghost use Rattle.signal_base.specs.declared.station.Station.{Station};
 ghost use Rattle.definitions.specs.answers.Blocks.{IsBlock, IsUnionBound, union_cost};
-ghost use Rattle.definitions.specs.heard.Costs.{set_cost, sum_below};
-ghost use Rattle.symbol_cost.specs.Grid.{cost_at};
-ghost use Rattle.slot_columns.specs.Parts.{most_cost};
+ghost use Rattle.slot_columns.specs.declared.limits.TheConstants.{SECONDS_PER_MINUTE};
 ghost use Rattle.minute_parts.specs.Unions.{AreRegular};
 ghost use Rattle.minute_parts.specs.Walks.{reach};
 ghost use Rattle.field_tables.specs.Blocks.{AreUnionsOver, HasShortWalks};
@@ -15,11 +13,9 @@ use crate::sums::WindowSums;
 use block_costs::Walks;
 use civil::Civil;
 use definitions::Block;
-use leap_unions::Sets;
-use signal_base::{GREATEST_COST, MOST_RECEIVERS};
-use slot_columns::{SECONDS_PER_MINUTE, SlotColumns};
+use signal_base::GREATEST_COST;
 
-impl WindowSums {
+impl WindowSums<'_> {
     /// What the unions of a block cost whose walks have 60 seconds in each minute. None exactly where none of its sequences
     /// is walkable.
     pub fn union_bound(&self, block: &Block) -> Option<u32>
@@ -73,22 +69,8 @@ impl WindowSums {
             let Some(sets) = station.leap_unions(civil, &self.window, self.end, block) else {
                 return None;
             };
-            total += cost_of_sets(station.walks().columns(), &sets);
+            total += station.walks().columns().sets_cost(&sets);
         }
         Some(total)
     }
-}
-
-/// What a set in each slot costs.
-pub fn cost_of_sets(columns: &SlotColumns, sets: &Sets) -> u32
-    ensures cost { result ≡ sum_below (length columns.now.rows) (λ k. set_cost columns.now.station (cost_at columns.now.rows k) (slice_index sets.now k)) }
-    ensures bound { result ≤ most_cost columns.now }
-{
-    // No columns are made of more, so that no sum is too large.
-    prove!(columns.receivers() as usize <= MOST_RECEIVERS);
-    let mut cost = 0;
-    for slot in 0..columns.seconds() {
-        cost += columns.cost(slot, sets[slot as usize]);
-    }
-    cost
 }

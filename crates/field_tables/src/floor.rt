@@ -24,8 +24,9 @@ use slot_columns::SECONDS_PER_MINUTE;
 
 impl<'a> Tables<'a> {
     /// A floor of a block of the window: no legal sequence of it costs less. It is at most 1,920,000,000, and may be less than
-    /// what any of them costs. None where it is known that no sequence of the block is legal.
-    pub fn floor(&self, block: &Block) -> Option<u32>
+    /// what any of them costs. None where it is known that no sequence of the block is legal. What takes longer is left out
+    /// where the floor is above `enough` without it.
+    pub fn floor(&self, block: &Block, enough: u32) -> Option<u32>
         requires { IsBlock self.now.window block.now }
         ensures floor { IsFloor (costs_of self.now) self.now.window block.now result }
         ensures small { IfSome result (λ n. n ≤ GREATEST_COST) }
@@ -33,7 +34,7 @@ impl<'a> Tables<'a> {
         if block.announced && self.is_in_quiet_day(block) {
             return None;
         }
-        self.sums.floor(self.civil, block)
+        self.sums.floor(self.civil, block, enough)
     }
 
     // Whether all sequences of the block begin on one day, of which it is known that no announced one is legal.
@@ -58,11 +59,11 @@ impl<'a> Tables<'a> {
     }
 }
 
-impl WindowSums {
+impl WindowSums<'_> {
     /// A floor of a block. It is 0 where its walks may meet a minute that a station can't encode, or where it isn't known at
     /// once what walks cost that may meet a leap second.
     #[inline(always)]
-    pub fn floor(&self, civil: &Civil, block: &Block) -> Option<u32>
+    pub fn floor(&self, civil: &Civil, block: &Block, enough: u32) -> Option<u32>
         requires { AreMinutesOf self.now.window block.now }
         ensures floor { IsFloor (costs_by self.now) self.now.window block.now result }
         ensures small { IfSome result (λ n. n ≤ GREATEST_COST) }
@@ -71,14 +72,14 @@ impl WindowSums {
             return None;
         }
         if self.has_regular_walks(civil, block) {
-            return self.regular_floor(block);
+            return self.regular_floor(block, enough);
         }
-        self.floor_at_leap_end(civil, block)
+        self.floor_at_leap_end(civil, block, enough)
     }
 
     // That of a block whose walks have 60 seconds in each minute and can be encoded by each station.
     #[inline(always)]
-    fn regular_floor(&self, block: &Block) -> Option<u32>
+    fn regular_floor(&self, block: &Block, enough: u32) -> Option<u32>
         requires block { AreMinutesOf self.now.window block.now }
         requires walks { HasShortWalks self.now.window block.now }
         requires encoded { block.now.hi + reach self.now.window block.now ≤ self.now.end }
@@ -90,13 +91,13 @@ impl WindowSums {
         if block.announced && self.never_shows(block) {
             return None;
         }
-        Some(self.least_cost(block))
+        Some(self.least_cost(block, enough))
     }
 
     // That of a block whose last walks may meet a leap second, as those of an hour do that ends with one: what the first walks
     // cost at the least, and of the last ones what each costs. Of a longer block it is 0, since its bound costs less to ask for
     // than these walks, and mostly passes it over.
-    fn floor_at_leap_end(&self, civil: &Civil, block: &Block) -> Option<u32>
+    fn floor_at_leap_end(&self, civil: &Civil, block: &Block, enough: u32) -> Option<u32>
         requires { AreMinutesOf self.now.window block.now }
         ensures floor { IsFloor (costs_by self.now) self.now.window block.now result }
         ensures small { IfSome result (λ n. n ≤ GREATEST_COST) }
@@ -111,7 +112,7 @@ impl WindowSums {
         }
         let last = self.later_minutes(block.second) + 1;
         let cut = block.hi.saturating_sub(last).max(block.lo);
-        let mut floor = self.floor_before(civil, block, cut);
+        let mut floor = self.floor_before(civil, block, cut, enough);
         for t in cut..block.hi {
             floor = lesser(floor, self.floor_of_minute(block, t));
         }
@@ -119,7 +120,7 @@ impl WindowSums {
     }
 
     // That of the minutes before this one.
-    fn floor_before(&self, civil: &Civil, block: &Block, cut: u32) -> Option<u32>
+    fn floor_before(&self, civil: &Civil, block: &Block, cut: u32, enough: u32) -> Option<u32>
         requires block { AreMinutesOf self.now.window block.now }
         requires begun { block.now.lo ≤ cut }
         requires within { cut ≤ block.now.hi }
@@ -139,7 +140,7 @@ impl WindowSums {
         if !self.has_regular_walks(civil, &front) {
             return Some(0);
         }
-        self.regular_floor(&front)
+        self.regular_floor(&front, enough)
     }
 
     // That of one minute, whose walk may meet a leap second.
@@ -196,7 +197,7 @@ impl WindowSums {
     }
 
     // What none of the block's sequences costs less than: the sum of the stations' floors.
-    fn least_cost(&self, block: &Block) -> u32
+    fn least_cost(&self, block: &Block, enough: u32) -> u32
         requires order { block.now.lo < block.now.hi }
         requires walks { HasShortWalks self.now.window block.now }
         requires encoded { block.now.hi + reach self.now.window block.now ≤ self.now.end }
@@ -204,11 +205,26 @@ impl WindowSums {
             → result ≤ sequence_cost (costs_by self.now) self.now.window (sequence_at block.now t0) }
         ensures small { result ≤ GREATEST_COST }
     {
+        let enough = self.enough_for_each(block, enough);
         let mut total = 0;
         for station in &self.stations {
-            total += station.floor(block);
+            total += station.floor(block, enough);
         }
         total
+    }
+
+    // What is enough for the floor of one station. Of several it isn't known: in an hour nothing is, and of a longer block what
+    // comes at once, since its hours have floors too.
+    fn enough_for_each(&self, block: &Block, enough: u32) -> u32
+        requires { block.now.lo < block.now.hi }
+    {
+        if self.stations.len() == 1 {
+            return enough;
+        }
+        if block.hi - block.lo <= MINUTES_PER_HOUR {
+            return u32::MAX;
+        }
+        0
     }
 }
 

@@ -17,7 +17,11 @@ pub fn meets_leap_end(civil: &Civil, lo: u32, end: u32) -> bool
     requires { end ≤ century_minutes + 20 }
     ensures { result ≡ false → (t : ℕ) → lo ≤ t → t < end → is_leap_end t ≡ false }
 {
-    for day in lo / MINUTES_PER_DAY..end / MINUTES_PER_DAY {
+    let first = lo / MINUTES_PER_DAY;
+    let days = end / MINUTES_PER_DAY;
+    // The last day first, as years and leap months end with a leap end.
+    for i in first..days {
+        let day = days - 1 - (i - first);
         if civil.leap_end(day * MINUTES_PER_DAY + (MINUTES_PER_DAY - 1)) {
             return true;
         }
@@ -25,7 +29,7 @@ pub fn meets_leap_end(civil: &Civil, lo: u32, end: u32) -> bool
     false
 }
 
-impl WindowSums {
+impl WindowSums<'_> {
     /// The bound of an announced minute whose walk may meet a leap second, where the stations know at once what it costs them:
     /// the sequence is legal where it shows the announcement at some station.
     pub fn leap_minute_bound(&self, minute: &Block) -> Option<Option<u32>>

@@ -6,6 +6,7 @@ mod bound;
 mod floor;
 mod leaps;
 mod minute;
+mod parts;
 mod quiet;
 mod station;
 mod station_floor;
@@ -13,5 +14,6 @@ mod stations;
 mod sums;
 mod tables;
 
+pub use parts::{StationParts, parts_of};
 pub use plain_costs::{agreeing_costs_cost_alike, dut1, grids_agree_with_their_costs, plain_cost};
 pub use tables::{Tables, TablesFault};

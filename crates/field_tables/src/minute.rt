@@ -14,7 +14,7 @@ use block_costs::Walks;
 use civil::Civil;
 use definitions::Block;
 
-impl WindowSums {
+impl WindowSums<'_> {
     /// Whether it is known that the walks of a block have 60 seconds in each minute and can be encoded by each station.
     pub fn has_regular_walks(&self, civil: &Civil, block: &Block) -> bool
         requires { AreMinutesOf self.now.window block.now }

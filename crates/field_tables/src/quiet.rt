@@ -14,7 +14,7 @@ use std::alloc::{AllocError, Global};
 // The walks that begin in it reach furthest.
 const LAST_SECOND: u8 = 59;
 
-impl WindowSums {
+impl WindowSums<'_> {
     /// For each day of the century whether it is known that no announced sequence is legal that begins on it.
     pub fn quiet_days(&self, alloc: Global, civil: &Civil) -> Result<Vec<bool>, AllocError>
         ensures { IfOk result (λ days. AreQuiet self.now.window days.items) }

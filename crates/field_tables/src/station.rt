@@ -1,7 +1,6 @@
 //! What one station of a window may send, and what that costs.
 
 ghost use Rattle.std.specs.Prelude.{ℕ, ◌≡◌, ◌+◌, ◌<◌, ◌≤◌, ◌↔◌, ◌&&◌, Bool, IfOk, IfSome, MatchOption, false, length, slice_index, true};
-ghost use Rattle.signal_base.specs.declared.limits.TheConstants.{MOST_SECONDS};
 ghost use Rattle.definitions.specs.codes.Allowed.{CanBeEncoded, has_station};
 ghost use Rattle.definitions.specs.answers.Blocks.{HasWalk, IsBlock, IsUnion};
 ghost use Rattle.definitions.specs.heard.Dut1.{has_dut1};
@@ -14,12 +13,11 @@ ghost use Rattle.field_tables.specs.Minutes.{sequence_at};
 ghost use Rattle.field_tables.specs.Leaps.{IsLeapCost};
 ghost use Rattle.field_tables.specs.Sums.{IsOf};
 
-use crate::bound::cost_of_sets;
+use crate::parts::StationParts;
 use block_costs::StationBlocks;
 use civil::Civil;
 use definitions::Block;
 use leap_unions::{LeapUnions, Sets};
-use minute_parts::{Parts, Unions};
 use signal_base::{Station, Window};
 use std::alloc::{AllocError, Global};
 use std::marker::Model;
@@ -37,12 +35,12 @@ pub struct LeapCost {
 
 /// A station's walks and blocks with what they cost. Contracts see the parts of its telegrams and the grid of costs.
 #[derive(Drop)]
-pub struct StationSums {
-    blocks: StationBlocks,
-    leaps: LeapUnions,
+pub struct StationSums<'a> {
+    blocks: StationBlocks<'a>,
+    leaps: &'a LeapUnions,
 }
 
-impl Model for StationSums {
+impl<'a> Model for StationSums<'a> {
     ghost use Rattle.std.specs.Prelude.{◌≡◌, length};
     ghost use Rattle.walk_costs.specs.Walks.{PricedParts};
 
@@ -50,39 +48,40 @@ impl Model for StationSums {
 
     ghost view = { λ s. s.blocks };
 
-    ghost invariant = { λ s. (s.leaps.station ≡ s.blocks.parts.station) × (s.leaps.seconds ≡ length s.blocks.grid.rows) };
+    ghost invariant = { λ s. (s.leaps.now.station ≡ s.blocks.parts.station) × (s.leaps.now.seconds ≡ length s.blocks.grid.rows) };
 }
 
-impl StationSums {
-    /// Makes the sums of a grid of 1 to 1,200 slots, with what whole days cost where that is to be kept.
+impl<'a> StationSums<'a> {
+    /// Makes the sums of a grid, by the parts of its station and length, with what whole days cost where that is to be kept.
     pub fn make(
         alloc: Global,
-        civil: &Civil,
+        parts: &'a StationParts,
         grid: &CostGrid,
         keep_days: bool,
-    ) -> Result<StationSums, AllocError>
-        requires some { 1 ≤ length grid.now.rows }
-        requires few { length grid.now.rows ≤ MOST_SECONDS }
+    ) -> Result<StationSums<'a>, AllocError>
+        requires station { parts.now.station ≡ grid.now.station }
+        requires seconds { parts.now.seconds ≡ length grid.now.rows }
         ensures { IfOk result (IsOf grid.now) }
     {
-        let station = grid.station();
-        let parts = Parts::make(alloc, civil, station)?;
-        let unions = Unions::make(alloc, parts)?;
-        let leaps = LeapUnions::make(alloc, civil, station, &unions, grid.seconds())?;
-        let walks = StationWalks::make(alloc, unions, grid)?;
+        // They are a table, as their end is one.
+        parts.unions.parts().end();
+        let walks = StationWalks::make(alloc, &parts.unions, grid)?;
         let blocks = StationBlocks::make(alloc, walks, keep_days)?;
-        Ok(StationSums { blocks, leaps })
+        Ok(StationSums {
+            blocks,
+            leaps: &parts.leaps,
+        })
     }
 
     /// What the station's sequences cost one by one.
-    pub fn walks(&self) -> &StationWalks
+    pub fn walks(&self) -> &StationWalks<'a>
         ensures { result.now ≡ self.now }
     {
         self.blocks.walks()
     }
 
     /// What the blocks cost whose walks have 60 seconds in each minute.
-    pub fn blocks(&self) -> &StationBlocks
+    pub fn blocks(&self) -> &StationBlocks<'a>
         ensures { result.now ≡ self.now }
     {
         &self.blocks
@@ -117,7 +116,7 @@ impl StationSums {
             return None;
         }
         Some(LeapCost {
-            cost: cost_of_sets(columns, &walk.sets),
+            cost: columns.sets_cost(&walk.sets),
             shows: walk.shows,
         })
     }

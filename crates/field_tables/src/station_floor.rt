@@ -1,17 +1,19 @@
 //! What the sequences of a block cost a station at the least, by pieces of its minutes.
 
 ghost use Rattle.std.specs.Prelude.{ℕ, ◌+◌, ◌<◌, ◌≤◌, length};
+ghost use Rattle.definitions.specs.time.Calendar.{century_minutes};
 ghost use Rattle.slot_columns.specs.Parts.{most_cost};
 ghost use Rattle.slot_columns.specs.declared.limits.TheConstants.{SECONDS_PER_MINUTE};
 ghost use Rattle.minute_parts.specs.Parts.{IsInRun};
 ghost use Rattle.minute_parts.specs.Runs.{end_of_run};
 ghost use Rattle.minute_parts.specs.Unions.{AreRegular};
 ghost use Rattle.minute_parts.specs.Walks.{later_minutes};
+ghost use Rattle.walk_costs.specs.Crossings.{IsAcross};
 ghost use Rattle.walk_costs.specs.Walks.{IsRegularIn, last_minute};
 ghost use Rattle.field_tables.specs.Floors.{CostAtLeast};
 
 use crate::station::StationSums;
-use definitions::{Block, MINUTES_PER_HOUR};
+use definitions::{Block, MINUTES_PER_DAY, MINUTES_PER_HOUR};
 use walk_costs::StationWalks;
 
 // What the sequences cost at the least that begin in a piece of a block's minutes.
@@ -23,10 +25,11 @@ struct Piece {
     floor: u32,
 }
 
-impl StationSums {
+impl StationSums<'_> {
     /// A floor of a block whose walks have 60 seconds in each minute: none of its sequences costs the station less. It is 0
-    /// where a walk goes over a change of summer time, or over the ends of two runs.
-    pub fn floor(&self, block: &Block) -> u32
+    /// where a walk goes over a change of summer time, or over the ends of two runs. Where that of a piece isn't above
+    /// `enough`, walks are looked at one by one that leave their run, and those of a piece of an hour or less.
+    pub fn floor(&self, block: &Block, enough: u32) -> u32
         requires second { block.now.second < SECONDS_PER_MINUTE }
         requires order { block.now.lo < block.now.hi }
         requires regular { AreRegular block.now.announced block.now.lo (block.now.hi + later_minutes (length self.now.grid.rows) block.now.second) self.now.parts.end }
@@ -37,7 +40,7 @@ impl StationSums {
         let mut floor = u32::MAX;
         let mut t = block.lo;
         while t < block.hi {
-            let piece = piece_from(walks, block, t);
+            let piece = piece_from(walks, block, t, enough);
             if piece.floor == 0 {
                 return 0;
             }
@@ -50,7 +53,7 @@ impl StationSums {
 
 // The piece from the minute `t` on: the minutes whose walks lie in the run of `t`, or those whose walks leave it.
 #[inline(always)]
-fn piece_from(walks: &StationWalks, block: &Block, t: u32) -> Piece
+fn piece_from(walks: &StationWalks, block: &Block, t: u32, enough: u32) -> Piece
     requires second { block.now.second < SECONDS_PER_MINUTE }
     requires begun { block.now.lo ≤ t }
     requires some { t < block.now.hi }
@@ -66,31 +69,61 @@ fn piece_from(walks: &StationWalks, block: &Block, t: u32) -> Piece
     let left = parts.run_end(run) - t;
     let later = walks.later_minutes(block.second);
     if left <= later {
-        return piece_across(walks, block, t, run);
+        return piece_across(walks, block, t, run, enough);
     }
-    let end = block.hi.min(t + (left - later));
+    let most = block.hi.min(t + (left - later));
+    let end = end_of_piece(walks, block.second, t, most);
     Piece {
         end,
-        floor: floor_inside(walks, block, run, t, end),
+        floor: floor_inside(walks, block, run, t, end, enough),
     }
 }
 
-// The floor of the minutes from `t` on whose walks lie in the run. They are looked at one by one where they are few.
-fn floor_inside(walks: &StationWalks, block: &Block, run: usize, t: u32, end: u32) -> u32
+// Where a piece ends that begins with the minute `t` and may go on to that end: before the walks that go on to the next UTC day,
+// since DUT1 adds nothing to these, if it adds something to that of `t`.
+#[inline(always)]
+fn end_of_piece(walks: &StationWalks, second: u8, t: u32, end: u32) -> u32
+    requires second { second < SECONDS_PER_MINUTE }
+    requires century { t < century_minutes }
+    requires some { t < end }
+    ensures more { t < result }
+    ensures within { result ≤ end }
+{
+    let next_day = t - t % MINUTES_PER_DAY + MINUTES_PER_DAY;
+    let stay = next_day - walks.later_minutes(second);
+    if stay <= t {
+        return end;
+    }
+    if walks.added_from(second, t) == 0 {
+        return end;
+    }
+    end.min(stay)
+}
+
+// The floor of the minutes from `t` on whose walks lie in the run.
+fn floor_inside(
+    walks: &StationWalks,
+    block: &Block,
+    run: usize,
+    t: u32,
+    end: u32,
+    enough: u32,
+) -> u32
     requires some { t < end }
     requires walks { (t0 : ℕ) → t ≤ t0 → t0 < end → IsRegularIn walks.now block.now.announced block.now.second t0 run }
     ensures floor { CostAtLeast walks.now block.now t end result }
     ensures small { result ≤ most_cost walks.now.grid }
 {
-    if end - t <= MINUTES_PER_HOUR {
-        return walks.least_among(block.announced, block.second, run, t, end);
+    let floor = walks.least_in(block.announced, block.second, run, t, end);
+    if floor > enough || end - t > MINUTES_PER_HOUR {
+        return floor;
     }
-    walks.least_in(block.announced, block.second, run)
+    walks.least_among(block.announced, block.second, run, t, end)
 }
 
 // The piece of the minutes from `t` on whose walks leave the run of `t`. Where all of them end in the next run, and the local
 // time is encoded there as before, they are asked for. All else comes on so few days that 0 will do.
-fn piece_across(walks: &StationWalks, block: &Block, t: u32, run: usize) -> Piece
+fn piece_across(walks: &StationWalks, block: &Block, t: u32, run: usize, enough: u32) -> Piece
     requires second { block.now.second < SECONDS_PER_MINUTE }
     requires begun { block.now.lo ≤ t }
     requires some { t < block.now.hi }
@@ -114,8 +147,33 @@ fn piece_across(walks: &StationWalks, block: &Block, t: u32, run: usize) -> Piec
     {
         return Piece { end, floor: 0 };
     }
-    Piece {
-        end,
-        floor: walks.least_across(block.announced, block.second, run),
+    let floor = floor_across(walks, block, t, end, run, enough);
+    Piece { end, floor }
+}
+
+// The floor of the minutes from `t` on whose walks go from the run to the next.
+#[inline(always)]
+fn floor_across(
+    walks: &StationWalks,
+    block: &Block,
+    t: u32,
+    end: u32,
+    run: usize,
+    enough: u32,
+) -> u32
+    requires some { t < end }
+    requires walks { (t0 : ℕ) → t ≤ t0 → t0 < end → IsAcross walks.now block.now.announced block.now.second t0 run }
+    ensures floor { CostAtLeast walks.now block.now t end result }
+    ensures small { result ≤ most_cost walks.now.grid }
+{
+    let floor = walks.least_across(block.announced, block.second, run, t, end);
+    if floor > enough {
+        return floor;
     }
+    let crossing = walks.crossing_costs(block.announced, block.second, run);
+    let mut least = u32::MAX;
+    for t0 in t..end {
+        least = least.min(walks.cost_across(&crossing, t0));
+    }
+    least
 }

@@ -4,38 +4,41 @@ ghost use Rattle.std.specs.Prelude.{◌≡◌, ◌∷◌, ◌++◌, ◌<◌, ◌
 ghost use Rattle.std.specs.List.{All};
 ghost use Rattle.definitions.specs.sequences.Windows.{IsWindow};
 ghost use Rattle.field_tables.specs.Grids.{AreGrids};
+ghost use Rattle.field_tables.specs.Scopes.{scopes_of};
 ghost use Rattle.field_tables.specs.Sums.{AreOf};
 
+use crate::parts::StationParts;
 use crate::station::StationSums;
-use civil::Civil;
 use definitions::CENTURY_MINUTES;
 use signal_base::Window;
 use std::alloc::{AllocError, Global};
 use symbol_cost::CostGrid;
 
 /// The stations of a window's grids, in their order.
-pub fn stations_of(
+pub fn stations_of<'a>(
     alloc: Global,
-    civil: &Civil,
+    parts: &'a [StationParts],
     grids: &[CostGrid],
     _window: &Window,
     keep_days: bool,
-) -> Result<Vec<StationSums>, AllocError>
+) -> Result<Vec<StationSums<'a>>, AllocError>
     requires window { IsWindow _window.now }
+    requires parts { parts.now ≡ scopes_of _window.now.stations _window.now.seconds }
     requires grids { AreGrids _window.now grids.now }
     ensures { IfOk result (λ stations. AreOf grids.now stations.items) }
 {
     let mut stations = Vec::with_capacity(alloc, grids.len())?;
     for grid in grids {
-        let station = StationSums::make(alloc, civil, grid, keep_days)?;
+        let part = &parts[stations.len()];
+        let station = StationSums::make(alloc, part, grid, keep_days)?;
         add(&mut stations, station)?;
     }
     Ok(stations)
 }
 
 // One more station.
-fn add(stations: &mut Vec<StationSums>, station: StationSums) -> Result<(), AllocError>
-    ensures { IfOk result (λ _. stations.new.items ≡ stations.old.items ++ station ∷ []) }
+fn add<'a>(stations: &mut Vec<StationSums<'a>>, station: StationSums<'a>) -> Result<(), AllocError>
+    ensures { IfOk result (λ _. stations.new.items ≡ stations.old.items ++ station.entry ∷ []) }
 {
     stations.push(station)?;
     Ok(())

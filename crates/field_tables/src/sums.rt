@@ -7,10 +7,12 @@ ghost use Rattle.definitions.specs.sequences.Windows.{IsWindow};
 ghost use Rattle.field_tables.specs.Blocks.{AreMinutesOf, HasShortWalks};
 ghost use Rattle.field_tables.specs.Agreement.{AgreeOn};
 ghost use Rattle.field_tables.specs.Grids.{AreGrids, grid_costs};
+ghost use Rattle.field_tables.specs.Scopes.{scopes_of};
 ghost use Rattle.field_tables.specs.Sums.{AreSums, costs_by};
 ghost use Rattle.minute_parts.specs.Walks.{later_minutes};
 
 use crate::leaps::meets_leap_end;
+use crate::parts::StationParts;
 use crate::station::StationSums;
 use crate::stations::{end_of, stations_of};
 use civil::Civil;
@@ -25,13 +27,13 @@ use symbol_cost::CostGrid;
 /// A window, what the seconds of its stations may carry, and what the symbols cost there. It answers what costs little to
 /// answer, and leaves the rest to a walk over the slots.
 #[derive(Drop)]
-pub struct WindowSums {
+pub struct WindowSums<'a> {
     pub(crate) window: Window,
-    pub(crate) stations: Vec<StationSums>,
+    pub(crate) stations: Vec<StationSums<'a>>,
     pub(crate) end: u32,
 }
 
-impl Model for WindowSums {
+impl<'a> Model for WindowSums<'a> {
     ghost use Rattle.field_tables.specs.Sums.{AreSums, Sums};
 
     ghost Value = { Sums };
@@ -41,21 +43,22 @@ impl Model for WindowSums {
     ghost invariant = { λ s. AreSums (record { window = s.window; stations = s.stations.items; end = s.end }) };
 }
 
-impl WindowSums {
+impl<'a> WindowSums<'a> {
     /// Makes the sums of a window's grids.
     pub fn make(
         alloc: Global,
-        civil: &Civil,
+        parts: &'a [StationParts],
         grids: &[CostGrid],
         window: &Window,
         keep_days: bool,
-    ) -> Result<WindowSums, AllocError>
+    ) -> Result<WindowSums<'a>, AllocError>
         requires window { IsWindow window.now }
+        requires parts { parts.now ≡ scopes_of window.now.stations window.now.seconds }
         requires grids { AreGrids window.now grids.now }
         ensures window { IfOk result (λ sums. sums.window ≡ window.now) }
         ensures costs { IfOk result (λ sums. AgreeOn window.now (costs_by sums) (grid_costs grids.now)) }
     {
-        let stations = stations_of(alloc, civil, grids, window, keep_days)?;
+        let stations = stations_of(alloc, parts, grids, window, keep_days)?;
         let end = end_of(&stations);
         Ok(WindowSums {
             window: *window,

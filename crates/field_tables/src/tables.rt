@@ -7,8 +7,10 @@ ghost use Rattle.definitions.specs.sequences.Windows.{IsWindow};
 ghost use Rattle.definitions.specs.heard.Costs.{sequence_cost, set_cost};
 ghost use Rattle.definitions.specs.answers.Blocks.{HasWalk, IsBlock, IsMinuteBound, IsUnion, IsUnionBound};
 ghost use Rattle.field_tables.specs.Grids.{AreGrids};
+ghost use Rattle.field_tables.specs.Scopes.{scopes_of};
 ghost use Rattle.field_tables.specs.Scored.{costs_of};
 
+use crate::parts::StationParts;
 use crate::sums::WindowSums;
 use civil::Civil;
 use definitions::{Block, Sequence};
@@ -39,7 +41,7 @@ pub struct Tables<'a> {
     grids: &'a [CostGrid],
     pub(crate) civil: &'a Civil,
     window: Window,
-    pub(crate) sums: WindowSums,
+    pub(crate) sums: WindowSums<'a>,
     // The days on which no announced sequence is legal.
     pub(crate) quiet: Vec<bool>,
 }
@@ -57,50 +59,57 @@ impl<'a> Model for Tables<'a> {
 }
 
 impl<'a> Tables<'a> {
-    /// Tables of a window. There is one grid for each station of the window, in the order DCF77, MSF, WWVB, JJY, each with
-    /// the window's slots, and all made from at most 8 receivers together. `NoMemory` comes only for want of memory.
+    /// Tables of a window, by the parts of its stations (`parts_of`), which may have served for other windows of the same stations
+    /// and length. There is one grid for each station of the window, in the order DCF77, MSF, WWVB, JJY, each with the window's
+    /// slots, and all made from at most 8 receivers together. `NoMemory` comes only for want of memory.
     pub fn make(
         alloc: Global,
+        parts: &'a [StationParts],
         grids: &'a [CostGrid],
         civil: &'a Civil,
         window: &Window,
     ) -> Result<Tables<'a>, TablesFault>
         requires window { IsWindow window.now }
+        requires parts { parts.now ≡ scopes_of window.now.stations window.now.seconds }
         requires grids { AreGrids window.now grids.now }
         ensures window { IfOk result (λ tables. tables.window ≡ window.now) }
         ensures grids { IfOk result (λ tables. tables.grids ≡ grids.now) }
     {
-        Tables::made(alloc, grids, civil, window, false)
+        Tables::made(alloc, parts, grids, civil, window, false)
     }
 
     /// The same for who asks for the bounds of many days: they are found by a few look-ups, for which tables of all days are made.
     pub fn make_with_days(
         alloc: Global,
+        parts: &'a [StationParts],
         grids: &'a [CostGrid],
         civil: &'a Civil,
         window: &Window,
     ) -> Result<Tables<'a>, TablesFault>
         requires window { IsWindow window.now }
+        requires parts { parts.now ≡ scopes_of window.now.stations window.now.seconds }
         requires grids { AreGrids window.now grids.now }
         ensures window { IfOk result (λ tables. tables.window ≡ window.now) }
         ensures grids { IfOk result (λ tables. tables.grids ≡ grids.now) }
     {
-        Tables::made(alloc, grids, civil, window, true)
+        Tables::made(alloc, parts, grids, civil, window, true)
     }
 
     fn made(
         alloc: Global,
+        parts: &'a [StationParts],
         grids: &'a [CostGrid],
         civil: &'a Civil,
         window: &Window,
         keep_days: bool,
     ) -> Result<Tables<'a>, TablesFault>
         requires window { IsWindow window.now }
+        requires parts { parts.now ≡ scopes_of window.now.stations window.now.seconds }
         requires grids { AreGrids window.now grids.now }
         ensures window { IfOk result (λ tables. tables.window ≡ window.now) }
         ensures grids { IfOk result (λ tables. tables.grids ≡ grids.now) }
     {
-        let sums = WindowSums::make(alloc, civil, grids, window, keep_days)?;
+        let sums = WindowSums::make(alloc, parts, grids, window, keep_days)?;
         let quiet = sums.quiet_days(alloc, civil)?;
         Ok(Tables {
             grids,

@@ -13,3 +13,4 @@ mod words;
 
 pub use follow_run::follow;
 pub use window_gate::WindowGate;
+pub use windows::{move_to, report_of, starts_too_late};

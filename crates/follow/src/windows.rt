@@ -3,6 +3,7 @@
 ghost use Rattle.std.specs.Prelude.{◌≡◌, ◌+◌, ◌-◌, ◌*◌, ◌<◌, ◌≤◌, All, IfErr, IfOk, true, false};
 ghost use Rattle.signal_base.specs.declared.limits.TheConstants.{START_LIMIT};
 ghost use Rattle.definitions.specs.sequences.Windows.{IsWindow};
+ghost use Rattle.field_tables.specs.Scopes.{scopes_of};
 ghost use Rattle.follow_due.specs.Windows.{AreReportsOf, IsReportOf, StartInTime, StartTooLate, window_after, windows_from};
 ghost use Rattle.bank.specs.declared.stop.Stop.TheVariants.{NoMemory};
 ghost use Rattle.bank.specs.Hearing.{AreBankGrids, IsBank, bank_seen};
@@ -10,8 +11,9 @@ ghost use Rattle.bank.specs.Tasks.{AreWorkers};
 ghost use Rattle.follow.specs.Finding.{CanBeReported};
 
 use crate::window_gate::WindowGate;
-use bank::{Bank, Stop, advance_grids, decode_window, grids_of};
+use bank::{Bank, Stop, advance_grids, decode_window_by, grids_of};
 use civil::Civil;
+use field_tables::{StationParts, parts_of};
 use follow_due::{Reports, WindowReport};
 use formats::{MOST_COUNT, MOST_STEP};
 use signal_base::Window;
@@ -32,7 +34,7 @@ pub fn starts_too_late(first: &Window, step: u16, count: u16) -> bool
 }
 
 /// Decodes so many windows of a bank, from the first one on, each a step after the one before. The grids are made once, and
-/// moved from window to window.
+/// moved from window to window; what the stations may send is made once for all windows.
 pub fn decode_windows<R: Threads + Sync, G: Gate + WindowGate + Sync>(
     rt: &R,
     alloc: Global,
@@ -54,6 +56,7 @@ pub fn decode_windows<R: Threads + Sync, G: Gate + WindowGate + Sync>(
     ensures can_be_written { IfOk result (All CanBeReported) }
     ensures memory { IfErr result (λ stop. stop ≡ NoMemory) }
 {
+    let parts = parts_of(alloc, civil, first)?;
     let mut grids = grids_of(alloc, bank, first)?;
     let mut reports = Vec::new(alloc);
     for i in 0..count {
@@ -64,6 +67,7 @@ pub fn decode_windows<R: Threads + Sync, G: Gate + WindowGate + Sync>(
             alloc,
             civil,
             bank,
+            &parts,
             grids.as_slice(),
             window,
             workers,
@@ -74,12 +78,13 @@ pub fn decode_windows<R: Threads + Sync, G: Gate + WindowGate + Sync>(
     Ok(Reports::new(reports))
 }
 
-// What is told of a window, whose grids these are.
-fn report_of<R: Threads + Sync, G: Gate + Sync>(
+/// What is told of a window, whose grids these are.
+pub fn report_of<R: Threads + Sync, G: Gate + Sync>(
     rt: &R,
     alloc: Global,
     civil: &Civil,
     bank: &Bank,
+    parts: &[StationParts],
     grids: &[CostGrid],
     window: Window,
     workers: u8,
@@ -87,13 +92,17 @@ fn report_of<R: Threads + Sync, G: Gate + Sync>(
 ) -> Result<WindowReport, Stop>
     requires bank { IsBank bank.now }
     requires window { IsWindow window }
+    requires parts { parts.now ≡ scopes_of window.stations window.seconds }
     requires grids { AreBankGrids bank.now window grids.now }
     requires workers { AreWorkers workers }
     ensures told { IfOk result (IsReportOf (bank_seen bank.now) window) }
     ensures can_be_written { IfOk result CanBeReported }
     ensures memory { IfErr result (λ stop. stop ≡ NoMemory) }
 {
-    let decoded = decode_window(rt, alloc, civil, grids, window, bank.ceiling, workers, gate)?;
+    let ceiling = bank.ceiling;
+    let decoded = decode_window_by(
+        rt, alloc, civil, parts, grids, window, ceiling, workers, gate,
+    )?;
     Ok(WindowReport {
         window: decoded.window,
         answer: decoded.answer,
@@ -101,9 +110,9 @@ fn report_of<R: Threads + Sync, G: Gate + Sync>(
     })
 }
 
-// Moves the grids of the window before to the window of this place, and answers that. Those of the first window stay as they
-// are.
-fn move_to(grids: &mut Vec<CostGrid>, bank: &Bank, first: &Window, step: u16, i: u16) -> Window
+/// Moves the grids of the window before to the window of this place, and answers that. Those of the first window stay as they
+/// are.
+pub fn move_to(grids: &mut Vec<CostGrid>, bank: &Bank, first: &Window, step: u16, i: u16) -> Window
     requires bank { IsBank bank.now }
     requires window { IsWindow first.now }
     requires step { step ≤ MOST_STEP }

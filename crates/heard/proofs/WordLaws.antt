@@ -9,14 +9,14 @@ use Rattle.bank_words.specs.declared.order.Order.{Order}
 use Rattle.bank_words.specs.declared.order.Order.TheVariants as order
 use Rattle.bank_words.specs.Seen.{order_seen}
 use Rattle.due.specs.HeardRuns.{decode_words, heard_order, names_left_out}
-use Rattle.due.specs.Orders.{built, order_in}
+use Rattle.due.specs.Orders.{of_run, order_in}
 use Rattle.due.proofs.HeardWordLaws.{is_decode, no_certificate, none_named}
 
 module _ (words all : List (List ℕ)) (none : names_left_out words ≡ false) (is : all ≡ decode_words words) where
-  ordered : (o : PlainOrder) → order_of run_commands all ≡ Ok o → order_in (decode_words words) ≡ built o
-  ordered o gives = ap order_in (sym is) ∙ ap (λ check. check >>= built) gives
+  ordered : (o : PlainOrder) → order_of run_commands all ≡ Ok o → order_in (decode_words words) ≡ of_run o
+  ordered o gives = ap order_in (sym is) ∙ ap (λ check. check >>= of_run) gives
 
-  pub heard_is : (o : PlainOrder) → order_of run_commands all ≡ Ok o → heard_order words ≡ built o
+  pub heard_is : (o : PlainOrder) → order_of run_commands all ≡ Ok o → heard_order words ≡ of_run o
   heard_is o gives = none_named words none ∙ ordered o gives
 
   some_none : {A : Type 0} (x : A) → Some x ≡ None → ⊥

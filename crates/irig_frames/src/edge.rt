@@ -46,8 +46,8 @@ fn time_on(line: &[u8], letter: u8) -> Option<u64>
     time_in(digits)
 }
 
-// The millisecond that these digits are: at most 13, and with no needless zero.
-fn time_in(digits: &[u8]) -> Option<u64>
+/// The millisecond that these digits are: at most 13, and with no needless zero.
+pub fn time_in(digits: &[u8]) -> Option<u64>
     ensures time { IfSome result (SpellsTime digits.now) }
     ensures none { IfNone result ((ms : ℕ) → ¬ (SpellsTime digits.now ms)) }
 {

@@ -10,6 +10,7 @@ mod tests;
 mod told;
 mod write;
 
+pub use edge::time_in;
 pub use fault::FrameFault;
 pub use formats::{FRAMES_LIMIT, Frame, FrameLineFault, MOST_FRAMES};
 pub use read::read_frames;

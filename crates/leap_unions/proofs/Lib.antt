@@ -1,7 +1,8 @@
+mod TestLaws
+pub mod KeptLaws
 pub mod LeapLaws
+pub mod NominalLaws
 pub mod PieceLaws
 pub mod RegularLaws
-pub mod NominalLaws
-pub mod KeptLaws
+pub mod SentLaws
 pub mod WalkLaws
-mod TestLaws

@@ -2,6 +2,7 @@
 
 ghost use Rattle.std.specs.Prelude.{ℕ, ◌≡◌, ◌<◌, ◌≤◌, slice_index};
 ghost use Rattle.definitions.specs.codes.Allowed.{encoded_year};
+ghost use Rattle.leap_unions.specs.Tapes.{AreSent};
 ghost use Rattle.definitions.specs.sequences.Walks.{IsSequence, place_at, set_at};
 ghost use Rattle.definitions.specs.time.Calendar.{century_minutes};
 
@@ -9,7 +10,7 @@ use crate::rows::{MOST_REACH, PLACES};
 use civil::Civil;
 use definitions::Sequence;
 use minute_parts::SECONDS;
-use sequence::{next_place, set_in};
+use sequence::{next_place, telegram};
 use signal_base::Station;
 
 /// The most seconds of a tape: a row's after the minutes that a walk reaches.
@@ -30,7 +31,11 @@ pub struct KeptTape {
     pub tape: Tape,
 }
 
-/// What the first `count` seconds of a walk carry at a station that can encode their minutes.
+// What the seconds of a minute carry, of which it has 61 at most.
+type Sent = [u8; 61];
+
+/// What the first `count` seconds of a walk carry at a station that can encode their minutes: minute by minute, since their
+/// telegrams cost less to ask for than their seconds.
 pub fn tape_of(civil: &Civil, station: Station, q: &Sequence, count: usize) -> Tape
     requires sequence { IsSequence q.now }
     requires count { count ≤ TAPE_PLACES }
@@ -40,9 +45,34 @@ pub fn tape_of(civil: &Civil, station: Station, q: &Sequence, count: usize) -> T
 {
     let mut tape = [0; TAPE_PLACES];
     let mut place = (q.first, q.second);
+    let mut sent = sent_in(civil, station, q.announced, q.first);
     for k in 0..count {
-        tape[k] = set_in(civil, station, q.announced, place);
+        come_to(&mut sent, civil, station, q.announced, place);
+        tape[k] = sent[place.1 as usize];
         place = next_place(civil, q.announced, place);
     }
     tape
+}
+
+// Makes what was sent in the minute of the second before that of this second's minute.
+fn come_to(sent: &mut Sent, civil: &Civil, station: Station, announced: bool, place: (u32, u8))
+    requires century { place.0 < century_minutes }
+    requires same { 0 < place.1 → AreSent station announced place.0 sent.old }
+    ensures { AreSent station announced place.0 sent.new }
+{
+    if place.1 == 0 {
+        *sent = sent_in(civil, station, announced, place.0);
+    }
+}
+
+// What the seconds of a minute carry, if the station can encode it.
+#[tactic(auto, using(crate::proofs::SentLaws::are_sent, crate::proofs::SentLaws::none_sent))]
+fn sent_in(civil: &Civil, station: Station, announced: bool, t: u32) -> Sent
+    requires { t < century_minutes }
+    ensures { AreSent station announced t result }
+{
+    let Some(sets) = telegram(civil, station, t, announced) else {
+        return [0; 61];
+    };
+    sets
 }

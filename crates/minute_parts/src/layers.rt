@@ -1,10 +1,11 @@
 //! The unions of a block whose walks reach some minutes: one for the minutes in which they begin, one for those after it.
 
-ghost use Rattle.std.specs.Prelude.{ℕ, ◌+◌, ◌<◌, IfSome, IsSome};
+ghost use Rattle.std.specs.Prelude.{ℕ, ◌+◌, ◌<◌, ◌≤◌, IfSome, IsSome, slice_index};
 ghost use Rattle.minute_parts.specs.Layers.{AreLayers, IsSteady};
-ghost use Rattle.minute_parts.specs.Unions.{AreRegular};
+ghost use Rattle.minute_parts.specs.Unions.{AreRegular, IsUnionOver};
+ghost use Rattle.minute_parts.specs.declared.part.TheConstants.{SECONDS};
 
-use crate::part::{Part, same};
+use crate::part::{Part, either, nothing, same};
 use crate::unions::Unions;
 
 /// What the seconds of a block's walks may carry.
@@ -28,19 +29,42 @@ impl Unions {
     {
         // What ends before it fits.
         self.parts().end();
-        let first = self.over(announced, lo, hi);
         if reach == 0 {
-            return Some(Layers { first, rest: first });
+            let all = self.over(announced, lo, hi);
+            return Some(Layers {
+                first: all,
+                rest: all,
+            });
         }
         if hi < lo + reach {
             return None;
         }
-        let rest = self.over(announced, lo + 1, hi + reach);
-        let common = self.over(announced, lo + reach, hi + 1);
+        // Most minutes are in all ranges, and are gone through once.
+        let front = self.over(announced, lo, lo + reach);
+        let most = self.over_any(announced, lo + reach, hi);
+        let first = either(&front, &most);
+        let last = self.over(announced, hi, hi + 1);
+        let common = either(&most, &last);
+        let early = self.over(announced, lo + 1, lo + reach + 1);
+        let begun = either(&early, &common);
+        let late = self.over(announced, hi, hi + reach);
+        let rest = either(&begun, &late);
         let steady = same(&rest, &common);
         if steady {
             return Some(Layers { first, rest });
         }
         None
+    }
+
+    // The union over some minutes, or over none.
+    fn over_any(&self, announced: bool, lo: u32, hi: u32) -> Part
+        requires order { lo ≤ hi }
+        requires regular { AreRegular announced lo hi self.now.end }
+        ensures { (s : ℕ) → s < SECONDS → IsUnionOver self.now.station announced lo hi s (slice_index result s) }
+    {
+        if lo == hi {
+            return nothing();
+        }
+        self.over(announced, lo, hi)
     }
 }

@@ -3,8 +3,8 @@
 ghost use Rattle.std.specs.Prelude.{◌≡◌, [], codes};
 ghost use Rattle.bank_words.specs.Seen.{texts_of};
 ghost use Rattle.formats.specs.WordExamples.{words_in};
-ghost use Rattle.program.specs.declared.family.Family.TheVariants.{OfFollow, OfFrames, OfRun, OfSweep};
-ghost use Rattle.program.specs.Families.{family_of, family_of_word, is_follow, is_of_frames, is_sweep};
+ghost use Rattle.program.specs.declared.family.Family.TheVariants.{OfBoard, OfCheck, OfFollow, OfFrames, OfJudge, OfRun, OfSweep};
+ghost use Rattle.program.specs.Families.{family_of, family_of_word, is_board, is_check, is_follow, is_judge, is_of_frames, is_sweep};
 
 use crate::family::Family;
 
@@ -30,6 +30,15 @@ fn family_of_word(word: &str) -> Family
     if is_sweep(word) {
         return Family::OfSweep;
     }
+    if is_check(word) {
+        return Family::OfCheck;
+    }
+    if is_judge(word) {
+        return Family::OfJudge;
+    }
+    if is_board(word) {
+        return Family::OfBoard;
+    }
     Family::OfRun
 }
 
@@ -51,6 +60,24 @@ fn is_sweep(word: &str) -> bool
     word == "sweep"
 }
 
+fn is_check(word: &str) -> bool
+    ensures { result ≡ is_check word.now }
+{
+    word == "check"
+}
+
+fn is_judge(word: &str) -> bool
+    ensures { result ≡ is_judge word.now }
+{
+    word == "judge"
+}
+
+fn is_board(word: &str) -> bool
+    ensures { result ≡ is_board word.now }
+{
+    word == "board"
+}
+
 /// Whose commands some words are.
 pub fn families_of_words()
     ensures irig { family_of (words_in (codes "irig k.toml --seconds 120")) ≡ OfFrames }
@@ -59,6 +86,9 @@ pub fn families_of_words()
     ensures longer { family_of (words_in (codes "irig-reads f.txt")) ≡ OfRun }
     ensures follow { family_of (words_in (codes "follow k.toml --count 2")) ≡ OfFollow }
     ensures sweep { family_of (words_in (codes "sweep k.toml --workers 2")) ≡ OfSweep }
-    ensures beyond { family_of (words_in (codes "judge sweep")) ≡ OfRun }
+    ensures check { family_of (words_in (codes "check k.toml x.cert")) ≡ OfCheck }
+    ensures board { family_of (words_in (codes "board k.toml q.txt")) ≡ OfBoard }
+    ensures judge { family_of (words_in (codes "judge k.toml s")) ≡ OfJudge }
+    ensures later { family_of (words_in (codes "decode judge")) ≡ OfRun }
     ensures none { family_of [] ≡ OfRun }
 {}

@@ -12,17 +12,17 @@ use machine_files::Machine;
 use std::alloc::Global;
 use std::process::ExitCode;
 use std::rt::Clock;
+use std::sync::Wait;
 use std::thread::Threads;
 
 /// The exit code of the program for this command line, over this machine.
-pub fn end<R: Threads + Sync, C: CommandLine, M: Machine, E: Eprint, S: Clock + Eprint + Sync>(
-    rt: &R,
-    alloc: Global,
-    line: &C,
-    machine: M,
-    error: &E,
-    progress: &Progress<'_, S>,
-) -> ExitCode
+pub fn end<
+    R: Threads + Wait + Sync,
+    C: CommandLine,
+    M: Machine,
+    E: Eprint,
+    S: Clock + Eprint + Sync,
+>(rt: &R, alloc: Global, line: &C, machine: M, error: &E, progress: &Progress<'_, S>) -> ExitCode
     ensures { (disk : Disk) × (failures : ℕ) × Ends (C.given line.now) (M.disk machine) disk failures (exit_status result) }
 {
     let ended = status(rt, alloc, line, machine, error, progress);
@@ -30,14 +30,13 @@ pub fn end<R: Threads + Sync, C: CommandLine, M: Machine, E: Eprint, S: Clock + 
 }
 
 /// Runs the words of the command line over the machine. Where these can't be had, nothing is run, and standard error says why.
-pub fn status<R: Threads + Sync, C: CommandLine, M: Machine, E: Eprint, S: Clock + Eprint + Sync>(
-    rt: &R,
-    alloc: Global,
-    line: &C,
-    machine: M,
-    error: &E,
-    progress: &Progress<'_, S>,
-) -> Ended<M>
+pub fn status<
+    R: Threads + Wait + Sync,
+    C: CommandLine,
+    M: Machine,
+    E: Eprint,
+    S: Clock + Eprint + Sync,
+>(rt: &R, alloc: Global, line: &C, machine: M, error: &E, progress: &Progress<'_, S>) -> Ended<M>
     ensures { Ends (C.given line.now) (M.disk machine) (M.disk result.machine) (M.failures result.machine) result.status }
 {
     match words(alloc, line) {

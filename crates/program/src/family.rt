@@ -12,4 +12,10 @@ pub enum Family {
     OfFollow,
     /// That of a decode over several phases: `sweep`.
     OfSweep,
+    /// That of a certificate's check: `check`.
+    OfCheck,
+    /// That of the judgement of a sweep's certificates: `judge`.
+    OfJudge,
+    /// That of a board which askers ask while windows are decoded: `board`.
+    OfBoard,
 }

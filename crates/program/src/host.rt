@@ -6,15 +6,15 @@ use crate::machine::HostMachine;
 use crate::progress::Progress;
 use std::process::ExitCode;
 use std::rt::Clock;
+use std::sync::Wait;
 use std::thread::Threads;
 use std::{fs, rt};
 
 /// The exit code of the program for the host's command line, over the host's files. How far a search has come is shown where
 /// standard error is a terminal.
-pub fn run_on<R: Threads + Clock + rt::Files + rt::Env + Print + Eprint + AllocGlobal + Sync>(
-    rt: &R,
-    error_is_terminal: bool,
-) -> ExitCode {
+pub fn run_on<
+    R: Threads + Wait + Clock + rt::Files + rt::Env + Print + Eprint + AllocGlobal + Sync,
+>(rt: &R, error_is_terminal: bool) -> ExitCode {
     let _held = (hold(rt), hold(rt), hold(rt));
     let progress = Progress::new(rt, error_is_terminal);
     end(

@@ -1,5 +1,6 @@
-//! The program but for its `main`: it hands its words and the machine's files to `bank`, `frame_runs`, `follow` or `sweep`, and ends
-//! with the status that is answered. Where that is neither an answer nor a refused log, standard error says why.
+//! The program but for its `main`: it hands its words and the machine's files to `bank`, `frame_runs`, `follow`, `sweep`, `checks`,
+//! `judges` or `board`, and ends with the status that is answered. Where that is neither an answer nor a refused log, standard error
+//! says why.
 #![tactic(auto)]
 
 mod command_line;

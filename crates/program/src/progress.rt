@@ -1,6 +1,7 @@
 //! How far a run has come, on standard error. Nothing of it touches the answer.
 
 use crate::messages::Speaker;
+use bank::CertificateGate;
 use follow::WindowGate;
 use std::rt::Clock;
 use std::sync::atomic::{AtomicU64, Ordering};
@@ -38,6 +39,8 @@ pub struct Progress<'a, S: Clock + Eprint> {
     // The same of phases.
     phase: AtomicU64,
     phases: AtomicU64,
+    // How many steps the longest certificate has that was written.
+    steps: AtomicU64,
 }
 
 impl<'a, S: Clock + Eprint> Progress<'a, S> {
@@ -64,7 +67,13 @@ impl<'a, S: Clock + Eprint> Progress<'a, S> {
             windows: AtomicU64::new(0),
             phase: AtomicU64::new(0),
             phases: AtomicU64::new(0),
+            steps: AtomicU64::new(0),
         }
+    }
+
+    /// How many steps the longest certificate has that was written, or 0.
+    pub fn steps(&self) -> u64 {
+        self.steps.load(Ordering::SeqCst)
     }
 
     /// Blanks the line that was shown, if one was, so that what is printed next has a line of its own.
@@ -132,6 +141,12 @@ impl<S: Clock + Eprint> Gate for Progress<'_, S> {
             let name = self.speaker.name();
             let _ = eprint!(self.screen; "\r{name}: {number} items searched");
         }
+    }
+}
+
+impl<S: Clock + Eprint> CertificateGate for Progress<'_, S> {
+    fn wrote(&self, steps: u64) {
+        self.steps.fetch_max(steps, Ordering::SeqCst);
     }
 }
 

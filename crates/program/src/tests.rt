@@ -2,12 +2,13 @@
 use crate::command_line::{HostLine, NoWords};
 use crate::fake::{Fake, holds};
 use crate::machine::HostMachine;
-use crate::messages::{Speaker, explain, explain_no_words};
+use crate::messages::{Speaker, explain, explain_no_words, explain_steps};
 use crate::progress::Progress;
 use crate::running::answer;
 use bank_files::MemoryFiles;
 use due::Status;
 use std::rt::Clock;
+use std::sync::Wait;
 use std::test::Fail;
 use std::thread::Threads;
 use workers::NoGate;
@@ -16,12 +17,12 @@ use workers::NoGate;
 const AMPLE: usize = 1000;
 
 // The status of a run over this machine.
-fn status<R: Threads + Clock + Eprint + Sync>(rt: &R, fake: &Fake<'_>) -> u8 {
+fn status<R: Threads + Wait + Clock + Eprint + Sync>(rt: &R, fake: &Fake<'_>) -> u8 {
     status_shown(rt, fake, &Progress::new(rt, false))
 }
 
 // The same, and progress is shown.
-fn status_shown<R: Threads + Sync, S: Clock + Eprint + Sync>(
+fn status_shown<R: Threads + Wait + Sync, S: Clock + Eprint + Sync>(
     rt: &R,
     fake: &Fake<'_>,
     progress: &Progress<'_, S>,
@@ -32,7 +33,7 @@ fn status_shown<R: Threads + Sync, S: Clock + Eprint + Sync>(
 }
 
 const USAGE: &str =
-    "usage: tsbank decode CONFIG [--start N] [--seconds N] [--from MINUTE] [--to MINUTE] [--workers N] [--certificate FILE]\n       tsbank feed CONFIG [the options of decode but the last]\n       tsbank encode STATION MINUTE [--leap 0|1]\n       tsbank trial NUMBER [--workers N]\n       tsbank irig CONFIG [the options of feed]\n       tsbank irig-read FILE\n       tsbank follow CONFIG [the options of feed] [--step N] [--count N]\n       tsbank sweep CONFIG [the options of feed]\n  CONFIG     the path of the configuration, which doesn't begin with -\n  STATION    dcf77, msf, wwvb or jjy\n  MINUTE     a UTC minute, YYYY-MM-DDThh:mmZ, from 2000-01-01T00:00Z to 2099-12-31T23:59Z\n  FILE       the path of a file, which doesn't begin with -\n  NUMBER     the number of the trial, from 0 to 4294967295\n  --start    the first millisecond of the window, from 0 to 999999999999; else where the logs begin\n  --seconds  the length of the window, from 60 to 1200; else 180\n  --from     the first minute in which the window may begin; else the first of the century\n  --to       the last of these minutes; else the last of the century\n  --workers  how many workers search, from 1 to 8; else 4\n  --certificate  the file to which the certificate of the answer is written; else none is\n  --leap     1 where a leap second is announced; else 0\n  --step     how many seconds each window starts after the one before, from 1 to 1200; else 60\n  --count    how many windows are decoded, from 1 to 1000; else 10\n";
+    "usage: tsbank decode CONFIG [--start N] [--seconds N] [--from MINUTE] [--to MINUTE] [--workers N] [--certificate FILE]\n       tsbank check CONFIG CERTIFICATE [--start N] [--seconds N] [--from MINUTE] [--to MINUTE]\n       tsbank feed CONFIG [the options of decode but the last]\n       tsbank encode STATION MINUTE [--leap 0|1]\n       tsbank trial NUMBER [--workers N]\n       tsbank irig CONFIG [the options of feed]\n       tsbank irig-read FILE\n       tsbank follow CONFIG [the options of feed] [--step N] [--count N]\n       tsbank sweep CONFIG [the options of decode]\n       tsbank judge CONFIG NAME [the options of check]\n       tsbank board CONFIG QUERIES [the options of follow] [--readers N]\n  CONFIG     the path of the configuration, which doesn't begin with -\n  CERTIFICATE  the path of a certificate, which doesn't begin with -\n  STATION    dcf77, msf, wwvb or jjy\n  MINUTE     a UTC minute, YYYY-MM-DDThh:mmZ, from 2000-01-01T00:00Z to 2099-12-31T23:59Z\n  FILE       the path of a file, which doesn't begin with -\n  NAME       how the paths of certificates begin, which doesn't begin with -: a dot and an offset stand behind it\n  QUERIES    the path of a file of milliseconds, one on each line, which doesn't begin with -\n  NUMBER     the number of the trial, from 0 to 4294967295\n  --start    the first millisecond of the window, from 0 to 999999999999; else where the logs begin\n  --seconds  the length of the window, from 60 to 1200; else 180\n  --from     the first minute in which the window may begin; else the first of the century\n  --to       the last of these minutes; else the last of the century\n  --workers  how many workers search, from 1 to 8; else 4\n  --certificate  the file to which the certificate of the answer is written; else none is\n  --leap     1 where a leap second is announced; else 0\n  --step     how many seconds each window starts after the one before, from 1 to 1200; else 60\n  --count    how many windows are decoded, from 1 to 1000; else 10\n  --readers  how many readers ask, from 1 to 4; else 2\n";
 
 // The minute as WWVB sends it.
 const LISTING: &str =
@@ -59,7 +60,7 @@ fn refuses_words(rt: HostRuntime) {
             "words: usage\n",
         ),
         (
-            [b"tsbank".as_slice(), b"check", b"/dev/null", b"/dev/null"].as_slice(),
+            [b"tsbank".as_slice(), b"check", b"/dev/null"].as_slice(),
             "words: usage\n",
         ),
         ([b"tsbank".as_slice(), b"irig"].as_slice(), "words: usage\n"),
@@ -113,6 +114,20 @@ fn ends_without_memory_for_its_words(rt: HostRuntime) {
 }
 
 #[test]
+fn tells_of_a_certificate_that_no_check_takes(rt: HostRuntime) {
+    let fake = Fake::new(&rt, &[], AMPLE);
+    explain_steps(&fake, 2_000_000);
+    assert!(rt; holds(&fake.error, ""));
+    explain_steps(&fake, 2_000_001);
+    assert!(rt;
+        holds(
+            &fake.error,
+            "tsbank: a certificate has 2000001 steps, and check refuses more than 2000000: a narrower range, a second receiver or a lower ceiling makes fewer\n"
+        )
+    );
+}
+
+#[test]
 fn lists_and_is_silent(rt: HostRuntime) {
     let words = [
         b"tsbank".as_slice(),
@@ -146,16 +161,21 @@ fn refuses_an_empty_configuration(rt: HostRuntime) {
     }
 }
 
-// Whether a run of these words over a log in which nothing was heard ends with 1, and prints this text.
-fn ends_undecided<R: Threads + Sync + AllocGlobal>(
+// Whether a run of these words over a log in which nothing was heard, two certificates without a byte and one query ends with this
+// status, and prints this text.
+fn ends<R: Threads + Wait + Sync + AllocGlobal>(
     rt: &R,
     line: &str,
+    status: u8,
     text: &str,
 ) -> Result<bool, Fail> {
     let mut files = MemoryFiles::make(rt.alloc());
     let config = b"station = \"jjy\"\n[[receiver]]\nname = \"a\"\nlog = \"a.log\"\n";
     files.put("k.toml", config)?;
     files.put("a.log", b"")?;
+    files.put("x.cert", b"")?;
+    files.put("x.5", b"")?;
+    files.put("q.txt", b"0\n")?;
     let mut words = Vec::new(rt.alloc());
     for word in line.split(' ') {
         words.push(word.to_string(rt.alloc())?)?;
@@ -164,13 +184,13 @@ fn ends_undecided<R: Threads + Sync + AllocGlobal>(
     let printed = files
         .contents("-")
         .is_some_and(|found| found == text.as_bytes());
-    Ok(ended == 1 && printed)
+    Ok(ended == status && printed)
 }
 
 #[test]
 fn follows_a_log_in_memory(rt: HostRuntime) -> Result<(), Fail> {
     let line = "follow k.toml --count 2 --to 2000-01-01T00:59Z";
-    assert!(rt; ends_undecided(&rt, line, FOLLOWED)?);
+    assert!(rt; ends(&rt, line, 1, FOLLOWED)?);
     Ok(())
 }
 
@@ -178,7 +198,30 @@ fn follows_a_log_in_memory(rt: HostRuntime) -> Result<(), Fail> {
 #[test]
 fn sweeps_a_log_in_memory(rt: HostRuntime) -> Result<(), Fail> {
     let line = "sweep k.toml --to 2000-01-01T00:59Z";
-    assert!(rt; ends_undecided(&rt, line, SWEPT)?);
+    assert!(rt; ends(&rt, line, 1, SWEPT)?);
+    Ok(())
+}
+
+#[test]
+fn checks_a_certificate_in_memory(rt: HostRuntime) -> Result<(), Fail> {
+    let line = "check k.toml x.cert";
+    assert!(rt; ends(&rt, line, 8, "certificate: line 1: shape\n")?);
+    Ok(())
+}
+
+// Where nothing was heard the phase of a decode is 0, so that the first certificate is that of offset 5.
+#[test]
+fn judges_certificates_in_memory(rt: HostRuntime) -> Result<(), Fail> {
+    let line = "judge k.toml x";
+    assert!(rt; ends(&rt, line, 8, "certificate 5: line 1: shape\n")?);
+    Ok(())
+}
+
+#[test]
+fn asks_a_board_in_memory(rt: HostRuntime) -> Result<(), Fail> {
+    let line = "board k.toml q.txt --count 2 --to 2000-01-01T00:59Z";
+    let text = "live 0 unknown of 0\nat 0 unknown\n";
+    assert!(rt; ends(&rt, line, 0, text)?);
     Ok(())
 }
 

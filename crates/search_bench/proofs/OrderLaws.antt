@@ -2,17 +2,11 @@
 use Rattle.std.proofs.Common.{◌≡◌, List, IsPermutation, sym, subst}
 use Rattle.std.specs.List.{AllByRecursion}
 use Rattle.std.proofs.lemmas.List.Elements.{All-from_recursion, recursion_from_All}
-use Rattle.std.proofs.lemmas.List.Sorted.{All-permutation, IsPermutation-trans}
+use Rattle.std.proofs.lemmas.List.Sorted.{All-permutation}
 use Rattle.signal_base.specs.declared.window.Window.{Window}
 use Rattle.definitions.specs.declared.block.Block.{Block}
 use Rattle.definitions.specs.answers.Blocks.{IsBlock, items}
 use Rattle.workers.specs.Searches.{AreItemsOf}
-
--- a list that was put in another order twice
-pub reordered : (ws xs vs ys zs : List Block) → xs ≡ ws → IsPermutation xs vs → ys ≡ vs → IsPermutation ys zs → IsPermutation ws zs
-reordered ws xs vs ys zs copied first again second =
-    subst (λ (list : List Block). IsPermutation list zs) copied
-    (IsPermutation-trans xs vs zs first (subst (λ (list : List Block). IsPermutation list zs) again second))
 
 -- the items in another order are the items still
 pub still_items : (window other : Window) (ws zs : List Block) → other ≡ window → ws ≡ items window → IsPermutation ws zs → AreItemsOf other zs

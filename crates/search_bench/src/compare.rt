@@ -1,8 +1,10 @@
 //! The quick answers of a search compared with the plain ones, over windows and blocks by chance.
 
-ghost use Rattle.std.specs.Prelude.{◌≤◌, length};
+ghost use Rattle.std.specs.Prelude.{◌≡◌, ◌≤◌, length};
 ghost use Rattle.definitions.specs.answers.Blocks.{IsBlock};
 ghost use Rattle.definitions.specs.sequences.Walks.{IsSequence};
+ghost use Rattle.definitions.specs.sequences.Windows.{IsWindow};
+ghost use Rattle.field_tables.specs.Grids.{AreGrids};
 ghost use Rattle.formats.specs.OrderRanges.{IsAsked};
 ghost use Rattle.signal_base.specs.declared.limits.TheConstants.{MOST_RECEIVERS};
 
@@ -22,12 +24,13 @@ use bank::{grids_of, window_of};
 use bounds::{Bounded, bound, items};
 use civil::Civil;
 use definitions::{Block, MINUTES_PER_DAY, Sequence};
-use field_tables::Tables;
+use field_tables::{Tables, parts_of};
 use formats::Asked;
 use plain_costs::plain_cost;
 use sequence::{legal, walkable};
-use signal_base::Station;
+use signal_base::{Station, Window};
 use std::alloc::Global;
+use symbol_cost::CostGrid;
 
 // So many blocks are drawn for a window. Those are left out whose sequences have more slots together than are left of so
 // many.
@@ -170,14 +173,33 @@ fn compare_window(
     let bank = noisy_bank(alloc, chance, stations, asked.seconds)?;
     let window = window_of(&bank, asked);
     let grids = grids_of(alloc, &bank, &window)?;
-    let tables = Tables::make(alloc, &grids, civil, &window)?;
+    let parts = parts_of(alloc, civil, &window)?;
+    let tables = Tables::make(alloc, &parts, &grids, civil, &window)?;
+    tally.count_window();
+    compare_by(alloc, civil, &grids, &tables, window, chance, extent, tally)
+}
+
+// The same by the tables of the window.
+fn compare_by(
+    alloc: Global,
+    civil: &Civil,
+    grids: &[CostGrid],
+    tables: &Tables,
+    window: Window,
+    chance: &mut Chance,
+    extent: Extent,
+    tally: &mut Tally,
+) -> Result<(), Fault>
+    requires window { IsWindow window }
+    requires grids { AreGrids window grids.now }
+    requires tables { tables.now.window ≡ window }
+{
     let case = Case {
         civil,
-        grids: &grids,
-        tables: &tables,
+        grids,
+        tables,
         window,
     };
-    tally.count_window();
     match extent {
         Extent::Parts => compare_parts(alloc, &case, chance, tally),
         Extent::Year => compare_year(alloc, &case, chance, tally),

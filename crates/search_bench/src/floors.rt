@@ -13,6 +13,7 @@ use crate::floor_tally::FloorTally;
 use crate::plain::least_cost;
 use bounds::items;
 use definitions::Block;
+use signal_base::GREATEST_COST;
 use std::alloc::Global;
 
 // So many days are drawn for a window. Those are left out whose sequences have more slots together than are left of so many.
@@ -47,7 +48,7 @@ fn compare_floor(case: &Case, day: &Block, tally: &mut FloorTally) -> Result<(),
     requires block { IsBlock case.now.window day.now }
     requires day { day.now.span ≡ Day }
 {
-    let floor = case.tables.floor(day);
+    let floor = case.tables.floor(day, GREATEST_COST);
     let least = least_cost(case, day);
     tally.count(day, floor, least);
     judge(day, floor, least)

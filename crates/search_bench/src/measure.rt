@@ -1,6 +1,8 @@
 //! A measurement of the search of a window.
 
-ghost use Rattle.std.specs.Prelude.{IfOk};
+ghost use Rattle.std.specs.Prelude.{◌≡◌, IfOk};
+ghost use Rattle.definitions.specs.sequences.Windows.{IsWindow};
+ghost use Rattle.field_tables.specs.Grids.{AreGrids};
 ghost use Rattle.formats.specs.OrderRanges.{IsAsked};
 
 use crate::case::Case;
@@ -13,12 +15,13 @@ use crate::times::{nanoseconds, tell};
 use bank::{grids_of, window_of};
 use civil::Civil;
 use definitions::CENTURY_MINUTES;
-use field_tables::Tables;
+use field_tables::{Tables, parts_of};
 use formats::Asked;
-use signal_base::{LEAST_SECONDS, MOST_SECONDS};
+use signal_base::{LEAST_SECONDS, MOST_SECONDS, Window};
 use std::rt::{Clock, Files};
 use std::thread::Threads;
 use std::time::Instant;
+use symbol_cost::CostGrid;
 
 /// Searches the window that the words ask for, as `180 0 52596000 jjy=a.log`: so many seconds, the first minute of the range
 /// and its end, and the receivers. Prints what was measured, a name and a number a line.
@@ -35,19 +38,37 @@ pub fn measure<R: Threads + Sync + Clock + Files + Print + AllocGlobal>(
     let window = window_of(&bank, &asked);
     let grids = grids_of(rt.alloc(), &bank, &window)?;
     let begin = Instant::now(rt)?;
-    let tables = Tables::make_with_days(rt.alloc(), &grids, &civil, &window)?;
-    tell(rt, "tables_ns", nanoseconds(rt, begin)?)?;
+    let parts = parts_of(rt.alloc(), &civil, &window)?;
+    tell(rt, "parts_ns", nanoseconds(rt, begin)?)?;
     let begin = Instant::now(rt)?;
-    let order = search_order(rt.alloc(), &civil, &tables, &window)?;
+    let tables = Tables::make_with_days(rt.alloc(), &parts, &grids, &civil, &window)?;
+    tell(rt, "tables_ns", nanoseconds(rt, begin)?)?;
+    measure_by(rt, &civil, &grids, &tables, window)
+}
+
+// Measures the order of a window's items, its bounds and its search, by its tables.
+fn measure_by<R: Threads + Sync + Clock + Files + Print + AllocGlobal>(
+    rt: &R,
+    civil: &Civil,
+    grids: &[CostGrid],
+    tables: &Tables,
+    window: Window,
+) -> Result<(), Fault>
+    requires window { IsWindow window }
+    requires grids { AreGrids window grids.now }
+    requires tables { tables.now.window ≡ window }
+{
+    let begin = Instant::now(rt)?;
+    let order = search_order(rt.alloc(), civil, tables, &window)?;
     tell(rt, "order_ns", nanoseconds(rt, begin)?)?;
     let case = Case {
-        civil: &civil,
-        grids: &grids,
-        tables: &tables,
+        civil,
+        grids,
+        tables,
         window,
     };
     measure_bounds(rt, &case, &order)?;
-    measure_search(rt, &tables, &order)
+    measure_search(rt, tables, &order)
 }
 
 // Which window the words ask for.

@@ -6,14 +6,14 @@ ghost use Rattle.definitions.specs.answers.Blocks.{IsBlock};
 ghost use Rattle.definitions.specs.sequences.Windows.{IsWindow};
 ghost use Rattle.workers.specs.Searches.{AreItemsOf};
 
-use bounds::{ItemsFault, announced_last, items, ranked};
+use bounds::{ItemsFault, announced_last, items};
 use civil::Civil;
 use definitions::Block;
 use field_tables::Tables;
 use signal_base::Window;
 use std::alloc::Global;
 
-/// The items of the window, the least bounds first, and those that announce a leap second after all others.
+/// The items of the window, the least bounds first, and those that announce a leap second after all others, as they are listed.
 pub fn search_order(
     alloc: Global,
     civil: &Civil,
@@ -26,6 +26,5 @@ pub fn search_order(
     ensures blocks { IfOk result (λ list. AllByRecursion (IsBlock tables.now.window) list.items) }
 {
     let items = items(alloc, civil, window)?;
-    let ranked = ranked(alloc, tables, &items)?;
-    announced_last(alloc, &ranked)
+    announced_last(alloc, tables, &items)
 }

@@ -10,7 +10,7 @@ use crate::receivers::{Receivers, plain_tuning};
 use bank::{Bank, grids_of, window_of};
 use civil::Civil;
 use definitions::{CENTURY_MINUTES, Sequence};
-use field_tables::Tables;
+use field_tables::{Tables, parts_of};
 use formats::Asked;
 use pulse_log::read_log;
 use signal_base::{MOST_SECONDS, Station};
@@ -32,7 +32,8 @@ pub fn costly_silence(alloc: Global, station: Station) -> Result<u32, Fault> {
     let civil = Civil::make(alloc)?;
     let window = window_of(&bank, &asked);
     let grids = grids_of(alloc, &bank, &window)?;
-    let tables = Tables::make(alloc, &grids, &civil, &window)?;
+    let parts = parts_of(alloc, &civil, &window)?;
+    let tables = Tables::make(alloc, &parts, &grids, &civil, &window)?;
     let mut costly = 0u32;
     for first in 0..MINUTES {
         if !costs_nothing(&tables, first) {

@@ -1,5 +1,6 @@
 pub mod ColumnLaws
 pub mod GroupLaws
+pub mod HourLaws
 pub mod LayerLaws
 pub mod MarkLaws
 pub mod MinuteLaws

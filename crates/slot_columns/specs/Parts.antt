@@ -10,6 +10,10 @@ use Rattle.symbol_cost.specs.Grid.{Grid, cost_at}
 use Rattle.symbol_cost.specs.declared.limits.TheConstants.{RECEIVER_COST}
 use Rattle.slot_columns.specs.declared.limits.TheConstants.{SECONDS_PER_MINUTE}
 
+-- what a set in each slot costs a station over n slots
+abbrev pub sets_cost : Station → (ℕ → ℕ → ℕ) → ℕ → List ℕ → ℕ
+sets_cost station costs n sets = sum_below n (λ k. set_cost station (costs k) (slice_index sets k))
+
 -- the set of slot k where walk minute 0 carries one part, and each later minute another
 abbrev pub layered_set : ℕ → List ℕ → List ℕ → ℕ → ℕ
 layered_set p first rest k =

@@ -5,13 +5,13 @@ ghost use Rattle.signal_base.specs.declared.limits.TheConstants.{MOST_RECEIVERS,
 ghost use Rattle.definitions.specs.heard.Costs.{set_cost};
 ghost use Rattle.symbol_cost.specs.Grid.{HasCosts, cost_at};
 ghost use Rattle.symbol_cost.specs.declared.limits.TheConstants.{RECEIVER_COST};
-ghost use Rattle.slot_columns.specs.Parts.{layered_cost, minute_cost, most_cost};
+ghost use Rattle.slot_columns.specs.Parts.{layered_cost, minute_cost, most_cost, sets_cost};
 
 use crate::limits::SECONDS_PER_MINUTE;
 use crate::part::Part;
 use crate::slots::{Row, SlotCosts};
 use crate::tables::{first_columns, later_columns, sum_of_columns};
-use signal_base::Station;
+use signal_base::{MOST_RECEIVERS, MOST_SECONDS, Station};
 use std::alloc::{AllocError, Global};
 use std::marker::Model;
 use symbol_cost::CostGrid;
@@ -84,6 +84,30 @@ impl SlotColumns {
         ensures bound { result ≤ self.now.receivers * RECEIVER_COST }
     {
         self.slots.cost(slot as usize, set)
+    }
+
+    // The same by a look-up, whichever set it is.
+    #[inline(always)]
+    fn looked_up(&self, slot: u16, set: u8) -> u32
+        requires { slot < length self.now.rows }
+        ensures cost { result ≡ set_cost self.now.station (cost_at self.now.rows slot) set }
+        ensures bound { result ≤ self.now.receivers * RECEIVER_COST }
+    {
+        self.slots.looked_up(slot as usize, set)
+    }
+
+    /// What a set in each slot costs. It is at most 200,000 for each slot and receiver.
+    pub fn sets_cost(&self, sets: &[u8; MOST_SECONDS as usize]) -> u32
+        ensures cost { result ≡ sets_cost self.now.station (cost_at self.now.rows) (length self.now.rows) sets.now }
+        ensures bound { result ≤ most_cost self.now }
+    {
+        // No columns are made of more, so that no sum is too large.
+        prove!(self.receivers() as usize <= MOST_RECEIVERS);
+        let mut cost = 0;
+        for slot in 0..self.seconds() {
+            cost += self.looked_up(slot, sets[slot as usize]);
+        }
+        cost
     }
 
     /// What the window costs where the walk begins in second `p` of a minute, below 60, that minute carries the one part

@@ -1,13 +1,13 @@
 //! What each second carries minute by minute through a day.
 
-ghost use Rattle.std.specs.Prelude.{◌≡◌, ◌<◌, ◌%◌, [], ℕ, IfOk, false, length, slice_index, slice_index_or};
+ghost use Rattle.std.specs.Prelude.{◌≡◌, ◌<◌, ◌%◌, [], ℕ, IfOk, false, length, slice_index, slice_index_or, true};
 ghost use Rattle.definitions.specs.time.Calendar.{minutes_per_day};
 ghost use Rattle.slot_columns.specs.declared.limits.TheConstants.{SETS};
 ghost use Rattle.slot_columns.specs.Days.{AreDayColumns, AreOfDay};
 ghost use Rattle.slot_columns.specs.Parts.{entry};
 ghost use Rattle.slot_columns.specs.Rows.{index_of};
 
-use crate::limits::{DAY_MINUTES, REACHED_MINUTES, SECONDS_PER_MINUTE};
+use crate::limits::{DAY_MINUTES, HOUR_MINUTES, REACHED_MINUTES, SECONDS_PER_MINUTE};
 use crate::part::Part;
 use crate::slots::index_of;
 use std::alloc::{AllocError, Global};
@@ -22,6 +22,7 @@ pub type DayColumn = [u8; REACHED_MINUTES];
 pub struct Day {
     columns: Vec<DayColumn>,
     used: [bool; SECONDS_PER_MINUTE],
+    hourly: [bool; SECONDS_PER_MINUTE],
 }
 
 impl Model for Day {
@@ -32,7 +33,7 @@ impl Model for Day {
 
     ghost view = { λ d. d.columns.items };
 
-    ghost invariant = { λ d. AreDayColumns d.columns.items d.used };
+    ghost invariant = { λ d. AreDayColumns d.columns.items d.used d.hourly };
 }
 
 impl Day {
@@ -43,12 +44,18 @@ impl Day {
     {
         let mut columns = Vec::with_capacity(alloc, SECONDS_PER_MINUTE)?;
         let mut used = [false; SECONDS_PER_MINUTE];
+        let mut hourly = [false; SECONDS_PER_MINUTE];
         for s in 0..SECONDS_PER_MINUTE {
             let column = column_of(times, s);
             used[s] = is_used(&column);
+            hourly[s] = is_hourly(&column);
             columns.push(column)?;
         }
-        Ok(Day { columns, used })
+        Ok(Day {
+            columns,
+            used,
+            hourly,
+        })
     }
 
     /// What a second carries.
@@ -66,6 +73,14 @@ impl Day {
         ensures { result ≡ false → (i : ℕ) → i < REACHED_MINUTES → entry self.now s i ≡ 0 }
     {
         self.used[s]
+    }
+
+    /// Whether a second is known to carry the same in each hour, minute by minute.
+    pub fn is_hourly(&self, s: usize) -> bool
+        requires { s < SECONDS_PER_MINUTE }
+        ensures { result ≡ true → (i : ℕ) → i < REACHED_MINUTES → entry self.now s i ≡ entry self.now s (i % HOUR_MINUTES) }
+    {
+        self.hourly[s]
     }
 }
 
@@ -88,4 +103,16 @@ fn is_used(column: &DayColumn) -> bool
     ensures { result ≡ false → (i : ℕ) → i < REACHED_MINUTES → slice_index column.now i ≡ 0 }
 {
     column.iter().any(|index| *index != 0)
+}
+
+// Whether the column begins again with each hour.
+fn is_hourly(column: &DayColumn) -> bool
+    ensures { result ≡ true → (i : ℕ) → i < REACHED_MINUTES → slice_index column.now i ≡ slice_index column.now (i % HOUR_MINUTES) }
+{
+    for i in 0..REACHED_MINUTES {
+        if column[i] != column[i % HOUR_MINUTES] {
+            return false;
+        }
+    }
+    true
 }

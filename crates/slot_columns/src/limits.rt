@@ -1,6 +1,6 @@
 //! How large the tables are.
 
-use definitions::MINUTES_PER_DAY;
+use definitions::{MINUTES_PER_DAY, MINUTES_PER_HOUR};
 
 /// The seconds of a minute, but for one that a leap second ends.
 pub const SECONDS_PER_MINUTE: usize = 60;
@@ -16,6 +16,9 @@ pub(crate) const COLUMNS: usize = SECONDS_PER_MINUTE * SECONDS_PER_MINUTE;
 
 /// The minutes of a day, as a length.
 pub(crate) const DAY_MINUTES: usize = MINUTES_PER_DAY as usize;
+
+/// The minutes of an hour, as a length.
+pub(crate) const HOUR_MINUTES: usize = MINUTES_PER_HOUR as usize;
 
 /// The minutes of a day, and after them those that a walk from the day's last minute may reach.
 pub(crate) const REACHED_MINUTES: usize = DAY_MINUTES + LATER_MINUTES;

@@ -1,5 +1,5 @@
 -- What a search by grids finds at an offset.
-use Rattle.std.proofs.Common.{◌≡◌, ℕ, List, Option, sym, subst, arith}
+use Rattle.std.proofs.Common.{◌≡◌, ℕ, Option, subst, arith}
 use Rattle.signal_base.specs.declared.window.Window.{Window}
 use Rattle.definitions.specs.declared.sequence.Sequence.{Sequence}
 use Rattle.definitions.specs.answers.FirstTwo.{AreLeastTwo, IsWindowKey}

@@ -6,3 +6,8 @@ pub mod SweptLaws
 pub mod FoundLaws
 pub mod RefusalLaws
 pub mod ExactLaws
+pub mod WritingLaws
+pub mod KeptLaws
+pub mod DeliverLaws
+pub mod CertifiedLaws
+pub mod CertifyLaws

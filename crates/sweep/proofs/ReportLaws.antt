@@ -1,14 +1,11 @@
 -- What stands after all searches can be reported.
-use Rattle.std.proofs.Common.{◌≡◌, ℕ, ◌<◌, ◌≤◌, List, sym, ap, ◌∙◌, subst}
+use Rattle.std.proofs.Common.{◌≡◌, List, sym, ap, subst}
 use Rattle.signal_base.specs.declared.dut.StationDut.{StationDut}
 use Rattle.signal_base.specs.declared.window.Window.{Window}
 use Rattle.definitions.specs.declared.answer.Answer.{Answer}
 use Rattle.definitions.specs.declared.answer.Answer.TheVariants.{Nothing, Decided, Undecided}
-use Rattle.definitions.specs.declared.sequence.Sequence.{Sequence}
-use Rattle.definitions.specs.sequences.Walks.{IsLegal}
 use Rattle.definitions.specs.sequences.Windows.{IsWindow}
 use Rattle.definitions.proofs.AnswerLaws.{walkable_sequence}
-use Rattle.due.specs.declared.due.Due.{Due}
 use Rattle.due.specs.declared.due.Due.TheVariants.{Report}
 use Rattle.due.specs.Banks.{Bank, duts_of}
 use Rattle.texts.specs.Reportable.{IsReportable}

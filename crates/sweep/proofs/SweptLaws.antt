@@ -1,5 +1,5 @@
 -- What is told of a bank in the order of its stations is told of the bank.
-use Rattle.std.proofs.Common.{◌≡◌, ℕ, ◌≤◌, List, [], ◌∷◌, map, unwrap_or, refl, sym, ap, ◌∙◌, subst}
+use Rattle.std.proofs.Common.{◌≡◌, ℕ, map, unwrap_or, sym, ap, ◌∙◌, subst}
 use Rattle.std.proofs.Math.Path.{fun_ext}
 use Rattle.signal_base.specs.declared.window.Window.{Window}
 use Rattle.definitions.specs.declared.answer.Answer.{Answer}
@@ -10,7 +10,7 @@ use Rattle.definitions.specs.heard.Costs.{Costs, least, sequence_cost}
 use Rattle.definitions.specs.sequences.Walks.{IsLegal}
 use Rattle.due.specs.declared.due.Due.{Due}
 use Rattle.due.specs.declared.due.Due.TheVariants.{Report}
-use Rattle.due.specs.Banks.{Bank, duts_of, ordered}
+use Rattle.due.specs.Banks.{Bank, ordered}
 use Rattle.due.proofs.StationLaws.{same_costs, same_window}
 use Rattle.sweep_due.specs.Phases.{swept_offsets, window_at}
 use Rattle.sweep_due.specs.SweepOrders.{SweepOrder}
@@ -46,7 +46,7 @@ module _ (window : Window) (bank : Bank) where
   told_in_order (Decided cost q next) told is = window_in_order q told is
   told_in_order (Undecided cost q r) told is = window_in_order q told is
 
-  report_in_order : (due : Due) → IsSweepReport window (ordered bank) due → IsSweepReport window bank due
+  pub report_in_order : (due : Due) → IsSweepReport window (ordered bank) due → IsSweepReport window bank due
   report_in_order due is = record {
     answer = is.answer;
     told = is.told;

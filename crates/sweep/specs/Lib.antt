@@ -1,2 +1,4 @@
 pub mod Tasks
 pub mod Turns
+pub mod Keeping
+pub mod Certifying

@@ -1,7 +1,11 @@
 -- The order in which a sweep comes to its offsets.
-use Rattle.std.specs.Prelude.{ℕ, zero, suc, ◌-◌, ◌==◌, nat_le, if◌then◌else◌, List, [], ◌∷◌}
+use Rattle.std.specs.Prelude.{ℕ, zero, suc, get_or, ◌-◌, ◌==◌, nat_le, if◌then◌else◌, List, [], ◌∷◌}
+use Rattle.signal_base.specs.declared.window.Window.{Window}
+use Rattle.due.specs.Banks.{Bank}
 use Rattle.sweep.specs.declared.turns.TheConstants.{MIDDLE}
+use Rattle.sweep_due.specs.declared.standing.Standing.{Standing}
 use Rattle.sweep_due.specs.Phases.{is_swept}
+use Rattle.sweep_due.specs.Searches.{AreAllSwept, IsSearched}
 
 -- The middle one comes first, which is the phase of a decode: where a log is clean its second cost is the lowest ceiling for all
 -- others. They come in their order.
@@ -16,3 +20,12 @@ with_offset phase i earlier = if is_swept phase i then i ∷ earlier else earlie
 abbrev pub offsets_of : ℕ → ℕ → List ℕ
 offsets_of phase zero = []
 offsets_of phase (suc turn) = with_offset phase (offset_at turn) (offsets_of phase turn)
+
+-- the first so many of these, the latest first
+abbrev pub latest_of : List ℕ → ℕ → List ℕ
+latest_of offsets zero = []
+latest_of offsets (suc n) = get_or offsets n 0 ∷ latest_of offsets n
+
+-- this is known after searches at all offsets that are swept, in some order
+abbrev pub IsSweptThrough : Window → Bank → Standing → Type 0
+IsSweptThrough window bank s = (offsets : List ℕ) × AreAllSwept window.phase offsets × IsSearched window bank offsets s

@@ -1,7 +1,9 @@
-//! A run of `sweep` for words that are in order.
+//! A run of `sweep` for words that are in order, where no certificate is written.
 
 ghost use Rattle.bank_words.specs.Seen.{texts_of};
+ghost use Rattle.sweep_due.specs.SweepOwed.{told_alone};
 ghost use Rattle.sweep_due.specs.SweepPlans.{sweep_plan};
+ghost use Rattle.bank.specs.Ending.{over};
 ghost use Rattle.bank.specs.Finding.{CanBeWritten};
 
 use bank::{Job, deliver_due};
@@ -19,7 +21,7 @@ pub struct SweepCommand<'a> {
 impl Job for SweepCommand<'_> {
     type Due = Due;
 
-    ghost plan = { λ command. sweep_plan (texts_of command.words.now) };
+    ghost plan = { λ command. over told_alone (sweep_plan (texts_of command.words.now)) };
 
     ghost can_be_written = { CanBeWritten };
 

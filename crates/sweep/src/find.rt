@@ -3,16 +3,15 @@
 ghost use Rattle.std.specs.Prelude.{◌≡◌, ◌≢◌, Err, IfErr, IfOk, IsErrOf, List, ℕ};
 ghost use Rattle.bank_files.specs.Seen.{OnlyReads, SameCounts};
 ghost use Rattle.definitions.specs.sequences.Windows.{IsWindow};
-ghost use Rattle.sweep_due.specs.declared.offsets.TheConstants.{OFFSETS};
-ghost use Rattle.sweep_due.specs.Searches.{IsSearched};
+ghost use Rattle.sweep_due.specs.SweepOwed.{told_alone};
 ghost use Rattle.sweep_due.specs.SweepPlans.{sweep_plan};
 ghost use Rattle.sweep_due.specs.SweepRules.{IsBankSwept, IsSweepReport};
-ghost use Rattle.bank.specs.Ending.{IsFound, SomeReadFails};
+ghost use Rattle.bank.specs.Ending.{IsFound, SomeReadFails, over};
 ghost use Rattle.bank.specs.Finding.{CanBeWritten};
 ghost use Rattle.bank.specs.Hearing.{IsBank, bank_seen};
 ghost use Rattle.bank.specs.declared.stop.Stop.TheVariants as stops;
 ghost use Rattle.sweep.specs.Tasks.{Asks, IsInRange, order_seen};
-ghost use Rattle.sweep.specs.Turns.{offsets_of};
+ghost use Rattle.sweep.specs.Turns.{IsSweptThrough};
 
 use crate::phase_gate::PhaseGate;
 use crate::phases::{search_phases, told_window};
@@ -38,9 +37,9 @@ pub fn find_due<R: Threads + Sync, F: Files, G: Gate + PhaseGate + Sync>(
     gate: &G,
 ) -> Result<Due, Stop>
     requires { IsInRange task.now }
-    ensures due { IfOk result (λ due. (words : List (List ℕ)) → Asks words task.now → IsFound (sweep_plan words) (F.view files.old) due) }
+    ensures due { IfOk result (λ due. (words : List (List ℕ)) → Asks words task.now → IsFound (over told_alone (sweep_plan words)) (F.view files.old) due) }
     ensures can_be_written { IfOk result CanBeWritten }
-    ensures failed { IsErrOf result Stop.Failed → (words : List (List ℕ)) → Asks words task.now → SomeReadFails (sweep_plan words) (F.view files.old) (F.view files.new) }
+    ensures failed { IsErrOf result Stop.Failed → (words : List (List ℕ)) → Asks words task.now → SomeReadFails (over told_alone (sweep_plan words)) (F.view files.old) (F.view files.new) }
     ensures same_counts { result ≢ Err Stop.Failed → SameCounts (F.view files.old) (F.view files.new) }
     ensures only { OnlyReads (F.view files.old) (F.view files.new) }
 {
@@ -78,8 +77,8 @@ fn sweep_bank<R: Threads + Sync, G: Gate + PhaseGate + Sync>(
     report_of(alloc, civil, bank, &window, standing)
 }
 
-// The report of what stands after all searches.
-fn report_of(
+/// The report of what stands after searches at all offsets that are swept.
+pub fn report_of(
     alloc: Global,
     civil: &Civil,
     bank: &Bank,
@@ -88,7 +87,7 @@ fn report_of(
 ) -> Result<Due, Stop>
     requires bank { IsBank bank.now }
     requires window { IsWindow window.now }
-    requires searched { IsSearched window.now (bank_seen bank.now) (offsets_of window.now.phase OFFSETS) standing }
+    requires searched { IsSweptThrough window.now (bank_seen bank.now) standing }
     ensures reported { IfOk result (IsSweepReport window.now (bank_seen bank.now)) }
     ensures can_be_written { IfOk result CanBeWritten }
     ensures memory { IfErr result (λ stop. stop ≡ stops.NoMemory) }

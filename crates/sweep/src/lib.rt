@@ -1,8 +1,13 @@
 //! The command `sweep` as one call over files: the answer where the phase is a part of what is asked.
 #![tactic(auto)]
 
+#[cfg(test)]
+mod certificate_tests;
+mod certify;
 mod command;
 mod find;
+mod heard;
+mod kept;
 mod phase_gate;
 mod phases;
 mod sweep_run;
@@ -12,4 +17,5 @@ mod turns;
 mod words;
 
 pub use phase_gate::PhaseGate;
+pub use phases::{told_window, window_at};
 pub use sweep_run::sweep;

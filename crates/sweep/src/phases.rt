@@ -3,6 +3,7 @@
 ghost use Rattle.std.specs.Prelude.{◌≡◌, ◌<◌, ◌≤◌, IfErr, IfOk, List, true, ℕ};
 ghost use Rattle.std.specs.Option.{ForSome};
 ghost use Rattle.definitions.specs.sequences.Windows.{IsWindow};
+ghost use Rattle.field_tables.specs.Scopes.{scopes_of};
 ghost use Rattle.sweep_due.specs.declared.offsets.TheConstants.{OFFSETS};
 ghost use Rattle.sweep_due.specs.Phases.{IsSwept, is_swept, window_at};
 ghost use Rattle.sweep_due.specs.Searches.{IsSearched, IsSearchedAt};
@@ -14,9 +15,11 @@ ghost use Rattle.sweep.specs.Turns.{offset_at, offsets_of, with_offset};
 
 use crate::phase_gate::PhaseGate;
 use crate::turns::{count_swept, offset_at};
-use bank::{Bank, Stop, decide, grids_of};
+use bank::{Bank, Stop, decide_by, grids_of};
 use civil::Civil;
-use field_tables::{agreeing_costs_cost_alike, grids_agree_with_their_costs};
+use field_tables::{
+    StationParts, agreeing_costs_cost_alike, grids_agree_with_their_costs, parts_of,
+};
 use sequence::cost_of;
 use signal_base::Window;
 use std::alloc::Global;
@@ -24,7 +27,8 @@ use std::thread::Threads;
 use sweep_due::{OFFSETS, Standing, is_swept, phase_at};
 use workers::Gate;
 
-/// Searches at each offset that is swept, where the window is that of a decode.
+/// Searches at each offset that is swept, where the window is that of a decode. What depends on its stations and its length
+/// alone is made once.
 pub fn search_phases<R: Threads + Sync, G: Gate + PhaseGate + Sync>(
     rt: &R,
     alloc: Global,
@@ -40,10 +44,13 @@ pub fn search_phases<R: Threads + Sync, G: Gate + PhaseGate + Sync>(
     ensures searched { IfOk result (IsSearched window.now (bank_seen bank.now) (offsets_of window.now.phase OFFSETS)) }
     ensures memory { IfErr result (λ stop. stop ≡ NoMemory) }
 {
+    let Ok(parts) = parts_of(alloc, civil, window) else {
+        return Err(Stop::NoMemory);
+    };
     let mut standing = Standing::new();
     for turn in 0..OFFSETS {
         standing = come_to(
-            rt, alloc, civil, bank, window, turn, standing, workers, gate,
+            rt, alloc, civil, &parts, bank, window, turn, standing, workers, gate,
         )?;
     }
     Ok(standing)
@@ -54,6 +61,7 @@ fn come_to<R: Threads + Sync, G: Gate + PhaseGate + Sync>(
     rt: &R,
     alloc: Global,
     civil: &Civil,
+    parts: &[StationParts],
     bank: &Bank,
     window: &Window,
     turn: u8,
@@ -61,6 +69,7 @@ fn come_to<R: Threads + Sync, G: Gate + PhaseGate + Sync>(
     workers: u8,
     gate: &G,
 ) -> Result<Standing, Stop>
+    requires parts { parts.now ≡ scopes_of window.now.stations window.now.seconds }
     requires bank { IsBank bank.now }
     requires window { IsWindow window.now }
     requires turn { turn < OFFSETS }
@@ -74,7 +83,7 @@ fn come_to<R: Threads + Sync, G: Gate + PhaseGate + Sync>(
         let number = count_swept(window.phase, turn) + 1;
         gate.come_to_phase(number, count_swept(window.phase, OFFSETS));
         return search_at(
-            rt, alloc, civil, bank, window, offset, before, workers, gate,
+            rt, alloc, civil, parts, bank, window, offset, before, workers, gate,
         );
     }
     Ok(before)
@@ -85,6 +94,7 @@ fn search_at<R: Threads + Sync, G: Gate + Sync>(
     rt: &R,
     alloc: Global,
     civil: &Civil,
+    parts: &[StationParts],
     bank: &Bank,
     window: &Window,
     offset: u8,
@@ -92,6 +102,7 @@ fn search_at<R: Threads + Sync, G: Gate + Sync>(
     workers: u8,
     gate: &G,
 ) -> Result<Standing, Stop>
+    requires parts { parts.now ≡ scopes_of window.now.stations window.now.seconds }
     requires bank { IsBank bank.now }
     requires window { IsWindow window.now }
     requires offset { offset < OFFSETS }
@@ -105,10 +116,11 @@ fn search_at<R: Threads + Sync, G: Gate + Sync>(
     let moved = window_at(window, offset);
     let grids = grids_of(alloc, bank, &moved)?;
     let ceiling = ceiling_after(bank.ceiling, before);
-    let found = decide(
+    let found = decide_by(
         rt,
         alloc,
         civil,
+        parts,
         grids.as_slice(),
         &moved,
         ceiling,

@@ -4,6 +4,7 @@
 ghost use Rattle.std.specs.Prelude.{◌≤◌};
 
 use crate::{PhaseGate, sweep};
+use bank::CertificateGate;
 use bank_files::{MemoryFiles, OneByte};
 use std::alloc::{AllocError, Global};
 use std::sync::atomic::{AtomicU64, Ordering};
@@ -12,7 +13,7 @@ use std::thread::Threads;
 use workers::{Gate, NoGate};
 
 // The words of a line that parts them by spaces.
-fn words(alloc: Global, line: &str) -> Result<Vec<String>, AllocError> {
+pub fn words(alloc: Global, line: &str) -> Result<Vec<String>, AllocError> {
     let mut words = Vec::new(alloc);
     for word in line.split(' ') {
         words.push(word.to_string(alloc)?)?;
@@ -20,19 +21,19 @@ fn words(alloc: Global, line: &str) -> Result<Vec<String>, AllocError> {
     Ok(words)
 }
 
-fn printed(files: &MemoryFiles, text: &str) -> bool {
+pub fn printed(files: &MemoryFiles, text: &str) -> bool {
     files
         .contents("-")
         .is_some_and(|found| found == text.as_bytes())
 }
 
 // A station with its one receiver, named a, whose log is a.log.
-const JJY: &str = "station = \"jjy\"\n[[receiver]]\nname = \"a\"\nlog = \"a.log\"\n";
+pub const JJY: &str = "station = \"jjy\"\n[[receiver]]\nname = \"a\"\nlog = \"a.log\"\n";
 
 const MSF: &str = "station = \"msf\"\n[[receiver]]\nname = \"a\"\nlog = \"a.log\"\n";
 
 // What is low and high in the ten tenths of a second, by symbol.
-const JJY_WAVES: [(u8, &str); 3] = [
+pub const JJY_WAVES: [(u8, &str); 3] = [
     (b'0', "HHHHHHHHLL"),
     (b'1', "HHHHHLLLLL"),
     (b'M', "HHLLLLLLLL"),
@@ -61,10 +62,10 @@ fn wave_of(waves: &[(u8, &'static str)], symbol: u8) -> &'static str {
 // How late a receiver hears what begins: all of it so many milliseconds, and this level so many more, but for the first
 // record of the log.
 #[derive(Clone, Copy)]
-struct Lag {
-    all: u16,
-    level: u8,
-    more: u16,
+pub struct Lag {
+    pub all: u16,
+    pub level: u8,
+    pub more: u16,
 }
 
 const CLEAN: Lag = Lag {
@@ -74,7 +75,7 @@ const CLEAN: Lag = Lag {
 };
 
 // So JJY's seconds begin late, all but the first, and end in time.
-const LATE_RISES: Lag = Lag {
+pub const LATE_RISES: Lag = Lag {
     all: 0,
     level: b'H',
     more: 30,
@@ -101,7 +102,7 @@ fn time_of(tenth: u64, level: u8, lag: Lag) -> u64
 }
 
 // The log of a receiver without noise that hears these minutes from millisecond 0 on, with a lag.
-fn heard(
+pub fn heard(
     alloc: Global,
     waves: &[(u8, &'static str)],
     minutes: &[&str],
@@ -133,7 +134,7 @@ fn heard(
 }
 
 // A configuration and its log a.log.
-fn files_of(alloc: Global, config: &str, log: &str) -> Result<MemoryFiles, Fail> {
+pub fn files_of(alloc: Global, config: &str, log: &str) -> Result<MemoryFiles, Fail> {
     let mut files = MemoryFiles::make(alloc);
     files.put("k.toml", config.as_bytes())?;
     files.put("a.log", log.as_bytes())?;
@@ -156,12 +157,12 @@ fn tells<R: Threads + Sync + AllocGlobal>(
 }
 
 // The two minutes from 2024-06-10T06:16Z on, as JJY sends them.
-const MINUTES: [&str; 2] = [
+pub const MINUTES: [&str; 2] = [
     "M00100110M000100101M000100110M001000110M000100100M001000000M",
     "M00100111M000100101M000100110M001000100M000100100M001000000M",
 ];
 
-const SWEPT: &str =
+pub const SWEPT: &str =
     "decided 3570\nphase 0\nsequence 2024-06-10T06:16Z 0 no\nnext 4410\nminute 2024-06-10T06:16Z at 0\nminute 2024-06-10T06:17Z at 60000\n";
 
 // Over the whole century. A decode finds the phase 30, and `decided 3600`.
@@ -173,7 +174,7 @@ fn finds_the_better_phase(rt: HostRuntime) -> Result<(), Fail> {
 }
 
 // The hour of the minutes.
-const HOUR: &str = "sweep k.toml --seconds 120 --from 2024-06-10T06:00Z --to 2024-06-10T06:59Z";
+pub const HOUR: &str = "sweep k.toml --seconds 120 --from 2024-06-10T06:00Z --to 2024-06-10T06:59Z";
 
 #[test]
 fn tells_of_a_clean_log_what_a_decode_tells(rt: HostRuntime) -> Result<(), Fail> {
@@ -295,6 +296,10 @@ impl Gate for Steps {
     fn pass(&self, _worker: u32, _number: u64) {}
 }
 
+impl CertificateGate for Steps {
+    fn wrote(&self, _steps: u64) {}
+}
+
 impl PhaseGate for Steps {
     fn come_to_phase(&self, phase: u8, phases: u8) {
         self.count.fetch_add(1, Ordering::SeqCst);
@@ -361,7 +366,10 @@ fn refuses_words(rt: HostRuntime) -> Result<(), Fail> {
         ("sweep k.toml --step 1", "words: usage\n"),
         ("sweep k.toml --seconds 59", "words: bad --seconds\n"),
         ("sweep k.toml --workers 9", "words: bad --workers\n"),
-        ("sweep k.toml --certificate s", "words: usage\n"),
+        (
+            "sweep k.toml --certificate s --seconds 59",
+            "words: bad --seconds\n",
+        ),
         ("judge k.toml s", "words: usage\n"),
         ("follow k.toml", "words: usage\n"),
         ("decode k.toml", "words: usage\n"),

@@ -3,12 +3,12 @@
 ghost use Rattle.std.specs.Prelude.{◌≡◌, Err, IfOk, MatchResult};
 ghost use Rattle.bank_words.specs.Seen.{texts_of};
 ghost use Rattle.sweep_due.specs.SweepOrders.{sweep_order_in};
-ghost use Rattle.sweep.specs.Tasks.{Asks, IsInRange};
+ghost use Rattle.sweep.specs.Tasks.{AsksWork, IsWorkInRange};
 
 use bank_words::{Reach, read_reach};
 use formats::{Asked, WordFault};
 
-/// What is to be done. The file's name is borrowed from the words.
+/// What is to be swept. The file's name is borrowed from the words.
 #[derive(Clone, Copy, Debug)]
 pub struct SweepTask<'a> {
     /// The name of the configuration's file.
@@ -19,10 +19,34 @@ pub struct SweepTask<'a> {
     pub workers: u8,
 }
 
-/// What the words ask for. Words that ask for certificates and words of any other command are refused as usage.
-pub fn task_of(words: &[String]) -> Result<SweepTask<'_>, WordFault>
-    ensures task { MatchResult result (Asks (texts_of words.now)) (λ fault. sweep_order_in (texts_of words.now) ≡ Err fault) }
-    ensures in_range { IfOk result IsInRange }
+/// A sweep that writes certificates.
+#[derive(Clone, Copy, Debug)]
+pub struct SweepCertify<'a> {
+    /// What is to be swept.
+    pub task: SweepTask<'a>,
+    /// How the names of the certificates' files begin. It is borrowed from the words.
+    pub name: &'a str,
+}
+
+/// What is to be done.
+#[derive(Clone, Copy, Debug)]
+pub enum SweepWork<'a> {
+    /// To tell the swept answer.
+    Tell {
+        /// Of what.
+        task: SweepTask<'a>,
+    },
+    /// To write certificates before.
+    Certify {
+        /// Of what.
+        certify: SweepCertify<'a>,
+    },
+}
+
+/// What the words ask for. Words of any other command are refused as usage.
+pub fn work_of(words: &[String]) -> Result<SweepWork<'_>, WordFault>
+    ensures work { MatchResult result (AsksWork (texts_of words.now)) (λ fault. sweep_order_in (texts_of words.now) ≡ Err fault) }
+    ensures in_range { IfOk result IsWorkInRange }
 {
     let order = read_reach(words)?;
     match order {
@@ -31,14 +55,19 @@ pub fn task_of(words: &[String]) -> Result<SweepTask<'_>, WordFault>
             asked,
             workers,
             certificate,
-        } => match certificate {
-            Some(_) => Err(WordFault::Usage),
-            None => Ok(SweepTask {
+        } => {
+            let task = SweepTask {
                 config,
                 asked,
                 workers,
-            }),
-        },
+            };
+            match certificate {
+                Some(name) => Ok(SweepWork::Certify {
+                    certify: SweepCertify { task, name },
+                }),
+                None => Ok(SweepWork::Tell { task }),
+            }
+        }
         Reach::Follow { .. }
         | Reach::Judge { .. }
         | Reach::Board { .. }

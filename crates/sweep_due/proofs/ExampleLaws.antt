@@ -1,5 +1,5 @@
 -- What the examples rest on: what words ask, and costs that are computed.
-use Rattle.std.proofs.Common.{◌≡◌, ℕ, ◌+◌, ◌*◌, ◌≤◌, nat_le, nat_lt, [], ◌∷◌, codes, None, refl, arith}
+use Rattle.std.proofs.Common.{◌≡◌, ℕ, ◌+◌, ◌*◌, ◌≤◌, nat_le, nat_lt, [], ◌∷◌, codes, None, Some, refl, arith}
 use Rattle.std.specs.Fmt.{digits}
 use Rattle.std.proofs.lemmas.Bool.{and_parts, leb-true}
 use Rattle.signal_base.specs.Table.{difference_table}
@@ -13,16 +13,25 @@ use Rattle.formats.specs.WordValues.{number_of}
 use Rattle.sweep_due.specs.declared.offsets.TheConstants.{OFFSET_REACH, OFFSET_STEP, PHASE_LIMIT}
 use Rattle.sweep_due.specs.Examples.{bank_with, costs_at, late_rises, order_of_k, two_seconds}
 use Rattle.sweep_due.specs.Phases.{IsSwept}
+use Rattle.sweep_due.specs.SweepCertificates.{AsksCertificates}
 use Rattle.sweep_due.specs.SweepOrders.{AsksSweep}
 use Rattle.sweep_due.specs.Swept.{cost_at, swept_cost}
 
 pub usual_asks : AsksSweep (words_in (codes "sweep k.toml")) (order_of_k asked_usually)
 unfolding digits number_of
-usual_asks = (4, refl)
+usual_asks = (4, None, refl)
 
 pub own_asks : AsksSweep (words_in (codes "sweep k.toml --seconds 120 --workers 2")) (order_of_k (asked None 120 0 52_596_000))
 unfolding digits number_of
-own_asks = (2, refl)
+own_asks = (2, None, refl)
+
+pub certificates_ask : AsksSweep (words_in (codes "sweep k.toml --certificate s")) (order_of_k asked_usually)
+unfolding digits number_of
+certificates_ask = (4, Some (codes "s"), refl)
+
+pub files_ask : AsksCertificates (words_in (codes "sweep k.toml --certificate s")) (record { config = codes "k.toml"; asked = asked_usually; workers = 4; name = codes "s" })
+unfolding digits number_of
+files_ask = refl
 
 pub each_cost : costs_at (2 ∷ 3 ∷ 4 ∷ 5 ∷ []) ≡ 30 ∷ 40 ∷ 50 ∷ 60 ∷ []
 unfolding sum_below low_count difference_table place_at day_at

@@ -1,6 +1,6 @@
 mod StandingLaws
 mod SweptCostLaws
-mod OffsetLaws
+pub mod OffsetLaws
 pub mod KeysLaws
 mod AnotherLaws
 pub mod SearchLaws
@@ -8,5 +8,6 @@ pub mod AnswerLaws
 pub mod OrderLaws
 pub mod SweepDueLaws
 pub mod SweepReadLaws
+pub mod CertificatesLaws
 mod JudgeLaws
 mod ExampleLaws

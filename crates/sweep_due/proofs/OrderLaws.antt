@@ -1,5 +1,5 @@
 -- What accepted words ask of `sweep`: one thing, in its ranges. Refused words read no file.
-use Rattle.std.proofs.Common.{◌≡◌, ℕ, List, Option, Some, None, Ok, Err, ◌∙◌, ap, subst}
+use Rattle.std.proofs.Common.{◌≡◌, ℕ, List, Option, Ok, Err, ◌∙◌, ap, subst}
 use Rattle.formats.specs.declared.words.Asked.{Asked}
 use Rattle.formats.specs.declared.words.WordFault.{WordFault}
 use Rattle.formats.specs.OrderRanges.{IsAsked}
@@ -13,8 +13,7 @@ use Rattle.sweep_due.specs.SweepRules.{IsSweepRead}
 
 -- an order of `sweep` stays as it is
 kept : (o order : Order) → of_sweep o ≡ Ok order → o ≡ order
-kept (Sweep config asked workers None) order e = cc
-kept (Sweep config asked workers (Some certificate)) order e = absurd cc
+kept (Sweep config asked workers certificate) order e = cc
 kept (Decode config asked workers certificate) order e = absurd cc
 kept (Check config certificate asked) order e = absurd cc
 kept (Feed config asked workers) order e = absurd cc
@@ -35,18 +34,18 @@ is_of_sweep words order e =
 
 -- in its ranges
 pub asked_in_range : (words : List (List ℕ)) (o : SweepOrder) → AsksSweep words o → IsAsked o.asked
-asked_in_range words o (workers, is) =
-    (order_in_range reach_commands words (Sweep o.config o.asked workers None) (is_of_sweep words (Sweep o.config o.asked workers None) is).0).1
+asked_in_range words o (workers, certificate, is) =
+    (order_in_range reach_commands words (Sweep o.config o.asked workers certificate) (is_of_sweep words (Sweep o.config o.asked workers certificate) is).0).1
 
 -- words ask one thing
 abbrev made_of : List ℕ → Asked → SweepOrder
 made_of config asked = record { config = config; asked = asked }
 
-by_fields : (c : Checked Order) (a b : List ℕ) (x y : Asked) (m n : ℕ) → c ≡ Ok (Sweep a x m None) → c ≡ Ok (Sweep b y n None) → made_of a x ≡ made_of b y
-by_fields c a b x y m n e f = cc
+by_fields : (c : Checked Order) (a b : List ℕ) (x y : Asked) (m n : ℕ) (k l : Option (List ℕ)) → c ≡ Ok (Sweep a x m k) → c ≡ Ok (Sweep b y n l) → made_of a x ≡ made_of b y
+by_fields c a b x y m n k l e f = cc
 
 pub one_order : (words : List (List ℕ)) (o p : SweepOrder) → AsksSweep words o → AsksSweep words p → o ≡ p
-one_order words o p asks also = by_fields (sweep_order_in words) o.config p.config o.asked p.asked asks.0 also.0 asks.1 also.1
+one_order words o p asks also = by_fields (sweep_order_in words) o.config p.config o.asked p.asked asks.0 also.0 asks.1 also.1 asks.2 also.2
 
 -- refused words ask nothing, and read nothing
 ok_or_err : (c : Checked Order) (order : Order) (fault : WordFault) → c ≡ Ok order → c ≡ Err fault → ⊥
@@ -55,4 +54,4 @@ ok_or_err c order fault e f = cc
 pub bad_words_read_nothing : (words : List (List ℕ)) (contents : Contents) (fault : WordFault) (input : Input) (file : List ℕ) → sweep_order_in words ≡ Err fault
     → ¬ (IsSweepRead words contents input file)
 bad_words_read_nothing words contents fault input file bad (o, asks, read) =
-    ok_or_err (sweep_order_in words) (Sweep o.config o.asked asks.0 None) fault asks.1 bad
+    ok_or_err (sweep_order_in words) (Sweep o.config o.asked asks.0 asks.1) fault asks.2 bad

@@ -1,6 +1,5 @@
 -- Something is due of `sweep` for all words and contents, and only one thing.
-use Rattle.std.proofs.Common.{◌≡◌, ℕ, ◌<◌, ◌≤◌, ◌⊎◌, inl, inr, List, [], ◌∷◌, Option, Some, None, Ok, Err, refl, sym, ap, ◌∙◌, subst, arith}
-use Rattle.signal_base.specs.declared.dut.StationDut.{StationDut}
+use Rattle.std.proofs.Common.{◌≡◌, ℕ, ◌<◌, ◌≤◌, ◌⊎◌, inl, inr, List, [], ◌∷◌, Ok, Err, refl, sym, ap, ◌∙◌, subst, arith}
 use Rattle.signal_base.specs.declared.window.Window.{Window}
 use Rattle.definitions.specs.declared.answer.Answer.{Answer}
 use Rattle.definitions.specs.declared.answer.Answer.TheVariants as answers
@@ -24,12 +23,12 @@ use Rattle.due.proofs.KeyExistLaws.{window_keys}
 use Rattle.due.proofs.WindowLaws.{phase_in_range}
 use Rattle.sweep_due.specs.declared.offsets.TheConstants.{PHASE_LIMIT}
 use Rattle.sweep_due.specs.declared.standing.Standing.{Standing}
-use Rattle.sweep_due.specs.Phases.{IsSwept, swept_offsets, window_at}
-use Rattle.sweep_due.specs.Searches.{AreAllSwept, IsAmong, IsSearched}
+use Rattle.sweep_due.specs.Phases.{swept_offsets, window_at}
+use Rattle.sweep_due.specs.Searches.{IsSearched}
 use Rattle.sweep_due.specs.Standings.{answer_told, nothing_yet, window_told, with_two}
 use Rattle.sweep_due.specs.SweepOrders.{AsksSweep, SweepOrder, of_sweep, sweep_order_in}
 use Rattle.sweep_due.specs.SweepRules.{Answered, Bad_bank, Bad_words, IsBankSwept, IsSweepDue, IsSweepReport}
-use Rattle.sweep_due.specs.Swept.{IsOffsetOf, IsSweptAnswer, IsToldWindow, IsWindowOf, cost_at, swept_cost}
+use Rattle.sweep_due.specs.Swept.{IsOffsetOf, IsToldWindow, IsWindowOf, swept_cost}
 use Rattle.sweep_due.proofs.AnswerLaws.{swept_answer_is, told_window_is}
 use Rattle.sweep_due.proofs.KeysLaws.{legal_sequence}
 use Rattle.sweep_due.proofs.OffsetLaws.{all_swept}
@@ -90,7 +89,7 @@ module _ (window : Window) (bank : Bank) where
       )
 
 -- a window that is asked about has a phase
-asked_phase : (asked : Asked) (bank : Bank) → (window_of asked bank.receivers).phase < PHASE_LIMIT
+pub asked_phase : (asked : Asked) (bank : Bank) → (window_of asked bank.receivers).phase < PHASE_LIMIT
 asked_phase asked bank = phase_in_range (window_of asked bank.receivers).start asked.seconds bank.receivers
 
 same_refusal : (r s : Refusal) (x y : Due) → r ≡ s → x ≡ Refused r → y ≡ Refused s → x ≡ y
@@ -108,7 +107,7 @@ module _ (contents : Contents) where
   IsDueBy words (Ok order) due = (o : SweepOrder) × AsksSweep words o × IsDueOfBank o due
 
   asked : (words : List (List ℕ)) (o : SweepOrder) (due : Due) → AsksSweep words o → IsDueOfBank o due → IsDueBy words (sweep_order_in words) due
-  asked words o due asks h = subst (λ (c : Checked Order). IsDueBy words c due) (sym asks.1) (o, asks, h)
+  asked words o due asks h = subst (λ (c : Checked Order). IsDueBy words c due) (sym asks.2) (o, asks, h)
 
   rule : (words : List (List ℕ)) (due : Due) → IsSweepDue words contents due → IsDueBy words (sweep_order_in words) due
   rule words due (Bad_words fault is e) = subst (λ (c : Checked Order). IsDueBy words c due) (sym is) e
@@ -144,8 +143,7 @@ module _ (contents : Contents) where
           (found.0, Answered o asks good.0 good.1 good.2 found.1)
 
   order_owes : (words : List (List ℕ)) (order : Order) → sweep_order_in words ≡ Ok order → of_sweep order ≡ Ok order → (due : Due) × IsSweepDue words contents due
-  order_owes words (Sweep config asked workers None) is of = bank_owes words (record { config = config; asked = asked }) (workers, is)
-  order_owes words (Sweep config asked workers (Some certificate)) is of = absurd cc
+  order_owes words (Sweep config asked workers certificate) is of = bank_owes words (record { config = config; asked = asked }) (workers, certificate, is)
   order_owes words (Follow config asked workers step count) is of = absurd cc
   order_owes words (Decode config asked workers certificate) is of = absurd cc
   order_owes words (Check config certificate asked) is of = absurd cc

@@ -8,4 +8,5 @@ pub mod SweepPlans
 pub mod Examples
 pub mod CertificateNames
 pub mod SweepCertificates
+pub mod SweepOwed
 pub mod JudgeRules

@@ -15,16 +15,20 @@ ghost use Rattle.formats.specs.declared.refusal.Refusal.TheVariants.{WordsBad, W
 ghost use Rattle.signal_base.specs.declared.dut.Dut.TheVariants.{Absent};
 ghost use Rattle.signal_base.specs.declared.station.Station.TheVariants.{Jjy};
 ghost use Rattle.bank_config.specs.Configuration.{PlainConfig};
+ghost use Rattle.certificates.specs.Certificates.{Certificate};
 ghost use Rattle.due.specs.declared.due.Due.{Due};
 ghost use Rattle.due.specs.declared.due.Due.TheVariants.{Refused, Report};
 ghost use Rattle.due.specs.Banks.{bank_of, window_of};
 ghost use Rattle.due.specs.Dues.{text_of};
 ghost use Rattle.due.specs.Inputs.{Configuration, Contents};
-ghost use Rattle.due.specs.Loads.{IsBankLoaded};
+ghost use Rattle.due.specs.Loads.{IsBankLoaded, IsBankRefused};
 ghost use Rattle.sweep_due.specs.Examples.{bank_with, costs_at, key, late_rises, order_of_k, standing_of, two_minutes, two_seconds};
 ghost use Rattle.sweep_due.specs.Phases.{swept_offsets, window_at};
 ghost use Rattle.sweep_due.specs.Standings.{answer_told, ceiling_after, nothing_yet, window_told, with_two};
+ghost use Rattle.sweep_due.specs.SweepCertificates.{AreCertificates, AreCertificatesDue, sweep_outputs};
 ghost use Rattle.sweep_due.specs.SweepOrders.{AsksSweep};
+ghost use Rattle.sweep_due.specs.SweepOwed.{IsSweepOwed, told_alone};
+ghost use Rattle.sweep_due.specs.SweepPlans.{sweep_plan};
 ghost use Rattle.sweep_due.specs.SweepRules.{IsSweepDue, IsSweepRead, IsSweepReport};
 ghost use Rattle.sweep_due.specs.Swept.{IsOffsetOf, swept_cost};
 
@@ -69,24 +73,50 @@ pub fn searches_that_are_put_together()
     ensures nothing { window_told (two_minutes 30) nothing_yet ≡ two_minutes 30 }
 {}
 
-/// Words that are refused, whatever the files hold. Certificates of a sweep aren't built yet.
+/// Words that are refused, whatever the files hold.
 pub fn refused_words_of_a_sweep()
     ensures none { (contents : Contents) → IsSweepDue [] contents (Refused WordsUsage) }
     ensures place { (contents : Contents) → IsSweepDue (words_in (codes "sweep")) contents (Refused WordsUsage) }
     ensures other { (contents : Contents) → IsSweepDue (words_in (codes "decode k.toml")) contents (Refused WordsUsage) }
     ensures beyond { (contents : Contents) → IsSweepDue (words_in (codes "judge k.toml s")) contents (Refused WordsUsage) }
     ensures seconds { (contents : Contents) → IsSweepDue (words_in (codes "sweep k.toml --seconds 59")) contents (Refused (WordsBad Seconds)) }
-    ensures certificate { (contents : Contents) → IsSweepDue (words_in (codes "sweep k.toml --certificate s")) contents (Refused WordsUsage) }
+    ensures certificate { (contents : Contents) → IsSweepDue (words_in (codes "sweep k.toml --certificate s --seconds 59")) contents (Refused (WordsBad Seconds)) }
 {}
 
 /// What words ask, and what is due of a bank for them.
 pub fn what_is_asked_of_a_sweep()
     ensures usual { AsksSweep (words_in (codes "sweep k.toml")) (order_of_k asked_usually) }
     ensures own { AsksSweep (words_in (codes "sweep k.toml --seconds 120 --workers 2")) (order_of_k (asked None 120 0 52_596_000)) }
+    ensures certificates { AsksSweep (words_in (codes "sweep k.toml --certificate s")) (order_of_k asked_usually) }
     ensures read { (contents : Contents) → IsSweepRead (words_in (codes "sweep k.toml")) contents Configuration (codes "k.toml") }
     ensures due { (contents : Contents) (config : PlainConfig) (records : List Records) (due : Due) → IsBankLoaded contents config records
         → IsSweepReport (window_of (asked None 120 0 52_596_000) (bank_of config records).receivers) (bank_of config records) due
         → IsSweepDue (words_in (codes "sweep k.toml --seconds 120 --workers 2")) contents due }
+{}
+
+/// The files that may be written: standard output, and where certificates are asked for a file of each offset there is.
+pub fn files_of_a_sweep()
+    ensures told { (sweep_plan (words_in (codes "sweep k.toml"))).files ≡ codes "-" ∷ [] }
+    ensures certificates { (sweep_plan (words_in (codes "sweep k.toml --certificate s"))).files
+        ≡ codes "s.0" ∷ codes "s.1" ∷ codes "s.2" ∷ codes "s.3" ∷ codes "s.4" ∷ codes "s.5" ∷ codes "s.6" ∷ codes "s.7" ∷ codes "s.8" ∷ codes "s.9"
+        ∷ codes "s.10" ∷ codes "-" ∷ [] }
+{}
+
+/// What is owed besides what is told: no certificates where none are asked for, and none of a bank that is refused, whose refusal alone
+/// is written; else those of all offsets that are swept.
+pub fn certificates_owed_of_a_sweep()
+    ensures none { (contents : Contents) → AreCertificatesDue (words_in (codes "sweep k.toml")) contents None }
+    ensures refused { (contents : Contents) (refusal : Refusal) → IsBankRefused contents refusal
+        → IsSweepOwed (words_in (codes "sweep k.toml --certificate s")) contents (told_alone (Refused refusal)) }
+    ensures written { (contents : Contents) (config : PlainConfig) (records : List Records) (cs : List Certificate) → IsBankLoaded contents config records
+        → AreCertificates (window_of asked_usually (bank_of config records).receivers) (bank_of config records) 2
+        (swept_offsets (window_of asked_usually (bank_of config records).receivers).phase) cs
+        → AreCertificatesDue (words_in (codes "sweep k.toml --certificate s --workers 2")) contents
+        (Some (record { phase = (window_of asked_usually (bank_of config records).receivers).phase; each = cs })) }
+    ensures outputs { (c d e f g h : Certificate) (due : Due)
+        → (sweep_plan (words_in (codes "sweep k.toml --certificate s"))).outputs
+        (record { due = due; certificates = Some (record { phase = 0; each = c ∷ d ∷ e ∷ f ∷ g ∷ h ∷ [] }) })
+        ≡ sweep_outputs (codes "s") (5 ∷ 6 ∷ 7 ∷ 8 ∷ 9 ∷ 10 ∷ []) (c ∷ d ∷ e ∷ f ∷ g ∷ h ∷ []) due }
 {}
 
 /// The report of a sweep of two minutes, in which a decode finds the phase 30 and the least cost is at phase 0.

@@ -22,13 +22,13 @@ beside_call grid p m part k alone apart = elim (cases_eq ((p + k) / 60) m) [
     silent here (inl early) = alone.before ((p + k) % 60) (omega arith)
     silent here (inr late) = alone.after ((p + k) % 60) (omega arith) (omega arith)
 
-not_early : (station : Station) (s : ℕ) → s < 40 → is_given_up station s ≡ false
+pub not_early : (station : Station) (s : ℕ) → s < 40 → is_given_up station s ≡ false
 not_early Dcf77 s lt = refl
 not_early Msf s lt = refl
 not_early Wwvb s lt = refl
 not_early Jjy s lt = or_from _ _ (and_left _ _ (lt-leb 40 s lt)) (and_left _ _ (lt-leb 50 s (omega arith)))
 
-not_late : (station : Station) (s : ℕ) → 56 ≤ s → is_given_up station s ≡ false
+pub not_late : (station : Station) (s : ℕ) → 56 ≤ s → is_given_up station s ≡ false
 not_late Dcf77 s le = refl
 not_late Msf s le = refl
 not_late Wwvb s le = refl

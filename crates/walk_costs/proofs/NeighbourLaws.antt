@@ -8,11 +8,9 @@ use Rattle.signal_base.specs.Mask.{has_bit}
 use Rattle.definitions.specs.codes.Allowed.{IsSetOf, allowed}
 use Rattle.definitions.specs.heard.Costs.{set_cost, sum_below}
 use Rattle.definitions.specs.time.Calendar.{minute_length}
-use Rattle.definitions.proofs.CostLaws.{sum_below_bound}
 use Rattle.definitions.proofs.SetLaws.{sent}
 use Rattle.definitions.proofs.UnionLaws.{IsWithin, wider_costs_no_more}
 use Rattle.symbol_cost.specs.Grid.{cost_at}
-use Rattle.symbol_cost.specs.declared.limits.TheConstants.{RECEIVER_COST}
 use Rattle.minute_parts.specs.Overlay.{is_given_up, is_time_second, overlay}
 use Rattle.minute_parts.specs.Parts.{IsInRun, local_time, part_where, times_at}
 use Rattle.minute_parts.specs.Runs.{run_at}
@@ -24,12 +22,12 @@ use Rattle.slot_columns.specs.Rows.{index_of}
 use Rattle.slot_columns.proofs.SetLaws.{index_at, index_bound, none_chosen, or_index}
 use Rattle.walk_costs.specs.Dates.{IsAdded, given_cost, given_up, given_up_set, kept, kept_set, minutes_to_call, part_cost}
 use Rattle.walk_costs.specs.Kinds.{either_part, either_set}
-use Rattle.walk_costs.specs.Walks.{AreDateCosts, ArePairsOf, ArePriced, PricedParts, cost_of, kept_of, last_minute, pair_of}
+use Rattle.walk_costs.specs.Walks.{AreDateCosts, ArePairsOf, ArePriced, MayAdd, PricedParts, cost_of, kept_of, last_minute, pair_of}
 use Rattle.walk_costs.proofs.LeastLaws.{either_at, given_by_slot, given_in}
 use Rattle.walk_costs.proofs.ScoredLaws.{scored, small_set}
 use Rattle.walk_costs.proofs.SplitLaws.{call_minute, calls, tells_by}
 use Rattle.walk_costs.proofs.SumLaws.{at_second, cost_in, part_by_second, sum_le, sum_of_two}
-use Rattle.walk_costs.proofs.WalkLaws.{AreRunsOf, date_in, lost, lost_here, lost_in_slot, lost_sum, part_by, total_by_runs}
+use Rattle.walk_costs.proofs.WalkLaws.{AreRunsOf, date_in, lost, lost_here, lost_in_slot, lost_sum, part_by, total_by_runs, with_dut1}
 
 -- What is kept of two dates, together.
 module _ (station : Station) (a b : List ℕ) where
@@ -188,56 +186,6 @@ module _ (w : PricedParts) (costs : List (List ℕ)) (more : List ℕ) (priced :
   no_call u k within gives apart =
       and_left _ _ (sym (call_minute st u ((p + k) / 60) ((p + k) % 60) (omega (arith, second, priced.short, within)) gives) ∙ apart)
 
-  -- in each slot of a walk its time of day costs nothing or its dates don't
-  bound_in : (u k : ℕ) → k < n
-      → cost_in w.grid k (walk_set w.parts.times u p k) + both_in k + told_in (minutes_to_call u) k ≤ w.grid.receivers * RECEIVER_COST
-  bound_in u k within =
-      let s : ℕ = (p + k) % 60 in
-      let v : ℕ = (u + (p + k) / 60) % 1440 in
-      let m : ℕ = minutes_to_call u in
-      let lt : s < 60 = omega arith in
-      let day : v < 1440 = omega arith in
-      let time = priced.small k (walk_set w.parts.times u p k) within in
-      elim (cases_Bool (is_given_up st s)) [
-        | inl gives ↦ (
-            let kept_none = free_at k (get_or both_dates s 0) (none_given_up st before after s lt gives) in
-            elim (cases_Bool ((p + k) / 60 == m)) [
-              | inl here ↦ omega (arith, time, kept_none, none_here m k here)
-              | inr apart ↦ elim (cases_Bool (is_time_second st s)) [
-                | inl timed ↦ omega (arith, time, kept_none, told_there m k gives apart, free_at k (get_or told s 0) (nothing_told s lt timed))
-                | inr untimed ↦ omega (
-                  arith,
-                  kept_none,
-                  told_there m k gives apart,
-                  priced.small k (get_or told s 0) within,
-                  free_at k (walk_set w.parts.times u p k) (none_of_date v s day lt (no_call u k within gives apart) untimed),
-                )
-              ]
-            ])
-        | inr keeps ↦ elim (cases_Bool (is_time_second st s)) [
-          | inl timed ↦ omega (arith, time, none_kept m k keeps, free_at k (get_or both_dates s 0) (none_of_time s lt keeps timed))
-          | inr untimed ↦ omega (
-            arith,
-            none_kept m k keeps,
-            priced.small k (get_or both_dates s 0) within,
-            free_at k (walk_set w.parts.times u p k) (none_of_date v s day lt (and_right _ _ keeps) untimed),
-          )
-        ]
-      ]
-
-  pub bound : (u : ℕ) → least_from u ≤ most_cost w.grid
-  bound u =
-      let time = λ (k : ℕ). cost_in w.grid k (walk_set w.parts.times u p k) in
-      let m : ℕ = minutes_to_call u in
-      omega (
-        arith,
-        both_sum,
-        given_by_slot w.grid p (minutes_to_call u) told,
-        sum_of_two n time both_in,
-        sum_of_two n (λ k. time k + both_in k) (told_in (minutes_to_call u)),
-        sum_below_bound n (w.grid.receivers * RECEIVER_COST) (λ k. time k + both_in k + told_in (minutes_to_call u) k) (bound_in u),
-      )
-
   -- a set of either date is one of the station's, where the time of day tells nothing
   sent_by : (r t s : ℕ) → IsInRun w.parts t r → minute_length announced t ≡ 60 → s < 60 → get_or (times_at w.parts (local_time (run_at w.parts.runs r) t)) s 0 ≡ 0
       → IsSetOf st (get_or (part_where announced (run_at w.parts.runs r)) s 0) × (allowed w.parts.station announced (t, s) ≡ get_or (part_where announced (run_at w.parts.runs r)) s 0)
@@ -376,23 +324,20 @@ module _ (w : PricedParts) (costs : List (List ℕ)) (more : List ℕ) (priced :
           sum_le n (λ k. both_in k + told_in m k + taken m k) date (λ k within. subst (λ x. both_in k + told_in x k + taken x k ≤ date k) (sym is) (in_slot k within)),
         )
 
-    -- whatever DUT1 adds
+    -- with what DUT1 adds
     floor_with : (added : ℕ) → ((last_minute w p t0 / 1440 == t0 / 1440) ≡ true → IsAdded w.grid p added)
         → ((last_minute w p t0 / 1440 == t0 / 1440) ≡ false → added ≡ 0)
-        → least_from ((t0 + shift) % 1440) ≤ cost_of w announced p t0
+        → (least_from ((t0 + shift) % 1440) + added ≤ cost_of w announced p t0) × (cost_of w announced p t0 ≤ most_cost w.grid)
     floor_with added once twice =
         let u : ℕ = (t0 + shift) % 1440 in
         let m : ℕ = minutes_to_call u in
         let all = total_by_runs w costs more priced announced p t0 shift run_by are u m (walk_cost st (cost_at w.grid.rows) n p w.parts.times u) (sum_below n date)
         (minute_cost st (cost_at w.grid.rows) n p m (given_up st (part_by w costs more priced announced p t0 shift run_by are m))) added refl refl refl refl refl once twice in
-        omega (arith, all.0.cost, all.1, less_than_dates m refl)
+        (omega (arith, all.0.cost, all.1, less_than_dates m refl), omega (arith, all.0.cost, all.0.bound))
 
-    pub floor : least_from ((t0 + shift) % 1440) ≤ cost_of w announced p t0
-    floor = by_day (last_minute w p t0 / 1440 == t0 / 1440) refl
-      where
-        by_day : (day : Bool) → (last_minute w p t0 / 1440 == t0 / 1440) ≡ day → least_from ((t0 + shift) % 1440) ≤ cost_of w announced p t0
-        by_day true is = floor_with (get_or more p 0) (λ e. priced.added p second) (λ e. absurd cc)
-        by_day false is = floor_with 0 (λ e. absurd cc) (λ e. refl)
+    pub floor : (added : ℕ) → MayAdd w p t0 added
+        → (least_from ((t0 + shift) % 1440) + added ≤ cost_of w announced p t0) × (cost_of w announced p t0 ≤ most_cost w.grid)
+    floor = with_dut1 w costs more priced p t0 (least_from ((t0 + shift) % 1440)) (cost_of w announced p t0) (most_cost w.grid) second floor_with
 
 -- A table of what is kept of the dates.
 pub date_costs : (w : PricedParts) (all : List (List ℕ)) (places : List ℕ) (table : LayerSums) → length places ≡ length w.parts.runs

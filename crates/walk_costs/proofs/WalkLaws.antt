@@ -1,5 +1,5 @@
 -- What a walk costs by the parts of its minutes.
-use Rattle.std.proofs.Common.{◌≡◌, ℕ, ◌+◌, ◌-◌, ◌/◌, ◌%◌, ◌<◌, ◌≤◌, inl, inr, Bool, true, false, ◌==◌, ◌&&◌, ◌||◌, if◌then◌else◌, List, [], length, get_or, slice_index_or, refl, sym, ap, ◌∙◌, subst, arith}
+use Rattle.std.proofs.Common.{◌≡◌, ℕ, ◌+◌, ◌-◌, ◌/◌, ◌%◌, ◌<◌, ◌≤◌, ◌⊎◌, inl, inr, Bool, true, false, ◌==◌, ◌&&◌, ◌||◌, if◌then◌else◌, List, [], length, get_or, slice_index_or, refl, sym, ap, ◌∙◌, subst, arith}
 use Rattle.std.proofs.lemmas.Bool.{cases_eq, ne_eqb}
 use Rattle.signal_base.specs.declared.station.Station.{Station}
 use Rattle.definitions.specs.declared.sequence.Sequence.{Sequence}
@@ -15,7 +15,7 @@ use Rattle.slot_columns.specs.Parts.{minute_cost, most_cost, walk_cost, walk_set
 use Rattle.slot_columns.proofs.SetLaws.{none_chosen}
 use Rattle.walk_costs.specs.Dates.{IsAdded, date_cost, given_up, given_up_set, minutes_to_call, part_cost}
 use Rattle.minute_parts.specs.Walks.{later_minutes}
-use Rattle.walk_costs.specs.Walks.{ArePriced, IsRegularIn, PricedParts, last_minute}
+use Rattle.walk_costs.specs.Walks.{ArePriced, IsRegularIn, MayAdd, PricedParts, last_minute}
 use Rattle.walk_costs.proofs.SumLaws.{at_second, cost_in, most_of_few, part_by_second, sum_le, sums_of_two}
 use Rattle.walk_costs.proofs.SlotLaws.{set_in}
 use Rattle.walk_costs.proofs.SplitLaws.{call_minute, calls, parts_of_second, tells_by}
@@ -199,6 +199,21 @@ module _ (w : PricedParts) (costs : List (List ℕ)) (more : List ℕ) (priced :
       (minute_cost w.grid.station (cost_at w.grid.rows) (length w.grid.rows) p m (given_up w.grid.station part)) added time call by_time
       (part_by_second w.grid p part) refl one two in
       subst (λ x. IsTotal w announced p t0 (walk + x) added) (sym by_date) all.0
+
+-- what a walk costs at the least with what DUT1 adds, it does with what that may add
+module _ (w : PricedParts) (costs : List (List ℕ)) (more : List ℕ) (priced : ArePriced w.parts w.grid costs more) (p t0 sets cost most : ℕ) (second : p < 60)
+    (whole : (added : ℕ) → ((last_minute w p t0 / 1440 == t0 / 1440) ≡ true → IsAdded w.grid p added)
+    → ((last_minute w p t0 / 1440 == t0 / 1440) ≡ false → added ≡ 0) → (sets + added ≤ cost) × (cost ≤ most)) where
+  pub with_dut1 : (added : ℕ) → MayAdd w p t0 added → (sets + added ≤ cost) × (cost ≤ most)
+  with_dut1 added may = by_day (last_minute w p t0 / 1440 == t0 / 1440) refl
+    where
+      by_sum : (last_minute w p t0 / 1440 == t0 / 1440) ≡ true → (added ≡ 0) ⊎ (IsAdded w.grid p added) → (sets + added ≤ cost) × (cost ≤ most)
+      by_sum here (inl is) = let all = whole (get_or more p 0) (λ e. priced.added p second) (λ e. absurd cc) in (omega (arith, all.0, is), all.1)
+      by_sum here (inr is) = whole added (λ e. is) (λ e. absurd cc)
+
+      by_day : (day : Bool) → (last_minute w p t0 / 1440 == t0 / 1440) ≡ day → (sets + added ≤ cost) × (cost ≤ most)
+      by_day true is = by_sum is (may.one_day is)
+      by_day false is = whole added (λ e. absurd cc) may.two_days
 
 -- the most that a walk costs is a number of 32 bits
 pub most_fits : (w : PricedParts) (costs : List (List ℕ)) (more : List ℕ) → ArePriced w.parts w.grid costs more → most_cost w.grid ≤ 1_920_000_000

@@ -1,9 +1,9 @@
 -- Walks with 60 seconds in each minute that lie in one run of a station's minutes, and what they cost.
-use Rattle.std.specs.Prelude.{ℕ, ◌≡◌, ◌≢◌, ◌+◌, ◌*◌, ◌<◌, ◌≤◌, Bool, false, true, if◌then◌else◌, List, length, slice_index}
+use Rattle.std.specs.Prelude.{ℕ, ◌≡◌, ◌≢◌, ◌⊎◌, ◌==◌, ◌+◌, ◌*◌, ◌/◌, ◌<◌, ◌≤◌, Bool, false, true, if◌then◌else◌, List, length, slice_index}
 use Rattle.signal_base.specs.declared.limits.TheConstants.{MOST_RECEIVERS, MOST_SECONDS}
 use Rattle.signal_base.specs.declared.station.Station.{Station}
 use Rattle.definitions.specs.declared.sequence.Sequence.{Sequence}
-use Rattle.definitions.specs.time.Calendar.{minute_length}
+use Rattle.definitions.specs.time.Calendar.{minute_length, minutes_per_day}
 use Rattle.definitions.specs.sequences.Walks.{set_at, unannounced}
 use Rattle.definitions.specs.heard.Costs.{set_cost, station_cost}
 use Rattle.symbol_cost.specs.Grid.{Grid, cost_at}
@@ -17,7 +17,7 @@ use Rattle.slot_columns.specs.Parts.{AreWalkCosts}
 use Rattle.slot_columns.specs.declared.limits.TheConstants.{SECONDS_PER_MINUTE}
 use Rattle.walk_costs.specs.declared.shown.Shown.{Shown}
 use Rattle.walk_costs.specs.declared.shown.Shown.TheVariants.{Never, Always, Sometimes}
-use Rattle.walk_costs.specs.Dates.{AreAdded, kept, part_cost}
+use Rattle.walk_costs.specs.Dates.{AreAdded, IsAdded, kept, part_cost}
 use Rattle.walk_costs.specs.declared.least.LeastWalks.{LeastWalks}
 use Rattle.walk_costs.specs.Leasts.{AreLeast}
 
@@ -28,6 +28,12 @@ pub record PricedParts : Type 0 where
 
 abbrev pub last_minute : PricedParts → ℕ → ℕ → ℕ
 last_minute w p t0 = t0 + later_minutes (length w.grid.rows) p
+
+-- The seconds of DUT1 add no less to the walk from second p of the minute t0: this is what they add, or 0. Where the walk goes on
+-- to another UTC day it is 0.
+pub record MayAdd (w : PricedParts) (p t0 added : ℕ) : Type 0 where
+  pub one_day : (last_minute w p t0 / minutes_per_day == t0 / minutes_per_day) ≡ true → (added ≡ 0) ⊎ (IsAdded w.grid p added)
+  pub two_days : (last_minute w p t0 / minutes_per_day == t0 / minutes_per_day) ≡ false → added ≡ 0
 
 -- the walk from second p of the minute t0 has 60 seconds in each minute, and lies in the run i
 pub record IsRegularIn (w : PricedParts) (announced : Bool) (p t0 i : ℕ) : Type 0 where

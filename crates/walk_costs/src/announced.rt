@@ -13,7 +13,7 @@ use crate::shown::{is_told_alike, some_slot_shows};
 use crate::walks::{StationWalks, local_time};
 use slot_columns::SECONDS_PER_MINUTE;
 
-impl StationWalks {
+impl StationWalks<'_> {
     /// Whether an announced sequence shows the announcement, whose walk from second `p` of the minute `t0` has 60 seconds in
     /// each minute. The walk may go through several runs.
     pub fn shows_by_minutes(&self, p: u8, t0: u32) -> bool

@@ -30,7 +30,7 @@ pub struct Crossing {
     pub dates: SplitCosts,
 }
 
-impl StationWalks {
+impl StationWalks<'_> {
     /// What the dates of a run and of the next one cost in the walks that begin in second `p`, below 60.
     pub fn crossing_costs(&self, announced: bool, p: u8, run: usize) -> Crossing
         requires second { p < SECONDS_PER_MINUTE }

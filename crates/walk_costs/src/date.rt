@@ -6,10 +6,9 @@ ghost use Rattle.walk_costs.specs.Dates.{given_cost, kept, kept_set, most_given}
 ghost use Rattle.minute_parts.specs.Walks.{later_minutes};
 
 use crate::call::call_cost;
-use minute_parts::{CALL_MINUTES, gives_up, is_given_up, later_minutes};
+use minute_parts::{CALL_BEGIN, CALL_END, CALL_MINUTES, gives_up, is_given_up, later_minutes};
 use signal_base::Station;
 use slot_columns::{Part, SECONDS_PER_MINUTE, SlotColumns};
-use std::array;
 
 /// A cost for each minute up to the next call sign.
 pub type ByMinute = [u32; CALL_MINUTES];
@@ -65,7 +64,11 @@ pub fn no_losses() -> ByMinute
 pub fn kept(station: Station, part: &Part) -> Part
     ensures { result ≡ kept station part.now }
 {
-    array::from_fn(|second| kept_set(station, part, second))
+    let mut kept = *part;
+    for s in CALL_BEGIN..CALL_END {
+        kept[s] = kept_set(station, part, s);
+    }
+    kept
 }
 
 fn kept_set(station: Station, part: &Part, second: usize) -> u8

@@ -16,7 +16,7 @@ use signal_base::Station;
 use slot_columns::{LayerTable, SECONDS_PER_MINUTE, SlotColumns};
 use std::alloc::{AllocError, Global};
 
-impl StationWalks {
+impl StationWalks<'_> {
     /// What the date of a run costs in the walks from second `p`, without the seconds that the station gives up for its call
     /// sign.
     pub fn kept_date_cost(&self, announced: bool, p: u8, run: usize) -> u32

@@ -107,29 +107,38 @@ fn place_of_run(announced: bool, run: usize) -> usize
     if announced { 2 * run + 1 } else { 2 * run }
 }
 
-impl StationWalks {
-    /// What no sequence costs the station less than, whose walk from second `p` has 60 seconds in each minute and lies in the
-    /// run.
-    pub fn least_in(&self, announced: bool, p: u8, run: usize) -> u32
+impl StationWalks<'_> {
+    /// What none of the sequences costs the station less than that begin in second `p` of the minutes from `lo` up to, and
+    /// without, `hi`, where their walks have 60 seconds in each minute and lie in the run.
+    pub fn least_in(&self, announced: bool, p: u8, run: usize, lo: u32, hi: u32) -> u32
         requires second { p < SECONDS_PER_MINUTE }
         requires run { run < length self.now.parts.runs }
-        ensures floor { (t0 : ℕ) → IsRegularIn self.now announced p t0 run → result ≤ cost_of self.now announced p t0 }
+        requires some { lo < hi }
+        requires walks { (t0 : ℕ) → lo ≤ t0 → t0 < hi → IsRegularIn self.now announced p t0 run }
+        ensures floor { (t0 : ℕ) → lo ≤ t0 → t0 < hi → result ≤ cost_of self.now announced p t0 }
         ensures bound { result ≤ most_cost self.now.grid }
     {
-        self.kept_cost_of_both(announced, p, run, run) + self.least.inside.at(announced, p, run)
+        let dates = self.kept_cost_of_both(announced, p, run, run);
+        let least = self.least.inside.at(announced, p, run);
+        let added = self.added_to_all(p, lo, hi);
+        dates + least + added
     }
 
-    /// What no sequence costs the station less than, whose walk from second `p` has 60 seconds in each minute and goes from
-    /// the run to the next, which encodes the local time alike.
-    pub fn least_across(&self, announced: bool, p: u8, run: usize) -> u32
+    /// The same where their walks go from the run to the next, which encodes the local time alike.
+    pub fn least_across(&self, announced: bool, p: u8, run: usize, lo: u32, hi: u32) -> u32
         requires second { p < SECONDS_PER_MINUTE }
         requires next { run + 1 < length self.now.parts.runs }
-        ensures floor { (t0 : ℕ) → IsAcross self.now announced p t0 run → result ≤ cost_of self.now announced p t0 }
+        requires some { lo < hi }
+        requires walks { (t0 : ℕ) → lo ≤ t0 → t0 < hi → IsAcross self.now announced p t0 run }
+        ensures floor { (t0 : ℕ) → lo ≤ t0 → t0 < hi → result ≤ cost_of self.now announced p t0 }
         ensures bound { result ≤ most_cost self.now.grid }
     {
         // The next run's number fits, as the count of runs does.
         self.unions.parts().runs();
-        self.kept_cost_of_both(announced, p, run, run + 1) + self.least.across.at(announced, p, run)
+        let dates = self.kept_cost_of_both(announced, p, run, run + 1);
+        let least = self.least.across.at(announced, p, run);
+        let added = self.added_to_all(p, lo, hi);
+        dates + least + added
     }
 }
 

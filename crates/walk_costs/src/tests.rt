@@ -45,15 +45,15 @@ fn grid(alloc: Global, station: Station, table: &CostTable) -> Result<CostGrid, 
     Ok(grid)
 }
 
-fn walks(
+fn walks<'a>(
     alloc: Global,
-    civil: &Civil,
+    unions: &'a Unions,
     station: Station,
     table: &CostTable,
-) -> Result<StationWalks, Fail>
-    requires { IsPriced table.now }
+) -> Result<StationWalks<'a>, Fail>
+    requires priced { IsPriced table.now }
+    requires station { unions.now.station ≡ station }
 {
-    let unions = Unions::make(alloc, Parts::make(alloc, civil, station)?)?;
     let walks = StationWalks::make(alloc, unions, &grid(alloc, station, table)?)?;
     Ok(walks)
 }
@@ -68,7 +68,8 @@ const RUN_END: u32 = 12_854_340 + 1440;
 #[test]
 fn the_call_sign_costs_nothing(rt: HostRuntime) -> Result<(), Fail> {
     let civil = Civil::make(rt.alloc())?;
-    let walks = walks(rt.alloc(), &civil, Station::Jjy, &table(20, 10))?;
+    let unions = Unions::make(rt.alloc(), Parts::make(rt.alloc(), &civil, Station::Jjy)?)?;
+    let walks = walks(rt.alloc(), &unions, Station::Jjy, &table(20, 10))?;
     for (second, minute, cost) in [
         (40, CALL, Some(120 + 120)),
         (40, CALL - 1, Some(120 + 120)),
@@ -97,7 +98,8 @@ const FRIDAY: u32 = 4 * 1440;
 #[test]
 fn a_walk_to_the_next_run_costs_no_less(rt: HostRuntime) -> Result<(), Fail> {
     let civil = Civil::make(rt.alloc())?;
-    let walks = walks(rt.alloc(), &civil, Station::Jjy, &table(20, 10))?;
+    let unions = Unions::make(rt.alloc(), Parts::make(rt.alloc(), &civil, Station::Jjy)?)?;
+    let walks = walks(rt.alloc(), &unions, Station::Jjy, &table(20, 10))?;
     for (second, minute, least) in [
         (0, RUN_END - 1, 180 + 120 + 180 + 120),
         (33, RUN_END - 1, 4 * 120),
@@ -112,17 +114,24 @@ fn a_walk_to_the_next_run_costs_no_less(rt: HostRuntime) -> Result<(), Fail> {
     Ok(())
 }
 
-// What no walk costs less than from the run of a minute to the next.
+// What the walk from the minute costs at the least, where it goes from its run to the next.
 fn least_across(walks: &StationWalks, p: u8, t: u32) -> Option<u32> {
     let parts = walks.parts();
-    if p as usize >= SECONDS_PER_MINUTE || t >= parts.end() {
+    if p as usize >= SECONDS_PER_MINUTE || t >= CENTURY_MINUTES || t >= parts.end() {
         return None;
     }
     let run = parts.run_of(t);
     if run >= parts.runs() - 1 {
         return None;
     }
-    Some(walks.least_across(false, p, run))
+    let last = t + walks.later_minutes(p);
+    if last < parts.run_end(run) || last >= parts.run_end(run + 1) {
+        return None;
+    }
+    if parts.run(run + 1).shift != parts.run(run).shift {
+        return None;
+    }
+    Some(walks.least_across(false, p, run, t, t + 1))
 }
 
 // A low tenth costs 10 and a high one 20, so 0 and 1 cost 190 and 180. The known slots are the seconds 8 and 10 of the one
@@ -130,7 +139,8 @@ fn least_across(walks: &StationWalks, p: u8, t: u32) -> Option<u32> {
 #[test]
 fn one_value_of_dut1_is_told_in_a_day(rt: HostRuntime) -> Result<(), Fail> {
     let civil = Civil::make(rt.alloc())?;
-    let walks = walks(rt.alloc(), &civil, Station::Msf, &table(10, 20))?;
+    let unions = Unions::make(rt.alloc(), Parts::make(rt.alloc(), &civil, Station::Msf)?)?;
+    let walks = walks(rt.alloc(), &unions, Station::Msf, &table(10, 20))?;
     // 2024-01-10T10:00Z, and the last minute of that day.
     for (minute, cost) in [(12_636_600, 180 + 190 + 180 + 190), (12_637_439, 4 * 180)] {
         assert_eq!(rt;
@@ -147,7 +157,8 @@ fn one_value_of_dut1_is_told_in_a_day(rt: HostRuntime) -> Result<(), Fail> {
 #[test]
 fn the_call_sign_hides_the_announcement(rt: HostRuntime) -> Result<(), Fail> {
     let civil = Civil::make(rt.alloc())?;
-    let walks = walks(rt.alloc(), &civil, Station::Jjy, &table(20, 10))?;
+    let unions = Unions::make(rt.alloc(), Parts::make(rt.alloc(), &civil, Station::Jjy)?)?;
+    let walks = walks(rt.alloc(), &unions, Station::Jjy, &table(20, 10))?;
     for (second, minute, shown) in [
         (40, CALL, Some(false)),
         (40, CALL - 1, Some(true)),
@@ -181,7 +192,8 @@ const WARNED: u32 = 12_843_360;
 #[test]
 fn walks_through_two_runs_show_the_announcement(rt: HostRuntime) -> Result<(), Fail> {
     let civil = Civil::make(rt.alloc())?;
-    let walks = walks(rt.alloc(), &civil, Station::Jjy, &table(20, 10))?;
+    let unions = Unions::make(rt.alloc(), Parts::make(rt.alloc(), &civil, Station::Jjy)?)?;
+    let walks = walks(rt.alloc(), &unions, Station::Jjy, &table(20, 10))?;
     for (second, minute, shown) in [
         (51, WARNED - 1, Some(false)),
         (52, WARNED - 1, Some(true)),
@@ -215,7 +227,8 @@ fn shows_over_runs(walks: &StationWalks, civil: &Civil, p: u8, t0: u32) -> Optio
 #[test]
 fn hours_before_the_warning_never_show_it(rt: HostRuntime) -> Result<(), Fail> {
     let civil = Civil::make(rt.alloc())?;
-    let walks = walks(rt.alloc(), &civil, Station::Jjy, &table(20, 10))?;
+    let unions = Unions::make(rt.alloc(), Parts::make(rt.alloc(), &civil, Station::Jjy)?)?;
+    let walks = walks(rt.alloc(), &unions, Station::Jjy, &table(20, 10))?;
     let end = walks.parts().end();
     assert!(rt; WARNED < end);
     assert!(rt; walks.never_shows(WARNED - 60, WARNED - 1));
@@ -235,7 +248,8 @@ fn a_floor_is_what_the_cheapest_walk_costs(rt: HostRuntime) -> Result<(), Fail> 
         (Station::Jjy, 40, CALL, Some(2 * 120)),
         (Station::Jjy, 50, CALL + FRIDAY + 1440, Some(150 + 3 * 120)),
     ] {
-        let walks = walks(rt.alloc(), &civil, station, &table(20, 10))?;
+        let unions = Unions::make(rt.alloc(), Parts::make(rt.alloc(), &civil, station)?)?;
+        let walks = walks(rt.alloc(), &unions, station, &table(20, 10))?;
         let floor = floor(&walks, second, minute);
         assert!(rt; floor.is_some());
         assert_eq!(rt;
@@ -248,13 +262,20 @@ fn a_floor_is_what_the_cheapest_walk_costs(rt: HostRuntime) -> Result<(), Fail> 
     Ok(())
 }
 
-// The floor of the run in which the minute lies.
+// The floor of all walks that lie in the run of the minute.
 fn floor(walks: &StationWalks, p: u8, t: u32) -> Option<u32> {
     let parts = walks.parts();
     if p as usize >= SECONDS_PER_MINUTE || t >= parts.end() {
         return None;
     }
-    Some(walks.least_in(false, p, parts.run_of(t)))
+    let run = parts.run_of(t);
+    let lo = parts.run(run).first;
+    let end = parts.run_end(run);
+    let later = walks.later_minutes(p);
+    if end - lo <= later {
+        return None;
+    }
+    Some(walks.least_in(false, p, run, lo, end - later))
 }
 
 // What its cheapest walk costs.

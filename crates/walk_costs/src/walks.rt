@@ -1,18 +1,16 @@
 //! What sequences cost a station, by tables that were made for a window.
 
-ghost use Rattle.std.specs.Prelude.{◌≡◌, ◌==◌, ◌+◌, ◌/◌, ◌%◌, ◌<◌, ◌≤◌, ◌↔◌, ℕ, IfOk, IfSome, IsNone, IsTrue, false, length, slice_index, true};
+ghost use Rattle.std.specs.Prelude.{◌≡◌, ◌==◌, ◌+◌, ◌/◌, ◌%◌, ◌<◌, ◌≤◌, ◌↔◌, ℕ, IfOk, IfSome, IsNone, IsTrue, false, length, true};
 ghost use Rattle.signal_base.specs.declared.limits.TheConstants.{GREATEST_COST};
 ghost use Rattle.definitions.specs.time.Calendar.{century_minutes, is_leap_end, minutes_per_day};
 ghost use Rattle.symbol_cost.specs.Grid.{HasCosts, cost_at};
-ghost use Rattle.minute_parts.specs.Parts.{IsPartTable, part_where};
-ghost use Rattle.minute_parts.specs.Runs.{run_at};
+ghost use Rattle.minute_parts.specs.Parts.{IsPartTable};
 ghost use Rattle.minute_parts.specs.declared.call.TheConstants.{CALL_MINUTES};
 ghost use Rattle.slot_columns.specs.Parts.{AreWalkCosts, most_cost};
-ghost use Rattle.walk_costs.specs.Dates.{AreAdded, IsAdded, date_cost, minutes_to_call};
+ghost use Rattle.walk_costs.specs.Dates.{AreAdded, IsAdded, minutes_to_call};
 ghost use Rattle.minute_parts.specs.Walks.{later_minutes};
-ghost use Rattle.walk_costs.specs.Walks.{AreSmall, IsRegularIn, IsShown, ShowsAnnouncement, cost_of, last_minute};
+ghost use Rattle.walk_costs.specs.Walks.{AreSmall, IsRegularIn, IsShown, MayAdd, ShowsAnnouncement, cost_of, last_minute};
 
-use crate::date::ByMinute;
 use crate::dut::added;
 use crate::kept::{DateTable, dates_of};
 use crate::least::LeastWalks;
@@ -29,8 +27,8 @@ use symbol_cost::CostGrid;
 /// What a station's sequences cost in the slots of a window. Contracts see the parts of its telegrams and the grid of
 /// costs.
 #[derive(Drop)]
-pub struct StationWalks {
-    pub(crate) unions: Unions,
+pub struct StationWalks<'a> {
+    pub(crate) unions: &'a Unions,
     pub(crate) columns: SlotColumns,
     pub(crate) walks: WalkTable,
     pub(crate) added: [u32; SECONDS_PER_MINUTE],
@@ -39,21 +37,25 @@ pub struct StationWalks {
     pub(crate) least: LeastWalks,
 }
 
-impl Model for StationWalks {
+impl<'a> Model for StationWalks<'a> {
     ghost use Rattle.walk_costs.specs.Walks.{AreKept, PricedParts};
 
     ghost Value = { PricedParts };
 
-    ghost view = { λ w. record { parts = w.unions; grid = w.columns } };
+    ghost view = { λ w. record { parts = w.unions.now; grid = w.columns } };
 
-    ghost invariant = { λ w. AreKept w.unions w.columns w.walks w.added w.dates w.announced_dates.items w.least };
+    ghost invariant = { λ w. AreKept w.unions.now w.columns w.walks w.added w.dates w.announced_dates.items w.least };
 }
 
-impl StationWalks {
+impl<'a> StationWalks<'a> {
     /// Adds up what the parts of a station cost by its grid.
-    pub fn make(alloc: Global, unions: Unions, grid: &CostGrid) -> Result<StationWalks, AllocError>
-        requires { unions.station ≡ grid.now.station }
-        ensures parts { IfOk result (λ walks. walks.parts ≡ unions) }
+    pub fn make(
+        alloc: Global,
+        unions: &'a Unions,
+        grid: &CostGrid,
+    ) -> Result<StationWalks<'a>, AllocError>
+        requires { unions.now.station ≡ grid.now.station }
+        ensures parts { IfOk result (λ walks. walks.parts ≡ unions.now) }
         ensures costs { IfOk result (λ walks. HasCosts walks.grid grid.now.station (length grid.now.rows) (cost_at grid.now.rows)) }
         ensures receivers { IfOk result (λ walks. walks.grid.receivers ≡ grid.now.receivers) }
     {
@@ -89,7 +91,7 @@ impl StationWalks {
         ensures unions { result.now ≡ self.now.parts }
         ensures station { self.now.parts.station ≡ self.now.grid.station }
     {
-        &self.unions
+        self.unions
     }
 
     /// What sets cost in the slots.
@@ -143,11 +145,16 @@ impl StationWalks {
         ensures bound { result ≤ most_cost self.now.grid }
     {
         let dates = self.date_costs(announced, p, run);
-        self.cost_by(&dates, announced, p, t0, run)
+        let walks = &self.walks;
+        let u = local_time(self.unions.parts().run(run).shift, t0);
+        let date = dates[minutes_to_call(u) as usize];
+        let added = self.added_from(p, t0);
+        walks.cost(p, u) + date + added
     }
 
     /// What none of the sequences costs the station less than that begin in second `p` of the minutes from `lo` up to, and
-    /// without, `hi`, where their walks have 60 seconds in each minute and lie in the run: the least of their costs.
+    /// without, `hi`, where their walks have 60 seconds in each minute and lie in the run: the least of their costs, without
+    /// what DUT1 adds unless all of them lie in one UTC day.
     pub fn least_among(&self, announced: bool, p: u8, run: usize, lo: u32, hi: u32) -> u32
         requires some { lo < hi }
         requires walks { (t0 : ℕ) → lo ≤ t0 → t0 < hi → IsRegularIn self.now announced p t0 run }
@@ -155,26 +162,16 @@ impl StationWalks {
         ensures bound { result ≤ most_cost self.now.grid }
     {
         let dates = self.date_costs(announced, p, run);
+        let row = self.walks.row(p);
+        let shift = self.unions.parts().run(run).shift;
+        let added = self.added_to_all(p, lo, hi);
         let mut least = u32::MAX;
         for t0 in lo..hi {
-            least = least.min(self.cost_by(&dates, announced, p, t0, run));
+            let u = local_time(shift, t0);
+            let cost = row[u as usize] + dates[minutes_to_call(u) as usize];
+            least = least.min(cost);
         }
-        least
-    }
-
-    // What the sequence costs, where the date of the run costs this by the call sign's minute.
-    #[inline(always)]
-    fn cost_by(&self, dates: &ByMinute, announced: bool, p: u8, t0: u32, run: usize) -> u32
-        requires dates { (m : ℕ) → m < CALL_MINUTES → slice_index dates.now m ≡ date_cost self.now.grid p m (part_where announced (run_at self.now.parts.runs run)) }
-        requires walk { IsRegularIn self.now announced p t0 run }
-        ensures cost { result ≡ cost_of self.now announced p t0 }
-        ensures bound { result ≤ most_cost self.now.grid }
-    {
-        let walks = &self.walks;
-        let u = local_time(self.unions.parts().run(run).shift, t0);
-        let date = dates[minutes_to_call(u) as usize];
-        let added = self.added_from(p, t0);
-        walks.cost(p, u) + date + added
+        least + added
     }
 
     // Whether the walks show an announcement that lie in the run and begin in second `p`.
@@ -244,6 +241,21 @@ impl StationWalks {
         } else {
             0
         }
+    }
+
+    // What they add to each of the walks that begin in the minutes from `lo` up to, and without, `hi`. It is nothing unless all
+    // of them lie in one UTC day.
+    pub(crate) fn added_to_all(&self, p: u8, lo: u32, hi: u32) -> u32
+        requires second { p < SECONDS_PER_MINUTE }
+        requires some { lo < hi }
+        requires century { hi ≤ century_minutes }
+        ensures { (t0 : ℕ) → lo ≤ t0 → t0 < hi → MayAdd self.now p t0 result }
+    {
+        let last = hi - 1 + self.later_minutes(p);
+        if last / MINUTES_PER_DAY != lo / MINUTES_PER_DAY {
+            return 0;
+        }
+        self.added[p as usize]
     }
 }
 

@@ -3,3 +3,4 @@ pub mod Steps
 pub mod Passing
 pub mod Workers
 pub mod Recorded
+pub mod Teams

@@ -1,14 +1,14 @@
 //! Searches by floors and without: they find the same keys.
 
-ghost use Rattle.std.specs.Prelude.{◌≤◌, length};
-ghost use Rattle.workers.specs.Searches.{AreItemsOf};
+ghost use Rattle.std.specs.Prelude.{◌≡◌, ◌≤◌, length};
+ghost use Rattle.definitions.specs.answers.Blocks.{items};
 
 use crate::tests::{Counter, YEAR_2001, grid_of, jjy};
 use crate::{Found, NoGate, finish, search_with};
-use bounds::{bounded_children, items};
+use bounds::items;
 use civil::Civil;
-use definitions::{Block, Span, items_share_the_sequences};
-use field_tables::Tables;
+use definitions::Block;
+use field_tables::{Tables, parts_of};
 use race_words::Race;
 use signal_base::{GREATEST_COST, Station};
 use std::alloc::Global;
@@ -33,7 +33,7 @@ fn found_with<R: Threads + Sync>(
     needs_all: bool,
 ) -> Result<Found, Fail>
     requires workers { (1 ≤ workers) × (workers ≤ 8) }
-    requires items { AreItemsOf tables.now.window list.now }
+    requires items { list.now ≡ items tables.now.window }
     requires ceiling { ceiling ≤ GREATEST_COST }
 {
     let (race, mut seat) = Race::make(alloc, workers)?;
@@ -64,7 +64,7 @@ fn found_each_way<R: Threads + Abort + Sync>(
     list: &[Block],
     ceiling: u32,
 ) -> Result<Found, Fail>
-    requires items { AreItemsOf tables.now.window list.now }
+    requires items { list.now ≡ items tables.now.window }
     requires ceiling { ceiling ≤ GREATEST_COST }
 {
     let keys = found_with(rt, alloc, tables, list, ceiling, 1, true)?;
@@ -84,7 +84,7 @@ fn keys_are_found_each_way<R: Threads + Abort + Sync>(
     tables: &Tables,
     list: &[Block],
 ) -> Result<(), Fail>
-    requires { AreItemsOf tables.now.window list.now }
+    requires { list.now ≡ items tables.now.window }
 {
     let found = found_each_way(rt, alloc, tables, list, GREATEST_COST)?;
     let Some(first) = found.first else {
@@ -113,7 +113,8 @@ fn floors_change_no_key<R: Threads + Abort + Sync>(
     let civil = Civil::make(alloc)?;
     let window = jjy(YEAR_2001 - 2880, YEAR_2001 + 1440);
     let grids = [grid_of(alloc, Station::Jjy, text)?];
-    let tables = Tables::make(alloc, &grids, &civil, &window)?;
+    let parts = parts_of(alloc, &civil, &window)?;
+    let tables = Tables::make(alloc, &parts, &grids, &civil, &window)?;
     let list = items(alloc, &civil, &window)?;
     keys_are_found_each_way(rt, alloc, &tables, &list)
 }
@@ -126,28 +127,4 @@ fn floors_change_no_key_of_noise(rt: HostRuntime) -> Result<(), Fail> {
 #[test]
 fn floors_change_no_key_of_silence(rt: HostRuntime) -> Result<(), Fail> {
     floors_change_no_key(&rt, rt.alloc(), b"")
-}
-
-// No clause says that a floor is above 0. By this log one is, of a day on which no leap second is announced.
-#[test]
-fn a_day_of_noise_has_a_floor(rt: HostRuntime) -> Result<(), Fail> {
-    let civil = Civil::make(rt.alloc())?;
-    let window = jjy(YEAR_2001 - 2880, YEAR_2001 + 1440);
-    let grids = [grid_of(rt.alloc(), Station::Jjy, NOISE)?];
-    let tables = Tables::make(rt.alloc(), &grids, &civil, &window)?;
-    let list = items(rt.alloc(), &civil, &window)?;
-    items_share_the_sequences();
-    let Some(year) = list.first() else {
-        panic!(rt; "no year");
-    };
-    assert!(rt; !year.announced);
-    let Some(day) = bounded_children(&tables, year).next_block() else {
-        panic!(rt; "no day");
-    };
-    if day.span != Span::Day {
-        panic!(rt; "no day");
-    }
-    let floor = tables.floor(&day);
-    assert!(rt; floor.is_some() && floor != Some(0), "a floor of nothing");
-    Ok(())
 }

@@ -17,6 +17,7 @@ use block_visits::blocks_share_the_sequences;
 use bounds::{Bounded, block_key, bound, bounded_children};
 use definitions::{Block, Span, children_share_the_sequences};
 use race_words::{Often, Seat};
+use sequence::cost_of;
 use std::marker::Brand;
 
 impl Visitor<'_> {
@@ -64,18 +65,20 @@ impl Visitor<'_> {
     {
         children_share_the_sequences();
         let mut days = bounded_children(self.tables, year);
+        let mut latest = u64::MAX;
         while let Some(day) = days.next_block() {
-            self.visit_day(seat, &day, recorder)?;
+            self.visit_day(seat, &day, &mut latest, recorder)?;
         }
         Ok(())
     }
 
-    // Visits a day, which is passed over by its floor where that can be.
+    // Visits a day, which is passed over by its floor where that can be. `latest` is what was read last.
     #[inline(always)]
     fn visit_day<K: Recorder>(
         &self,
         seat: &mut Seat,
         day: &Block,
+        latest: &mut u64,
         recorder: &mut K,
     ) -> Result<(), K::Fault>
         requires race { seat.old.race ≡ self.now.race.now.id }
@@ -88,7 +91,7 @@ impl Visitor<'_> {
         ensures stopped { let t = self.now.tables.now in
             OnErr result (HasStopped K.told K.fails (costs_of t) t.window self.now.ceiling day.now seat.old.view seat.new.view recorder.old recorder.new) }
     {
-        let Some(seen) = self.pass_over(seat, day) else {
+        let Some(seen) = self.pass_over(seat, day, latest) else {
             return Ok(());
         };
         let found = Bounded {
@@ -144,7 +147,9 @@ impl Visitor<'_> {
         ensures stopped { let t = self.now.tables.now in
             OnErr result (HasStopped K.told K.fails (costs_of t) t.window self.now.ceiling hour.now seat.old.view seat.new.view recorder.old recorder.new) }
     {
-        let Some(seen) = self.pass_over(seat, hour) else {
+        // An hour's floor is a close one, whatever was read before.
+        let mut latest = u64::MAX;
+        let Some(seen) = self.pass_over(seat, hour, &mut latest) else {
             return Ok(());
         };
         let found = Bounded {
@@ -159,9 +164,9 @@ impl Visitor<'_> {
     }
 
     // Reads the race's limit once. None where the block's floor passes it over, and else what was read, by which the
-    // block's own step is to be taken.
+    // block's own step is to be taken. The floor is a close one where another wouldn't do by what was read before.
     #[inline(always)]
-    fn pass_over(&self, seat: &mut Seat, block: &Block) -> Option<u64>
+    fn pass_over(&self, seat: &mut Seat, block: &Block, latest: &mut u64) -> Option<u64>
         requires race { seat.old.race ≡ self.now.race.now.id }
         requires block { IsBlock self.now.tables.now.window block.now }
         ensures race { seat.new.race ≡ seat.old.race }
@@ -171,8 +176,10 @@ impl Visitor<'_> {
         ensures read { IfSome result (λ seen. seat.new.view ≡ after_limit seen seat.old.view) }
     {
         blocks_share_the_sequences();
-        let floor = self.tables.floor(block);
+        let enough = cost_of(limit_at(self.ceiling, *latest));
+        let floor = self.tables.floor(block, enough);
         let seen = self.look::<Brand>(seat, block, floor);
+        *latest = seen;
         if self.is_above(block, floor, seen) {
             return None;
         }

@@ -22,4 +22,4 @@ pub use gate::{Gate, NoGate};
 pub use laws::{first_two_are_found, floors_pass_over};
 pub use recorder::{NoRecord, Recorder};
 pub use searches::{search, search_with};
-pub use visits::visit;
+pub use visits::{visit, visit_with};

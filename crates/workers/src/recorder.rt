@@ -9,7 +9,7 @@ use std::convert::Infallible;
 /// Is told of each block that a visit comes to. Workers who share a search part it among them, and join the parts again.
 pub trait Recorder {
     /// Why a step can't be kept, or it can't be parted or joined.
-    type Fault: Drop + Send;
+    type Fault: Drop;
 
     // what it is before it is told of a step, and after
     ghost told: { Self → Step → Self → Type 0 };

@@ -78,6 +78,8 @@ pub fn search_with<R: Threads + Sync, G: Gate + Sync, K: Recorder + Send + Drop>
     gate: &G,
     recorder: &mut K,
 ) -> Result<(), K::Fault>
+where
+    K::Fault: Send,
     requires race { seat.old.race ≡ race.now.id }
     requires workers { (1 ≤ workers) × (workers ≤ 8) }
     requires fresh { seat.old.view ≡ fresh_view workers }

@@ -2,7 +2,6 @@
 //! searches from end to end.
 
 ghost use Rattle.std.specs.Prelude.{◌≡◌, ◌≤◌, IfOk, length};
-ghost use Rattle.workers.specs.Searches.{AreItemsOf};
 ghost use Rattle.definitions.specs.answers.Blocks.{items};
 
 use crate::recorder::Recorder;
@@ -11,7 +10,7 @@ use crate::{Found, Gate, NoGate, finish, search, search_with};
 use bounds::items;
 use civil::Civil;
 use definitions::{Block, Span, items_share_the_sequences};
-use field_tables::Tables;
+use field_tables::{Tables, parts_of};
 use pulse_log::read_log;
 use race_words::{Race, Seat};
 use signal_base::{CostTable, GREATEST_COST, Station, Stations, Tuning, Window};
@@ -92,7 +91,7 @@ fn found<R: Threads + Sync>(
     workers: u8,
 ) -> Result<Found, Fail>
     requires workers { (1 ≤ workers) × (workers ≤ 8) }
-    requires items { AreItemsOf tables.now.window list.now }
+    requires items { list.now ≡ items tables.now.window }
 {
     let (race, mut seat) = Race::make(alloc, workers)?;
     search(
@@ -117,7 +116,7 @@ fn each_crew_finds<R: Threads + Abort + Sync>(
     first: Option<u64>,
     second: Option<u64>,
 ) -> Result<(), Fail>
-    requires { AreItemsOf tables.now.window list.now }
+    requires { list.now ≡ items tables.now.window }
 {
     for workers in 1..=8 {
         let found = found(rt, alloc, tables, list, workers)?;
@@ -132,7 +131,8 @@ fn one_sequence_is_left_at_the_end_of_the_century(rt: HostRuntime) -> Result<(),
     let civil = Civil::make(rt.alloc())?;
     let window = dcf77(CENTURY - 62, CENTURY);
     let grids = [silent_grid(rt.alloc(), Station::Dcf77)?];
-    let tables = Tables::make(rt.alloc(), &grids, &civil, &window)?;
+    let parts = parts_of(rt.alloc(), &civil, &window)?;
+    let tables = Tables::make(rt.alloc(), &parts, &grids, &civil, &window)?;
     let list = items(rt.alloc(), &civil, &window)?;
     each_crew_finds(&rt, rt.alloc(), &tables, &list, Some(52_595_938), None)
 }
@@ -142,7 +142,8 @@ fn a_silent_hour_ties(rt: HostRuntime) -> Result<(), Fail> {
     let civil = Civil::make(rt.alloc())?;
     let window = jjy(0, 60);
     let grids = [silent_grid(rt.alloc(), Station::Jjy)?];
-    let tables = Tables::make(rt.alloc(), &grids, &civil, &window)?;
+    let parts = parts_of(rt.alloc(), &civil, &window)?;
+    let tables = Tables::make(rt.alloc(), &parts, &grids, &civil, &window)?;
     let list = items(rt.alloc(), &civil, &window)?;
     each_crew_finds(&rt, rt.alloc(), &tables, &list, Some(0), Some(1))
 }
@@ -181,7 +182,8 @@ fn two_workers_meet_at_the_gate(rt: HostRuntime) -> Result<(), Fail> {
     let civil = Civil::make(rt.alloc())?;
     let window = jjy(0, 60);
     let grids = [silent_grid(rt.alloc(), Station::Jjy)?];
-    let tables = Tables::make(rt.alloc(), &grids, &civil, &window)?;
+    let parts = parts_of(rt.alloc(), &civil, &window)?;
+    let tables = Tables::make(rt.alloc(), &parts, &grids, &civil, &window)?;
     let list = items(rt.alloc(), &civil, &window)?;
     let gate = Meeting {
         first: AtomicBool::new(false),
@@ -288,7 +290,8 @@ fn a_visit_goes_by_what_another_seat_offered(rt: HostRuntime) -> Result<(), Fail
     let civil = Civil::make(rt.alloc())?;
     let window = jjy(YEAR_2001 - 2, YEAR_2001 + 2);
     let grids = [silent_grid(rt.alloc(), Station::Jjy)?];
-    let tables = Tables::make(rt.alloc(), &grids, &civil, &window)?;
+    let parts = parts_of(rt.alloc(), &civil, &window)?;
+    let tables = Tables::make(rt.alloc(), &parts, &grids, &civil, &window)?;
     let list = items(rt.alloc(), &civil, &window)?;
     assert_eq!(rt;
         list.get(1).map(|b| (b.span, b.lo, b.second, b.announced)),
@@ -335,7 +338,8 @@ fn a_day_is_passed_over_by_what_another_seat_offered(rt: HostRuntime) -> Result<
     let civil = Civil::make(rt.alloc())?;
     let window = jjy(last, last + 2);
     let grids = [silent_grid(rt.alloc(), Station::Jjy)?];
-    let tables = Tables::make(rt.alloc(), &grids, &civil, &window)?;
+    let parts = parts_of(rt.alloc(), &civil, &window)?;
+    let tables = Tables::make(rt.alloc(), &parts, &grids, &civil, &window)?;
     let list = items(rt.alloc(), &civil, &window)?;
 
     // After greater keys the visit comes to the year, two days, two hours and two minutes.
@@ -365,7 +369,7 @@ fn blocks_of_all<R: Threads + Sync>(
     workers: u8,
 ) -> Result<u32, Fail>
     requires workers { (1 ≤ workers) × (workers ≤ 8) }
-    requires items { AreItemsOf tables.now.window list.now }
+    requires items { list.now ≡ items tables.now.window }
 {
     let (race, mut seat) = Race::make(alloc, workers)?;
     let mut counter = Counter {
@@ -393,7 +397,8 @@ fn each_workers_steps_are_told(rt: HostRuntime) -> Result<(), Fail> {
     let civil = Civil::make(rt.alloc())?;
     let window = jjy(0, 60);
     let grids = [silent_grid(rt.alloc(), Station::Jjy)?];
-    let tables = Tables::make(rt.alloc(), &grids, &civil, &window)?;
+    let parts = parts_of(rt.alloc(), &civil, &window)?;
+    let tables = Tables::make(rt.alloc(), &parts, &grids, &civil, &window)?;
     let list = items(rt.alloc(), &civil, &window)?;
     for workers in 1..=8 {
         let blocks = blocks_of_all(&rt, rt.alloc(), &tables, &list, workers)?;

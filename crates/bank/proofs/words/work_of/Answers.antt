@@ -4,14 +4,14 @@ use Rattle.formats.specs.Orders.{◌>>=◌}
 use Rattle.formats.specs.Orders.Order.{Decode, Feed}
 use Rattle.bank_words.specs.Seen.{order_seen, texts_of}
 use Rattle.bank_words.specs.declared.order.Order.TheVariants as order
-use Rattle.due.specs.Orders.{built}
+use Rattle.due.specs.Orders.{of_run}
 use Rattle.bank.proofs.TaskLaws.{asks_bank}
 use Rattle.bank.proofs.words.work_of.Goals as goal
 
 pub returns-in-Some-clause-work : goal.returns-in-Some-clause-work
 returns-in-Some-clause-work c =
     let d = c.in-Decode in
-    ap (λ check. check >>= built)
+    ap (λ check. check >>= of_run)
     (c.in_ok-order.ensures.value ∙ ap (λ o. Ok (order_seen o)) d.is ∙ ap (λ name. Ok (order_seen (order.Decode d.config d.asked d.workers name))) c.in-Some.is)
 
 pub returns-in-None-clause-work : goal.returns-in-None-clause-work

@@ -8,4 +8,4 @@ returns c = λ none t ge lt.
     no_leap_end t (λ last.
     let day = t / 1440 in
     let is : day * 1440 + 1439 ≡ t = omega (arith, last) in
-    subst (λ n. is_leap_end n ≡ false) is (c.loop-day.invariant day (omega (arith, ge)) (omega (arith, lt, last, c.loop-day-test.false))))
+    subst (λ n. is_leap_end n ≡ false) is (c.loop-i.invariant day (omega (arith, ge, c.loop-i-test.false)) (omega (arith, lt, last))))

@@ -1,7 +1,8 @@
 -- One window after the other.
-use Rattle.std.proofs.Common.{◌≡◌, ◌+◌, ◌-◌, List, All, sym, subst, arith}
+use Rattle.std.proofs.Common.{◌≡◌, ◌+◌, ◌-◌, ◌∙◌, List, All, sym, subst, arith}
 use Rattle.std.proofs.lemmas.List.Elements.{All-nil}
 use Rattle.signal_base.specs.declared.window.Window.{Window}
+use Rattle.field_tables.specs.Scopes.{scopes_of}
 use Rattle.follow_due.specs.declared.window_report.WindowReport.{WindowReport}
 use Rattle.follow_due.specs.Windows.{IsReportOf, window_after, windows_from}
 use Rattle.follow_due.proofs.WindowLaws.{window_in_range}
@@ -24,6 +25,11 @@ loop-i-init g c =
 pub move_to-window-requires-clause-start : goal.move_to-window-requires-clause-start
 move_to-window-requires-clause-start g c =
     (window_in_range c.args.first.now c.args.step c.args.count c.loop-i.i c.requires.window c.requires.last c.loop-i-test.true).start
+
+-- each window has the stations and the length of the first
+pub report_of-requires-clause-parts : goal.report_of-requires-clause-parts
+report_of-requires-clause-parts g c lifetimes live =
+    subst (λ (w : Window). c.deref.result.now ≡ scopes_of w.stations w.seconds) (sym c.move_to-window.ensures.window) (c.deref.ensures.value ∙ c.in_ok-parts.ensures)
 
 pub loop-i-preserved : goal.loop-i-preserved
 loop-i-preserved g c =

@@ -1,13 +1,13 @@
-use Rattle.std.proofs.Common.{◌≡◌, ◌*◌, ◌<◌, ◌≤◌, ℕ, get_or}
+use Rattle.std.proofs.Common.{◌≡◌, ◌*◌, ◌<◌, ◌≤◌, ℕ}
 use Rattle.signal_base.specs.declared.limits.TheConstants.{MOST_RECEIVERS}
 use Rattle.definitions.specs.time.Calendar.{minutes_per_day}
 use Rattle.definitions.specs.heard.Costs.{sum_below}
 use Rattle.symbol_cost.specs.declared.limits.TheConstants.{RECEIVER_COST}
-use Rattle.slot_columns.specs.Days.{day_cost}
+use Rattle.slot_columns.specs.Days.{cost_so_far, day_cost}
 use Rattle.slot_columns.proofs.walks.walk_row.Given as goal
 
 abbrev pub invariant-loop-k : goal.invariant-loop-k
 invariant-loop-k l = record {
-  sums : (u : ℕ) → u < minutes_per_day → get_or l.costs u 0 ≡ sum_below l.k (day_cost l.slots l.day l.p u);
-  bound : (u : ℕ) → u < minutes_per_day → get_or l.costs u 0 ≤ MOST_RECEIVERS * RECEIVER_COST * l.k;
+  sums : (u : ℕ) → u < minutes_per_day → cost_so_far l.costs l.hourly u ≡ sum_below l.k (day_cost l.slots l.day l.p u);
+  bound : (u : ℕ) → u < minutes_per_day → cost_so_far l.costs l.hourly u ≤ MOST_RECEIVERS * RECEIVER_COST * l.k;
 }

@@ -1,12 +1,18 @@
 -- The first two keys by the grids are those of the bank at this offset.
-use Rattle.std.proofs.Common.{List, sym, subst}
+use Rattle.std.proofs.Common.{◌≡◌, List, sym, subst}
+use Rattle.signal_base.specs.declared.window.Window.{Window}
 use Rattle.definitions.specs.declared.sequence.Sequence.{Sequence}
 use Rattle.field_tables.specs.Grids.{AreGrids, HaveCosts, grid_costs}
+use Rattle.field_tables.specs.Scopes.{scopes_of}
 use Rattle.symbol_cost.specs.Grid.{Grid}
 use Rattle.due.specs.Banks.{costs_in}
 use Rattle.bank.specs.Hearing.{bank_seen}
 use Rattle.sweep.proofs.FoundAtLaws.{found_at}
 use Rattle.sweep.proofs.phases.search_at.Goals as goal
+
+pub decide_by-requires-clause-parts : goal.decide_by-requires-clause-parts
+decide_by-requires-clause-parts g c lifetimes live =
+    subst (λ (w : Window). c.args.parts.now ≡ scopes_of w.stations w.seconds) (sym c.window_at-moved.ensures.window) c.requires.parts
 
 pub returns-clause-searched : goal.returns-clause-searched
 returns-clause-searched g c =

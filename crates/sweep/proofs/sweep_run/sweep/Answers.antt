@@ -11,5 +11,5 @@ use Rattle.sweep.proofs.sweep_run.sweep.Goals as goal
 pub returns : goal.returns
 returns g c =
     let words = texts_of c.args.words.now in
-    has_run (sweep_plan words) is_no_failure (sweep_exactly words) (g.F.Files.view c.args.files.now) (g.F.Files.view c.carry_out.new.files) c.carry_out.result c.code.result
+    has_run (sweep_plan words) (λ owed. is_no_failure owed.due) (sweep_exactly words) (g.F.Files.view c.args.files.now) (g.F.Files.view c.carry_out.new.files) c.carry_out.result c.code.result
     (c.code.ensures ∙ ap code_of c.status_after.ensures) c.carry_out.ensures.ends c.carry_out.ensures.only

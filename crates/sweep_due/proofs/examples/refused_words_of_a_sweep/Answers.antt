@@ -26,4 +26,4 @@ returns-clause-seconds c = λ contents. Bad_words (BadNumber Seconds) refl refl
 
 pub returns-clause-certificate : goal.returns-clause-certificate
 unfolding digits number_of
-returns-clause-certificate c = λ contents. Bad_words Usage refl refl
+returns-clause-certificate c = λ contents. Bad_words (BadNumber Seconds) refl refl

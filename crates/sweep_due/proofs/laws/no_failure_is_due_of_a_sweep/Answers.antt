@@ -3,4 +3,4 @@ use Rattle.due.proofs.StatusLaws.{no_failure_is_due}
 use Rattle.sweep_due.proofs.laws.no_failure_is_due_of_a_sweep.Goals as goal
 
 pub returns : goal.returns
-returns c = record { failed = λ words due. (no_failure_is_due due).0; memory = λ words due. (no_failure_is_due due).1 }
+returns c = record { failed = λ words owed. (no_failure_is_due owed.due).0; memory = λ words owed. (no_failure_is_due owed.due).1 }

@@ -13,4 +13,4 @@ visit_item-requires-clause-block c =
     let century : w.to ≤ century_minutes = omega (arith, c.window-window.ensures.ranges.century, ap (λ (w : Window). w.to) c.window-window.ensures.value) in
     let all = All-from_recursion (IsBlock w) (items w) (c.items_share_the_sequences.ensures.blocks w century) in
     let found = c.in_ok-item.ensures.lookup.3 in
-    λ _. subst (IsBlock w) (sym (found.1 c.in_ok-item.item.now)) (subst (All (IsBlock w)) (sym c.requires.items) all c.args.number c.in_ok-item.item.now found.0)
+    subst (IsBlock w) (sym (found.1 c.in_ok-item.item.now)) (subst (All (IsBlock w)) (sym c.requires.items) all c.args.number c.in_ok-item.item.now found.0)

@@ -16,11 +16,11 @@ returns c =
     let its = c.walks-walks.ensures ∙ c.self.view_is in
     let grid_is = c.columns-columns.ensures.columns ∙ ap (λ (v : PricedParts). v.grid) its in
     let same_station = subst (λ (v : PricedParts). v.parts.station ≡ v.grid.station) its c.unions.ensures.station in
-    let station : own.leaps.station ≡ w.grid.station = c.self.invariant.0 ∙ ap (λ (v : PricedParts). v.parts.station) c.self.view_is ∙ same_station in
-    let seconds : own.leaps.seconds ≡ length w.grid.rows = c.self.invariant.1 ∙ ap (λ (v : PricedParts). length v.grid.rows) c.self.view_is in
+    let station : own.leaps.now.station ≡ w.grid.station = c.self.invariant.0 ∙ ap (λ (v : PricedParts). v.parts.station) c.self.view_is ∙ same_station in
+    let seconds : own.leaps.now.seconds ≡ length w.grid.rows = c.self.invariant.1 ∙ ap (λ (v : PricedParts). length v.grid.rows) c.self.view_is in
     let heard = c.station.ensures ∙ ap (λ (g : Grid). g.station) grid_is in
     let untold = λ (one_day : Bool) (free : walk.next_day ≡ true → one_day ≡ false).
     ap (λ (s : Station). has_dut1 s && one_day) (sym heard) ∙ c.is_untold.ensures c.if-not-is_untold.false one_day free in
-    leap_cost_is w own.leaps c.args.p c.args.first c.cost_of_sets.result walk c.in_ok-walk.ensures station seconds untold
-    (subst (λ (g : Grid). c.cost_of_sets.result ≡ unions_cost g (slice_index walk.sets)) grid_is c.cost_of_sets.ensures.cost)
-    (subst (λ (g : Grid). c.cost_of_sets.result ≤ most_cost g) grid_is c.cost_of_sets.ensures.bound)
+    leap_cost_is w own.leaps.now c.args.p c.args.first c.sets_cost.result walk c.in_ok-walk.ensures station seconds untold
+    (subst (λ (g : Grid). c.sets_cost.result ≡ unions_cost g (slice_index walk.sets)) grid_is c.sets_cost.ensures.cost)
+    (subst (λ (g : Grid). c.sets_cost.result ≤ most_cost g) grid_is c.sets_cost.ensures.bound)

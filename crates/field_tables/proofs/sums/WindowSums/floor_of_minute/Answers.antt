@@ -1,5 +1,5 @@
 -- The minute is a block of the window, whose bound is a floor.
-use Rattle.std.proofs.Common.{◌≡◌, ◌+◌, ◌≤◌, min, sym, arith}
+use Rattle.std.proofs.Common.{sym, arith}
 use Rattle.std.proofs.Math.Nat.{min-eq_left}
 use Rattle.field_tables.specs.Sums.{costs_by}
 use Rattle.field_tables.proofs.FloorLaws.{floor_of_bound}

@@ -45,8 +45,8 @@ overflow_add-total c =
     let lt = subst (λ (ws : List PricedParts). i < length ws) all c.loop-station-test.true in
     let is = c.station-item.is ∙ ap (λ (ws : List PricedParts). get_or ws i w) all in
     let same = c.columns.ensures.columns ∙ ap (λ (v : PricedParts). v.grid) c.walks.ensures in
-    let most = subst (λ (g : Grid). c.cost_of_sets-total.result ≤ most_cost g) same c.cost_of_sets-total.ensures.bound in
-    omega (arith, small c.args.self.now are _ _ (next_within c.args.self.now are i w lt is c.loop-station.total c.cost_of_sets-total.result c.loop-station.invariant.bound most))
+    let most = subst (λ (g : Grid). c.sets_cost-total.result ≤ most_cost g) same c.sets_cost-total.ensures.bound in
+    omega (arith, small c.args.self.now are _ _ (next_within c.args.self.now are i w lt is c.loop-station.total c.sets_cost-total.result c.loop-station.invariant.bound most))
 
 pub loop-station-preserved : goal.loop-station-preserved
 loop-station-preserved c =
@@ -61,8 +61,8 @@ loop-station-preserved c =
     let lt = subst (λ (ws : List PricedParts). i < length ws) all c.loop-station-test.true in
     let is = c.station-item.is ∙ ap (λ (ws : List PricedParts). get_or ws i w) all in
     let same = c.columns.ensures.columns ∙ ap (λ (v : PricedParts). v.grid) c.walks.ensures in
-    let most = subst (λ (g : Grid). c.cost_of_sets-total.result ≤ most_cost g) same c.cost_of_sets-total.ensures.bound in
-    let cost = subst (λ (g : Grid). c.cost_of_sets-total.result ≡ unions_cost g (slice_index c.in-Some.sets)) same c.cost_of_sets-total.ensures.cost in
+    let most = subst (λ (g : Grid). c.sets_cost-total.result ≤ most_cost g) same c.sets_cost-total.ensures.bound in
+    let cost = subst (λ (g : Grid). c.sets_cost-total.result ≡ unions_cost g (slice_index c.in-Some.sets)) same c.sets_cost-total.ensures.cost in
     let found = λ (k : ℕ) (less : k < n).
     subst (λ (s : Station). IsUnion sums.window b s k (slice_index c.in-Some.sets k)) (own_station sums are i w lt is)
     (subst (λ (x : Window). IsUnion x b w.parts.station k (slice_index c.in-Some.sets k)) win
@@ -72,7 +72,7 @@ loop-station-preserved c =
           next sums are i w lt is (λ (g : Grid). sum_below n (λ k. set_cost g.station (cost_at g.rows k) (unions g.station k))) _ _
           (c.loop-station.invariant.cost unions each)
           (price_found sums are i w lt is b unions c.in-Some.sets _ each found cost);
-      bound = next_within sums are i w lt is c.loop-station.total c.cost_of_sets-total.result c.loop-station.invariant.bound most;
+      bound = next_within sums are i w lt is c.loop-station.total c.sets_cost-total.result c.loop-station.invariant.bound most;
       walk = λ some. subst (λ (x : Window). HasWalk x b) win c.in-Some.ensures.0;
     }
 

@@ -1,67 +1,84 @@
 use Rattle.std.proofs.Common.{◌≡◌, ℕ, ◌+◌, ◌-◌, ◌%◌, ◌<◌, ◌≤◌, ◌⊎◌, Bool, true, false, nat_lt, if◌then◌else◌, refl, inl, inr, subst, arith}
 use Rattle.slot_columns.specs.Parts.{most_cost}
+use Rattle.minute_parts.specs.Parts.{IsPartTable}
 use Rattle.minute_parts.specs.Runs.{end_of_run, run_at}
 use Rattle.walk_costs.specs.Crossings.{run_across}
 use Rattle.walk_costs.specs.Leasts.{AreLeast}
-use Rattle.walk_costs.specs.Walks.{ArePriced, PricedParts}
+use Rattle.walk_costs.specs.Walks.{ArePriced, PricedParts, cost_of}
 use Rattle.walk_costs.proofs.CrossingLaws.{begun, front, front_few, two_runs}
-use Rattle.walk_costs.proofs.FloorLaws.{fits, no_more}
+use Rattle.walk_costs.proofs.FloorLaws.{no_more}
 use Rattle.walk_costs.proofs.NeighbourLaws.{floor}
+use Rattle.walk_costs.proofs.RunLaws.{ends, in_century}
 use Rattle.walk_costs.proofs.WalkLaws.{most_fits}
 use Rattle.walk_costs.proofs.walks.StationWalks.least_across.Goals as goal
-use Rattle.walk_costs.proofs.walks.StationWalks.least_across.Goals.{After-at}
+use Rattle.walk_costs.proofs.walks.StationWalks.least_across.Goals.{After-added_to_all-added}
 
-priced : (c : After-at) → ArePriced c.args.self.now.parts c.args.self.now.grid c.self.inside.walks c.self.inside.added
+priced : (c : After-added_to_all-added) → ArePriced c.args.self.now.parts c.args.self.now.grid c.self.inside.walks c.self.inside.added
 priced c = subst (λ (v : PricedParts). ArePriced v.parts v.grid c.self.inside.walks c.self.inside.added) c.self.view_is c.self.invariant.priced
 
-least : (c : After-at) → AreLeast c.args.self.now.parts c.args.self.now.grid true c.self.inside.least.across
+least : (c : After-added_to_all-added) → AreLeast c.args.self.now.parts c.args.self.now.grid true c.self.inside.least.across
 least c = subst (λ (v : PricedParts). AreLeast v.parts v.grid true c.self.inside.least.across) c.self.view_is c.self.invariant.across
-
-bound : (c : After-at) → c.kept_cost_of_both.result + c.at.result ≤ most_cost c.args.self.now.grid
-bound c =
-    let own = c.self.inside in
-    omega (
-      arith,
-      c.kept_cost_of_both.ensures,
-      c.at.ensures,
-      fits c.args.self.now own.walks own.added (priced c) true c.args.announced c.args.p c.args.run c.requires.second (omega (arith, c.requires.next)) c.requires.next own.least.across
-          (least c),
-    )
 
 -- a walk minute lies in the run or in the next
 in_either : (i m : ℕ) (first : Bool) → ((if first then i else i + 1) ≡ i) ⊎ ((if first then i else i + 1) ≡ i + 1)
 in_either i m true = inl refl
 in_either i m false = inr refl
 
-pub overflow_add-result : goal.overflow_add-result
-overflow_add-result c =
-    let known = (goal.at.overflow_add-result c).After-at in
-    omega (arith, bound known, most_fits c.args.self.now known.self.inside.walks known.self.inside.added (priced known))
-
-pub returns-clause-floor : goal.returns-clause-floor
-returns-clause-floor c =
-    let known = (goal.at.returns-clause-floor c).After-at in
+-- none of the walks costs less, and none more than the slots can
+each : (c : After-added_to_all-added) (t0 : ℕ) → c.args.lo ≤ t0 → t0 < c.args.hi
+    → (c.kept_cost_of_both-dates.result + c.at-least.result + c.added_to_all-added.result ≤ cost_of c.args.self.now c.args.announced c.args.p t0)
+    × (cost_of c.args.self.now c.args.announced c.args.p t0 ≤ most_cost c.args.self.now.grid)
+each c t0 ge lt =
     let w = c.args.self.now in
-    let own = known.self.inside in
+    let own = c.self.inside in
     let p = c.args.p in
     let i = c.args.run in
-    λ t0 across.
+    let across = c.requires.walks t0 ge lt in
+    let is_run = across.begins.is_run in
+    let is_next = across.ends.is_run in
     let shift : ℕ = (run_at w.parts.runs i).shift in
     let end : ℕ = end_of_run w.parts.runs w.parts.end i in
     let u : ℕ = (t0 + shift) % 1440 in
-    let before = begun w own.walks own.added (priced known) c.args.announced p t0 i (end_of_run w.parts.runs w.parts.end i) refl across in
-    let few = front_few w own.walks own.added (priced known) c.args.announced p t0 i (end_of_run w.parts.runs w.parts.end i) refl across in
-    omega (
-      arith,
-      known.kept_cost_of_both.ensures,
-      known.at.ensures,
-      no_more w own.walks own.added (priced known) true c.args.announced p i c.requires.second across.begins.is_run across.ends.is_run own.least.across (least known) u (omega arith)
-          (end - 1 - t0, omega (arith, before, few), omega (arith, before, few, (priced known).short, c.requires.second)),
-      floor w own.walks own.added (priced known) c.args.announced p i (i + 1) c.requires.second across.begins.is_run across.ends.is_run t0 shift
-          (run_across i (front w own.walks own.added (priced known) c.args.announced p t0 i (end_of_run w.parts.runs w.parts.end i) refl across))
-          (two_runs w own.walks own.added (priced known) c.args.announced p t0 i (end_of_run w.parts.runs w.parts.end i) refl across)
-          (λ m. in_either i m (nat_lt m (front w own.walks own.added (priced known) c.args.announced p t0 i (end_of_run w.parts.runs w.parts.end i) refl across))),
+    let before = begun w own.walks own.added (priced c) c.args.announced p t0 i (end_of_run w.parts.runs w.parts.end i) refl across in
+    let few = front_few w own.walks own.added (priced c) c.args.announced p t0 i (end_of_run w.parts.runs w.parts.end i) refl across in
+    let found = floor w own.walks own.added (priced c) c.args.announced p i (i + 1) across.second is_run is_next t0 shift
+    (run_across i (front w own.walks own.added (priced c) c.args.announced p t0 i (end_of_run w.parts.runs w.parts.end i) refl across))
+    (two_runs w own.walks own.added (priced c) c.args.announced p t0 i (end_of_run w.parts.runs w.parts.end i) refl across)
+    (λ m. in_either i m (nat_lt m (front w own.walks own.added (priced c) c.args.announced p t0 i (end_of_run w.parts.runs w.parts.end i) refl across)))
+    c.added_to_all-added.result (c.added_to_all-added.ensures t0 ge lt) in (
+      omega (
+        arith,
+        c.kept_cost_of_both-dates.ensures,
+        c.at-least.ensures,
+        no_more w own.walks own.added (priced c) true c.args.announced p i across.second is_run is_next own.least.across (least c) u (omega arith)
+            (end - 1 - t0, omega (arith, before, few), omega (arith, before, few, (priced c).short, across.second)),
+        found.0,
+      ),
+      found.1,
     )
 
+fits : (c : After-added_to_all-added) → c.kept_cost_of_both-dates.result + c.at-least.result + c.added_to_all-added.result ≤ most_cost c.args.self.now.grid
+fits c = let first = each c c.args.lo (omega arith) c.requires.some in omega (arith, first.0, first.1)
+
+pub overflow_add-result : goal.overflow_add-result
+overflow_add-result c =
+    let known = (goal.at.overflow_add-result c).After-added_to_all-added in
+    omega (arith, fits known, most_fits c.args.self.now known.self.inside.walks known.self.inside.added (priced known))
+
+pub overflow_add-result-2 : goal.overflow_add-result-2
+overflow_add-result-2 c =
+    let known = (goal.at.overflow_add-result-2 c).After-added_to_all-added in
+    omega (arith, fits known, most_fits c.args.self.now known.self.inside.walks known.self.inside.added (priced known))
+
+pub returns-clause-floor : goal.returns-clause-floor
+returns-clause-floor c = λ t0 ge lt. (each (goal.at.returns-clause-floor c).After-added_to_all-added t0 ge lt).0
+
 pub returns-clause-bound : goal.returns-clause-bound
-returns-clause-bound c = bound (goal.at.returns-clause-bound c).After-at
+returns-clause-bound c = fits (goal.at.returns-clause-bound c).After-added_to_all-added
+
+pub added_to_all-added-requires-clause-century : goal.added_to_all-added-requires-clause-century
+added_to_all-added-requires-clause-century c =
+    let w = c.args.self.now in
+    let table = subst (λ (v : PricedParts). IsPartTable v.parts) c.self.view_is c.self.invariant.priced.table in
+    let begins = (c.requires.walks (c.args.hi - 1) (omega (arith, c.requires.some)) (omega (arith, c.requires.some))).begins in
+    omega (arith, begins.not_over, ends w.parts table c.args.run begins.is_run, in_century w.parts table)

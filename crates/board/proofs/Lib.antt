@@ -1,0 +1,12 @@
+mod TaskLaws
+mod RefusalLaws
+mod BoardedLaws
+mod FoundLaws
+mod ExactLaws
+mod TextLaws
+mod WriteLaws
+mod EntryLaws
+mod PublishLaws
+mod CountLaws
+mod AnswerLaws
+mod EndLaws

@@ -1,0 +1,4 @@
+pub mod Tasks
+pub mod Publishing
+pub mod Asking
+pub mod Finding

@@ -1,0 +1,7 @@
+pub mod Marks
+pub mod Judging
+pub mod Headings
+pub mod Outcomes
+pub mod Checking
+pub mod Kept
+pub mod WholeTexts

@@ -1,0 +1,3 @@
+pub mod CheckOrderLaws
+pub mod CheckDueLaws
+pub mod CheckReadLaws

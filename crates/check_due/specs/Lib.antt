@@ -1,0 +1,4 @@
+pub mod CheckOrders
+pub mod CheckTexts
+pub mod CheckRules
+pub mod CheckPlans

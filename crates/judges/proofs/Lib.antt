@@ -1,0 +1,10 @@
+pub mod TaskLaws
+pub mod RefusalLaws
+pub mod ExactLaws
+pub mod SweptLaws
+pub mod FoundAtLaws
+pub mod StepLaws
+pub mod ChosenLaws
+pub mod ReportLaws
+pub mod OrderLaws
+pub mod FoundLaws

@@ -1,0 +1,4 @@
+mod Keeping
+mod Kept
+mod Appended
+mod Windows

@@ -1,0 +1,121 @@
+//! What no clause says: that steps are kept with ample memory, and that a visit goes by what another seat offered.
+
+ghost use Rattle.std.specs.Prelude.{◌≡◌, IfOk, length};
+ghost use Rattle.signal_base.specs.declared.station.Station.TheVariants.{Jjy};
+ghost use Rattle.definitions.specs.answers.Blocks.{items};
+
+use crate::{StepList, decide_recorded, visit_recorded};
+use bounds::items;
+use civil::Civil;
+use definitions::{Block, items_share_the_sequences};
+use field_tables::{Tables, parts_of};
+use pulse_log::read_log;
+use race_words::{Race, Seat};
+use signal_base::{CostTable, GREATEST_COST, Station, Stations, Tuning, Window};
+use std::alloc::Global;
+use std::test::Fail;
+use symbol_cost::CostGrid;
+use workers::NoGate;
+
+// The first minute of 2001.
+const YEAR_2001: u32 = 527_040;
+
+// The last two minutes of 2000 and the first two of 2001.
+fn window() -> Window
+    ensures { result ≡ record { stations = record { mask = 8 }; start = 0; phase = 0; seconds = 60; from = 527038; to = 527042 } }
+{
+    Window {
+        stations: Stations { mask: 8 },
+        start: 0,
+        phase: 0,
+        seconds: 60,
+        from: YEAR_2001 - 2,
+        to: YEAR_2001 + 2,
+    }
+}
+
+// A log without records, of which nothing is known, so that every sequence costs nothing.
+fn silent_grid(alloc: Global) -> Result<CostGrid, Fail>
+    ensures station { IfOk result (λ grid. grid.station ≡ Jjy) }
+    ensures slots { IfOk result (λ grid. length grid.rows ≡ 60) }
+    ensures receivers { IfOk result (λ grid. grid.receivers ≡ 1) }
+{
+    let log = read_log(alloc, b"")?;
+    let tuning = Tuning {
+        delay: 0,
+        weight: 1,
+    };
+    let table = CostTable::default();
+    let grid = CostGrid::make(alloc, Station::Jjy, &[tuning], &table, &[log], 0, 0, 60)?;
+    Ok(grid)
+}
+
+// The steps of a visit of an item. None where there is no such item, or no memory.
+fn steps_of(
+    alloc: Global,
+    race: &Race,
+    seat: &mut Seat,
+    tables: &Tables,
+    list: &[Block],
+    number: usize,
+) -> Option<StepList>
+    requires race { seat.old.race ≡ race.now.id }
+    requires items { list.now ≡ items tables.now.window }
+    ensures { seat.new.race ≡ seat.old.race }
+{
+    items_share_the_sequences();
+    let _window = tables.window();
+    let item = list.get(number)?;
+    let mut steps = StepList::new(alloc);
+    match visit_recorded(race, seat, tables, item, GREATEST_COST, &mut steps) {
+        Ok(()) => Some(steps),
+        Err(_) => None,
+    }
+}
+
+// How many steps a visit of the second item has, and what the first of them read, once another seat has offered two keys.
+fn first_seen(alloc: Global, tables: &Tables, list: &[Block]) -> Result<Option<(usize, u64)>, Fail>
+    requires { list.now ≡ items tables.now.window }
+{
+    let (race, mut first) = Race::make(alloc, 2)?;
+    let mut other = race.split(&mut first, 1);
+    race.offer(&mut first, 0);
+    race.offer(&mut first, 1);
+    let Some(steps) = steps_of(alloc, &race, &mut other, tables, list, 1) else {
+        return Ok(None);
+    };
+    let seen = steps.as_slice().first().map(|step| step.seen);
+    Ok(seen.map(|seen| (steps.as_slice().len(), seen)))
+}
+
+// A worker that cuts by its own offers alone would open the year.
+#[test]
+fn keeps_what_is_read_of_another_seat(rt: HostRuntime) -> Result<(), Fail> {
+    let civil = Civil::make(rt.alloc())?;
+    let window = window();
+    let grids = [silent_grid(rt.alloc())?];
+    let parts = parts_of(rt.alloc(), &civil, &window)?;
+    let tables = Tables::make(rt.alloc(), &parts, &grids, &civil, &window)?;
+    let list = items(rt.alloc(), &civil, &window)?;
+    assert_eq!(rt; first_seen(rt.alloc(), &tables, &list)?, Some((1, 1)));
+    Ok(())
+}
+
+#[test]
+fn keeps_the_steps_of_each_worker(rt: HostRuntime) -> Result<(), Fail> {
+    let civil = Civil::make(rt.alloc())?;
+    let grids = [silent_grid(rt.alloc())?];
+    let found = decide_recorded(
+        &rt,
+        rt.alloc(),
+        &civil,
+        &grids,
+        &window(),
+        GREATEST_COST,
+        2,
+        &NoGate,
+    );
+    let keys = found.map(|kept| (kept.found.first, kept.found.second, kept.lists.len()));
+    assert_eq!(rt; keys.ok(), Some((Some(527_038), Some(527_039), 2)));
+    Ok(())
+}

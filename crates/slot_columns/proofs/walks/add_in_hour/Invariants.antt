@@ -1,0 +1,10 @@
+use Rattle.std.proofs.Common.{◌≡◌, ◌+◌, ◌<◌, ◌≤◌, ℕ, length, get_or}
+use Rattle.slot_columns.specs.declared.limits.TheConstants.{HOUR_MINUTES}
+use Rattle.slot_columns.proofs.walks.add_in_hour.Given as goal
+
+abbrev pub invariant-loop-u : goal.invariant-loop-u
+invariant-loop-u l = record {
+  long : length l.costs ≡ HOUR_MINUTES;
+  done : (u : ℕ) → u < l.u → get_or l.costs u 0 ≡ get_or l.fn.costs u 0 + get_or l.row (get_or l.column (u + l.m) 0) 0;
+  rest : (u : ℕ) → l.u ≤ u → get_or l.costs u 0 ≡ get_or l.fn.costs u 0;
+}
