@@ -4,7 +4,7 @@
 ghost use Rattle.std.specs.Prelude.{◌≤◌};
 
 use crate::tests::{CONFIG, REPORT, SENTENCES, clean_log, files_of, printed, push_record, words};
-use crate::{load, run};
+use crate::{CertificateGate, load, run};
 use bank_files::{OneByte, SureFiles};
 use std::alloc::{AllocError, Global};
 use std::sync::atomic::{AtomicBool, Ordering};
@@ -207,6 +207,10 @@ impl Gate for Meeting {
         }
         self.gave_up.store(true, Ordering::SeqCst);
     }
+}
+
+impl CertificateGate for Meeting {
+    fn wrote(&self, _steps: u64) {}
 }
 
 // A run whose workers took turns would hold one of them in vain.

@@ -1,11 +1,12 @@
 //! Certificates that decodes write, over files in memory. The steps are those of the published example: of a receiver of DCF77
 //! that heard nothing, a walk of 60 seconds can begin in one of the century's last minutes alone.
 
-use crate::run;
 use crate::tests::{files_of, words};
+use crate::{CertificateGate, run};
 use std::alloc::{AllocError, Global};
+use std::sync::atomic::{AtomicU64, Ordering};
 use std::test::Fail;
-use workers::NoGate;
+use workers::{Gate, NoGate};
 
 const CONFIG: &str = "station = \"dcf77\"\n[[receiver]]\nname = \"a\"\nlog = \"a.log\"\n";
 
@@ -48,7 +49,23 @@ fn certificate(alloc: Global) -> Result<String, AllocError> {
     Ok(text)
 }
 
-// What is told is the same with a certificate and without.
+// Adds up the steps of the certificates that it is told of.
+#[derive(Drop)]
+struct Steps {
+    told: AtomicU64,
+}
+
+impl Gate for Steps {
+    fn pass(&self, _worker: u32, _number: u64) {}
+}
+
+impl CertificateGate for Steps {
+    fn wrote(&self, steps: u64) {
+        self.told.fetch_add(steps, Ordering::SeqCst);
+    }
+}
+
+// What is told is the same with a certificate and without, and the gate is told of 65 and 66 steps.
 #[test]
 fn writes_a_certificate(rt: HostRuntime) -> Result<(), Fail> {
     let mut alone = files_of(rt.alloc(), CONFIG, "")?;
@@ -57,7 +74,11 @@ fn writes_a_certificate(rt: HostRuntime) -> Result<(), Fail> {
     let mut files = files_of(rt.alloc(), CONFIG, "")?;
     files.put("x.cert", b"what was there")?;
     let more = words(rt.alloc(), CERTIFIED)?;
-    assert_eq!(rt; run(&rt, rt.alloc(), &more, &mut files, &NoGate), 0);
+    let steps = Steps {
+        told: AtomicU64::new(0),
+    };
+    assert_eq!(rt; run(&rt, rt.alloc(), &more, &mut files, &steps), 0);
+    assert_eq!(rt; steps.told.load(Ordering::SeqCst), 131);
     let text = certificate(rt.alloc())?;
     assert!(rt; files.contents("x.cert") == Some(text.as_bytes()));
     assert!(rt; files.contents("-") == alone.contents("-"));
@@ -70,7 +91,11 @@ fn leaves_the_file_of_a_refused_bank(rt: HostRuntime) -> Result<(), Fail> {
     let mut files = files_of(rt.alloc(), "station = 1\n", "")?;
     files.put("x.cert", b"what was there")?;
     let more = words(rt.alloc(), CERTIFIED)?;
-    assert_eq!(rt; run(&rt, rt.alloc(), &more, &mut files, &NoGate), 4);
+    let steps = Steps {
+        told: AtomicU64::new(0),
+    };
+    assert_eq!(rt; run(&rt, rt.alloc(), &more, &mut files, &steps), 4);
+    assert_eq!(rt; steps.told.load(Ordering::SeqCst), 0);
     assert!(rt;
         files
             .contents("x.cert")
