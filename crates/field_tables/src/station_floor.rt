@@ -1,6 +1,6 @@
 //! What the sequences of a block cost a station at the least, by pieces of its minutes.
 
-ghost use Rattle.std.specs.Prelude.{ℕ, ◌+◌, ◌<◌, ◌≤◌, length};
+ghost use Rattle.std.specs.Prelude.{ℕ, ◌≡◌, ◌⊎◌, ◌+◌, ◌<◌, ◌≤◌, IfSome, length};
 ghost use Rattle.definitions.specs.time.Calendar.{century_minutes};
 ghost use Rattle.slot_columns.specs.Parts.{most_cost};
 ghost use Rattle.slot_columns.specs.declared.limits.TheConstants.{SECONDS_PER_MINUTE};
@@ -9,11 +9,13 @@ ghost use Rattle.minute_parts.specs.Runs.{end_of_run};
 ghost use Rattle.minute_parts.specs.Unions.{AreRegular};
 ghost use Rattle.minute_parts.specs.Walks.{later_minutes};
 ghost use Rattle.walk_costs.specs.Crossings.{IsAcross};
+ghost use Rattle.walk_costs.specs.Overs.{IsOver};
 ghost use Rattle.walk_costs.specs.Walks.{IsRegularIn, last_minute};
 ghost use Rattle.field_tables.specs.Floors.{CostAtLeast};
 
 use crate::station::StationSums;
 use definitions::{Block, MINUTES_PER_DAY, MINUTES_PER_HOUR};
+use minute_parts::Parts;
 use walk_costs::StationWalks;
 
 // What the sequences cost at the least that begin in a piece of a block's minutes.
@@ -27,7 +29,7 @@ struct Piece {
 
 impl StationSums<'_> {
     /// A floor of a block whose walks have 60 seconds in each minute: none of its sequences costs the station less. It is 0
-    /// where a walk goes over a change of summer time, or over the ends of two runs. Where that of a piece isn't above
+    /// where a walk goes over the ends of two runs, but over a change of summer time. Where that of a piece isn't above
     /// `enough`, walks are looked at one by one that leave their run, and those of a piece of an hour or less.
     pub fn floor(&self, block: &Block, enough: u32) -> u32
         requires second { block.now.second < SECONDS_PER_MINUTE }
@@ -121,8 +123,9 @@ fn floor_inside(
     walks.least_among(block.announced, block.second, run, t, end)
 }
 
-// The piece of the minutes from `t` on whose walks leave the run of `t`. Where all of them end in the next run, and the local
-// time is encoded there as before, they are asked for. All else comes on so few days that 0 will do.
+// The piece of the minutes from `t` on whose walks leave the run of `t`. They are asked for where all of them end in the next run,
+// or, over a change of summer time, in the run behind it, as a run of one minute comes with a change. All else comes on so few days
+// that 0 will do.
 fn piece_across(walks: &StationWalks, block: &Block, t: u32, run: usize, enough: u32) -> Piece
     requires second { block.now.second < SECONDS_PER_MINUTE }
     requires begun { block.now.lo ≤ t }
@@ -142,13 +145,38 @@ fn piece_across(walks: &StationWalks, block: &Block, t: u32, run: usize, enough:
     parts.runs();
     let following = run + 1;
     let end = block.hi.min(parts.run_end(run));
-    if end + later > parts.run_end(following)
-        || parts.run(run).shift != parts.run(following).shift
-    {
+    let Some(last) = last_run(parts, following, end + later) else {
         return Piece { end, floor: 0 };
-    }
-    let floor = floor_across(walks, block, t, end, run, enough);
+    };
+    let shift = parts.run(following).shift;
+    let floor = if parts.run(run).shift != shift {
+        if parts.run(last).shift != shift {
+            return Piece { end, floor: 0 };
+        }
+        floor_over(walks, block, t, end, run, last)
+    } else {
+        if last != following {
+            return Piece { end, floor: 0 };
+        }
+        floor_across(walks, block, t, end, run, enough)
+    };
     Piece { end, floor }
+}
+
+// The run in which the minutes end that come before `end`: this one, or the next. None where they go on.
+fn last_run(parts: &Parts, run: usize, end: u32) -> Option<usize>
+    requires run { run < length parts.now.runs }
+    ensures { IfSome result (λ j. (j < length parts.now.runs) × ((j ≡ run) ⊎ (j ≡ run + 1)) × (end ≤ end_of_run parts.now.runs parts.now.end j)) }
+{
+    // The next run's number fits, as the count of runs does.
+    let runs = parts.runs();
+    if end <= parts.run_end(run) {
+        return Some(run);
+    }
+    if run + 1 < runs && end <= parts.run_end(run + 1) {
+        return Some(run + 1);
+    }
+    None
 }
 
 // The floor of the minutes from `t` on whose walks go from the run to the next.
@@ -174,6 +202,25 @@ fn floor_across(
     let mut least = u32::MAX;
     for t0 in t..end {
         least = least.min(walks.cost_across(&crossing, t0));
+    }
+    least
+}
+
+// The floor of the minutes from `t` on whose walks go from the run to the next, which encodes another local time, or to `last`.
+fn floor_over(walks: &StationWalks, block: &Block, t: u32, end: u32, run: usize, last: usize) -> u32
+    requires some { t < end }
+    requires second { block.now.second < SECONDS_PER_MINUTE }
+    requires runs { (run + 1 < length walks.now.parts.runs) × (last < length walks.now.parts.runs) }
+    requires walks { (t0 : ℕ) → t ≤ t0 → t0 < end → IsOver walks.now block.now.announced block.now.second t0 run last }
+    ensures floor { CostAtLeast walks.now block.now t end result }
+    ensures small { result ≤ most_cost walks.now.grid }
+{
+    let Some(over) = walks.costs_over(block.announced, block.second, run, last) else {
+        return 0;
+    };
+    let mut least = u32::MAX;
+    for t0 in t..end {
+        least = least.min(walks.floor_over(&over, t0));
     }
     least
 }

@@ -9,8 +9,7 @@ use Rattle.definitions.specs.heard.Costs.{sum_below}
 use Rattle.definitions.proofs.CostLaws.{sum_below_same}
 use Rattle.symbol_cost.specs.Grid.{Grid, cost_at}
 use Rattle.minute_parts.specs.Overlay.{is_given_up}
-use Rattle.minute_parts.specs.Parts.{PartTable, part_where}
-use Rattle.minute_parts.specs.Runs.{run_at}
+use Rattle.minute_parts.specs.Parts.{PartTable}
 use Rattle.slot_columns.specs.Parts.{AreWalkCosts}
 use Rattle.slot_columns.specs.Layered.{AreAdded, AreGroups}
 use Rattle.slot_columns.proofs.SetLaws.{none_chosen}
@@ -18,7 +17,7 @@ use Rattle.walk_costs.specs.declared.halves.Split.{Split}
 use Rattle.walk_costs.specs.declared.kinds.Kind.{Kind}
 use Rattle.walk_costs.specs.declared.least.LeastTable.{LeastTable}
 use Rattle.walk_costs.specs.Dates.{given_cost, given_up_set, minutes_to_call}
-use Rattle.walk_costs.specs.Kinds.{AreKindsOf, AreSame, HasPlace, IsBegin, IsKindOf, either_part, either_set, end_in, kind_at, last_begin, told_of}
+use Rattle.walk_costs.specs.Kinds.{AreKindsOf, AreSame, HasPlace, IsBegin, IsKindOf, either_part, either_set, end_in, kind_at, told_of}
 use Rattle.walk_costs.specs.Leasts.{AreHalfCosts, AreHalves, AreLeast, IsLeastBy, IsLeastOf, IsSplit, IsSplitTo, begin_count, no_split, place_of_run, split_at}
 use Rattle.walk_costs.proofs.CallLaws.{in_call}
 use Rattle.walk_costs.proofs.DateLaws.{given, given_sum}

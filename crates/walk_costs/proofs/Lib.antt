@@ -14,5 +14,6 @@ pub mod CrossingLaws
 pub mod PairLaws
 pub mod ScoredLaws
 pub mod NeighbourLaws
+pub mod ChangeLaws
 pub mod LeastLaws
 pub mod FloorLaws

@@ -1,6 +1,6 @@
 -- What no walk through minutes of two runs costs less than, which may be one: what its time of day costs, and what both dates
 -- tell together.
-use Rattle.std.proofs.Common.{◌≡◌, ℕ, ◌+◌, ◌*◌, ◌/◌, ◌%◌, ◌<◌, ◌≤◌, ◌⊎◌, inl, inr, Bool, true, false, ◌==◌, ◌&&◌, bit_or, if◌then◌else◌, List, length, get_or, refl, sym, ap, ◌∙◌, subst, arith}
+use Rattle.std.proofs.Common.{◌≡◌, ℕ, ◌+◌, ◌/◌, ◌%◌, ◌<◌, ◌≤◌, ◌⊎◌, inl, inr, Bool, true, false, ◌==◌, ◌&&◌, bit_or, if◌then◌else◌, List, length, get_or, refl, sym, ap, ◌∙◌, subst, arith}
 use Rattle.std.proofs.lemmas.Bool.{and_left, and_right, cases_Bool, cases_eq, eq-eqb, ne_eqb, or_from}
 use Rattle.std.proofs.lemmas.List.FromFn.{get_or-map-range_with_len}
 use Rattle.signal_base.specs.declared.station.Station.{Station}
@@ -17,7 +17,7 @@ use Rattle.minute_parts.specs.Runs.{run_at}
 use Rattle.minute_parts.specs.Walks.{later_minutes}
 use Rattle.minute_parts.proofs.UnionLaws.{has_or}
 use Rattle.slot_columns.specs.Layered.{AreLayerCosts, LayerSums, part_at, places_of, places_together, together}
-use Rattle.slot_columns.specs.Parts.{minute_cost, most_cost, walk_cost, walk_set}
+use Rattle.slot_columns.specs.Parts.{minute_cost, most_cost, walk_cost}
 use Rattle.slot_columns.specs.Rows.{index_of}
 use Rattle.slot_columns.proofs.SetLaws.{index_at, index_bound, none_chosen, or_index}
 use Rattle.walk_costs.specs.Dates.{IsAdded, given_cost, given_up, given_up_set, kept, kept_set, minutes_to_call, part_cost}
@@ -71,7 +71,7 @@ within_either a b x small (inr is) = λ n has.
     has_or (index_of a) (index_of b) n (inr (ap (λ m. has_bit m n) (ap index_of (sym is) ∙ index_at x small) ∙ has))
 
 -- a set of either date costs no less than what is told of both
-either_less : (station : Station) (costs : ℕ → ℕ) (a b x : ℕ) → IsSetOf station x → (x ≡ a) ⊎ (x ≡ b) → set_cost station costs (either_set a b) ≤ set_cost station costs x
+pub either_less : (station : Station) (costs : ℕ → ℕ) (a b x : ℕ) → IsSetOf station x → (x ≡ a) ⊎ (x ≡ b) → set_cost station costs (either_set a b) ≤ set_cost station costs x
 either_less station costs a b x is one = elim (cases_eq a 255) [
   | inl not_one ↦ omega (arith, none_chosen station costs, ap (λ (t : Bool). set_cost station costs (if t then 0 else if b == 255 then 0 else bit_or (a % 32) (b % 32))) (eq-eqb a 255 not_one))
   | inr a_told ↦ elim (cases_eq b 255) [
@@ -187,7 +187,7 @@ module _ (w : PricedParts) (costs : List (List ℕ)) (more : List ℕ) (priced :
       and_left _ _ (sym (call_minute st u ((p + k) / 60) ((p + k) % 60) (omega (arith, second, priced.short, within)) gives) ∙ apart)
 
   -- a set of either date is one of the station's, where the time of day tells nothing
-  sent_by : (r t s : ℕ) → IsInRun w.parts t r → minute_length announced t ≡ 60 → s < 60 → get_or (times_at w.parts (local_time (run_at w.parts.runs r) t)) s 0 ≡ 0
+  pub sent_by : (r t s : ℕ) → IsInRun w.parts t r → minute_length announced t ≡ 60 → s < 60 → get_or (times_at w.parts (local_time (run_at w.parts.runs r) t)) s 0 ≡ 0
       → IsSetOf st (get_or (part_where announced (run_at w.parts.runs r)) s 0) × (allowed w.parts.station announced (t, s) ≡ get_or (part_where announced (run_at w.parts.runs r)) s 0)
   sent_by r t s here short lt untold =
       let own = w.parts.station in

@@ -36,6 +36,10 @@ module _ (parts : PartTable) (table : IsPartTable parts) where
     | inr le ↦ le
   ]
 
+  -- and each begins in the century
+  pub begins_in_century : (i : ℕ) → i < length parts.runs → first_of parts.runs i < century_minutes
+  begins_in_century i lt = omega (arith, table.rise i lt, ends i lt, in_century)
+
   rises : (k i : ℕ) → i + suc k < length parts.runs → end_of_run parts.runs parts.end i ≤ first_of parts.runs (i + suc k)
   unfolding end_at
   rises zero i lt = let one : i + 1 ≡ i + suc zero = omega arith in omega (arith, next i (omega arith), ap (first_of parts.runs) one)

@@ -4,3 +4,5 @@ pub mod Walks
 pub mod Crossings
 pub mod Kinds
 pub mod Leasts
+pub mod Changes
+pub mod Overs

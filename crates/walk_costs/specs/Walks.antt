@@ -1,5 +1,5 @@
 -- Walks with 60 seconds in each minute that lie in one run of a station's minutes, and what they cost.
-use Rattle.std.specs.Prelude.{ℕ, ◌≡◌, ◌≢◌, ◌⊎◌, ◌==◌, ◌+◌, ◌*◌, ◌/◌, ◌<◌, ◌≤◌, Bool, false, true, if◌then◌else◌, List, length, slice_index}
+use Rattle.std.specs.Prelude.{ℕ, ◌≡◌, ◌≢◌, ◌⊎◌, ◌==◌, ◌+◌, ◌*◌, ◌/◌, ◌<◌, ◌≤◌, Bool, false, true, if◌then◌else◌, List, All, length, slice_index}
 use Rattle.signal_base.specs.declared.limits.TheConstants.{MOST_RECEIVERS, MOST_SECONDS}
 use Rattle.signal_base.specs.declared.station.Station.{Station}
 use Rattle.definitions.specs.declared.sequence.Sequence.{Sequence}
@@ -18,7 +18,9 @@ use Rattle.slot_columns.specs.declared.limits.TheConstants.{SECONDS_PER_MINUTE}
 use Rattle.walk_costs.specs.declared.shown.Shown.{Shown}
 use Rattle.walk_costs.specs.declared.shown.Shown.TheVariants.{Never, Always, Sometimes}
 use Rattle.walk_costs.specs.Dates.{AreAdded, IsAdded, kept, part_cost}
+use Rattle.walk_costs.specs.declared.change.Change.{Change}
 use Rattle.walk_costs.specs.declared.least.LeastWalks.{LeastWalks}
+use Rattle.walk_costs.specs.Changes.{IsChange}
 use Rattle.walk_costs.specs.Leasts.{AreLeast}
 
 -- the parts of a station's telegrams, and what its symbols cost in the slots of a window
@@ -89,11 +91,13 @@ pub record AreDateCosts (parts : PartTable) (grid : Grid) (dates : LayerSums) (p
       ≡ part_cost grid p (together (kept_of parts grid.station announced i) (kept_of parts grid.station announced j))
 
 -- all that is kept of a station
-pub record AreKept (parts : PartTable) (grid : Grid) (costs : List (List ℕ)) (more : List ℕ) (by_date : LayerSums) (places : List ℕ) (floors : LeastWalks) : Type 0 where
+pub record AreKept (parts : PartTable) (grid : Grid) (costs : List (List ℕ)) (more : List ℕ) (by_date : LayerSums) (places : List ℕ) (floors : LeastWalks)
+    (changes : List Change) : Type 0 where
   pub priced : ArePriced parts grid costs more
   pub dates : AreDateCosts parts grid by_date places
   pub inside : AreLeast parts grid false floors.inside
   pub across : AreLeast parts grid true floors.across
+  pub over : All (IsChange parts grid) changes
 
 -- in some slot the station may carry another set than without the announcement
 abbrev pub ShowsAnnouncement : PricedParts → Sequence → Type 0

@@ -129,8 +129,8 @@ pub fn nothing() -> Part
     [0; SECONDS_PER_MINUTE]
 }
 
-// A set that costs no more than either of two.
-fn either(one: u8, other: u8) -> u8
+/// A set that costs no more than either of two.
+pub fn either(one: u8, other: u8) -> u8
     ensures { result ≡ either_set one other }
 {
     if one == UNSCORED {

@@ -4,6 +4,7 @@
 
 mod announced;
 mod call;
+mod change;
 mod crossing;
 mod date;
 mod dut;
@@ -11,6 +12,7 @@ mod halves;
 mod kept;
 mod kinds;
 mod least;
+mod over;
 mod set_costs;
 mod shown;
 #[cfg(test)]
@@ -18,5 +20,6 @@ mod tests;
 mod walks;
 
 pub use crossing::Crossing;
+pub use over::Over;
 pub use shown::Shown;
 pub use walks::StationWalks;

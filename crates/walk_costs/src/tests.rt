@@ -152,6 +152,59 @@ fn one_value_of_dut1_is_told_in_a_day(rt: HostRuntime) -> Result<(), Fail> {
     Ok(())
 }
 
+// The minute before the two that tell of summer time first: 2024-03-31T00:58Z.
+const SPRING: u32 = 12_752_698;
+
+// A low tenth costs 20 and a high one 10, so 0, 1 and no reduction cost 110, 120 and 100. From second 29 on the hour is 1 in the
+// first minute, 100000, and 3 in the next, 110000. From second 59 on a walk meets the last minute that announces the change, which
+// tells the new hour, and the first that doesn't: two marks, a bit that may be 0, and a second 0.
+#[test]
+fn a_walk_over_a_change_of_summer_time(rt: HostRuntime) -> Result<(), Fail> {
+    let civil = Civil::make(rt.alloc())?;
+    let unions = Unions::make(rt.alloc(), Parts::make(rt.alloc(), &civil, Station::Dcf77)?)?;
+    let walks = walks(rt.alloc(), &unions, Station::Dcf77, &table(20, 10))?;
+    for (second, minute, least) in [
+        (29, SPRING, Some(120 + 110 + 120 + 120)),
+        (59, SPRING, Some(100 + 110 + 100 + 110)),
+        (29, SPRING - 1, None),
+        (29, SPRING + 1, None),
+    ] {
+        assert_eq!(rt;
+            least_over(&walks, second, minute),
+            least,
+            "second {second}"
+        );
+    }
+    Ok(())
+}
+
+// What the walk from the minute costs at the least, where it goes from its run to the next, which encodes another local time, or to
+// the run behind that.
+fn least_over(walks: &StationWalks, p: u8, t: u32) -> Option<u32> {
+    let parts = walks.parts();
+    if p as usize >= SECONDS_PER_MINUTE || t >= CENTURY_MINUTES || t >= parts.end() {
+        return None;
+    }
+    let run = parts.run_of(t);
+    if parts.runs() < 3 || run >= parts.runs() - 2 {
+        return None;
+    }
+    let end = t + walks.later_minutes(p) + 1;
+    let last = if end <= parts.run_end(run + 1) {
+        run + 1
+    } else {
+        run + 2
+    };
+    if end <= parts.run_end(run) || end > parts.run_end(last) {
+        return None;
+    }
+    if parts.run(last).shift != parts.run(run + 1).shift {
+        return None;
+    }
+    let over = walks.costs_over(false, p, run, last)?;
+    Some(walks.floor_over(&over, t))
+}
+
 // JJY tells of a leap second in the seconds 53 and 54, but not in the minutes of its call sign. Of 62 slots from second 55
 // on, these seconds come once, in the next minute.
 #[test]

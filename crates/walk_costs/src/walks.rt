@@ -11,6 +11,7 @@ ghost use Rattle.walk_costs.specs.Dates.{AreAdded, IsAdded, minutes_to_call};
 ghost use Rattle.minute_parts.specs.Walks.{later_minutes};
 ghost use Rattle.walk_costs.specs.Walks.{AreSmall, IsRegularIn, IsShown, MayAdd, ShowsAnnouncement, cost_of, last_minute};
 
+use crate::change::{Change, changes_of};
 use crate::dut::added;
 use crate::kept::{DateTable, dates_of};
 use crate::least::LeastWalks;
@@ -35,6 +36,7 @@ pub struct StationWalks<'a> {
     pub(crate) dates: LayerTable,
     pub(crate) announced_dates: Vec<usize>,
     pub(crate) least: LeastWalks,
+    pub(crate) changes: Vec<Change>,
 }
 
 impl<'a> Model for StationWalks<'a> {
@@ -44,7 +46,7 @@ impl<'a> Model for StationWalks<'a> {
 
     ghost view = { λ w. record { parts = w.unions.now; grid = w.columns } };
 
-    ghost invariant = { λ w. AreKept w.unions.now w.columns w.walks w.added w.dates w.announced_dates.items w.least };
+    ghost invariant = { λ w. AreKept w.unions.now w.columns w.walks w.added w.dates w.announced_dates.items w.least w.changes.items };
 }
 
 impl<'a> StationWalks<'a> {
@@ -67,6 +69,7 @@ impl<'a> StationWalks<'a> {
         let added = all_added(&columns);
         let DateTable { costs, announced } = dates_of(alloc, parts, &columns)?;
         let least = LeastWalks::make(alloc, parts, &columns, &walks)?;
+        let changes = changes_of(alloc, parts, &columns)?;
         look_at_all(&columns);
         Ok(StationWalks {
             unions,
@@ -76,6 +79,7 @@ impl<'a> StationWalks<'a> {
             dates: costs,
             announced_dates: announced,
             least,
+            changes,
         })
     }
 

@@ -1,4 +1,3 @@
-use Rattle.std.proofs.Common.{ap, arith}
 use Rattle.walk_costs.proofs.LeastLaws.{one_more_split}
 use Rattle.walk_costs.proofs.halves.halves_of.Goals as goal
 

@@ -1,4 +1,4 @@
-use Rattle.std.proofs.Common.{◌≡◌, ℕ, List, get_or, sym, ap, ◌∙◌}
+use Rattle.std.proofs.Common.{ℕ, List, get_or, sym, ap, ◌∙◌}
 use Rattle.minute_parts.specs.declared.runs.Run.{Run}
 use Rattle.minute_parts.specs.Parts.{part_where}
 use Rattle.minute_parts.specs.Runs.{run_at}

@@ -1,4 +1,4 @@
-use Rattle.std.proofs.Common.{◌≡◌, ◌+◌, ◌*◌, ◌/◌, ◌%◌, ◌==◌, ℕ, Bool, false, true, length, sym, ap, subst, arith}
+use Rattle.std.proofs.Common.{◌≡◌, ◌+◌, ◌*◌, ◌%◌, ◌==◌, ℕ, Bool, false, true, length, sym, ap, subst, arith}
 use Rattle.walk_costs.specs.Kinds.{AreKindsOf, IsKindOf}
 use Rattle.walk_costs.proofs.LeastLaws.{one_more_kind, place_is}
 use Rattle.walk_costs.proofs.kinds.kinds_of.Goals as goal

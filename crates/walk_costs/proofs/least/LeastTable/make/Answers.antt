@@ -1,4 +1,4 @@
-use Rattle.std.proofs.Common.{ℕ, ◌*◌, List, length, subst, arith}
+use Rattle.std.proofs.Common.{◌*◌, List, length, subst, arith}
 use Rattle.signal_base.specs.declared.station.Station.{Station}
 use Rattle.slot_columns.specs.Layered.{AreGroups}
 use Rattle.walk_costs.specs.declared.kinds.Kind.{Kind}

@@ -1,4 +1,4 @@
-use Rattle.std.proofs.Common.{◌≡◌, ◌+◌, ◌-◌, ◌/◌, ◌<◌, ◌≤◌, refl, inl, inr, subst, arith}
+use Rattle.std.proofs.Common.{◌≡◌, ◌/◌, refl, inl, inr, subst, arith}
 use Rattle.std.proofs.lemmas.Bool.{eq-eqb}
 use Rattle.walk_costs.specs.Walks.{ArePriced, PricedParts, last_minute}
 use Rattle.walk_costs.proofs.walks.StationWalks.added_to_all.Goals as goal

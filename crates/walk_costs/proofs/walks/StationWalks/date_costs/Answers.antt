@@ -1,5 +1,4 @@
-use Rattle.std.proofs.Common.{◌≡◌, ◌+◌, ◌<◌, ◌≤◌, List, ℕ, get_or, ap, ◌∙◌, subst, arith}
-use Rattle.symbol_cost.specs.Grid.{Grid}
+use Rattle.std.proofs.Common.{◌≡◌, ◌+◌, ◌<◌, ℕ, get_or, ap, ◌∙◌, subst, arith}
 use Rattle.minute_parts.specs.declared.runs.Run.{Run}
 use Rattle.minute_parts.specs.Parts.{PartTable, part_where}
 use Rattle.minute_parts.specs.Runs.{run_at}
