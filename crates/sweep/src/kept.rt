@@ -96,13 +96,7 @@ fn keep_phase<'a, R: Threads + Sync, G: Gate + Sync>(
     ensures memory { IfErr result (λ stop. stop ≡ NoMemory) }
 {
     // Those of all phases are kept until the certificates are written, so they are the small ones.
-    let tables = Tables::make(
-        alloc,
-        parts,
-        heard.grids.as_slice(),
-        civil,
-        &heard.window,
-    )?;
+    let tables = Tables::make(alloc, parts, heard.grids.as_slice(), civil, &heard.window)?;
     let found = decide_tables(
         rt,
         alloc,
