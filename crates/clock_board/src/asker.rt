@@ -1,6 +1,6 @@
 //! An asker, which reads the board.
 
-ghost use Rattle.std.specs.Prelude.{◌≡◌, ◌≤◌, List, [], IfSome, IsNone, IsSome, IsTrue, IsFalse};
+ghost use Rattle.std.specs.Prelude.{◌≡◌, ◌≤◌, List, [], IsNone, IsSome, IsTrue, IsFalse};
 ghost use Rattle.left_right.specs.Sides.{view};
 ghost use Rattle.board_entries.specs.declared.entry.Entry.{Entry};
 ghost use Rattle.clock_board.specs.Seats.{brought, known, view_of};
@@ -72,32 +72,18 @@ impl Asker {
         ensures rises { self.old.kept.count ≤ self.new.kept.count }
         ensures seen { StartsWith (known self.new).seen (known self.old).seen × ((known self.new).told ≡ (known self.old).told) }
     {
-        let Some(read) = self.look() else {
+        let Some(reader) = self.reader.take() else {
             return false;
         };
-        if read.count < self.kept.count {
-            return false;
-        }
-        self.kept = read;
-        true
-    }
-
-    // What the board shows now. None where the asker has no place, or the tracker has ended.
-    fn look(&mut self) -> Option<Shelf>
-        ensures kept { self.new.kept ≡ self.old.kept }
-        ensures shown { IfSome result (λ s. Shows s (known self.new).seen × StartsWith (known self.new).seen (known self.old).told) }
-        ensures seen { StartsWith (known self.new).seen (known self.old).seen × ((known self.new).told ≡ (known self.old).told) }
-    {
-        let reader = self.reader.take()?;
         match reader.enter_as::<Look>() {
             Ok(reading) => {
-                let shelf = *reading.get();
+                let taken = self.kept.take_in(reading.get());
                 self.reader = Some(reading.leave());
-                Some(shelf)
+                taken
             }
             Err(reader) => {
                 self.reader = Some(reader);
-                None
+                false
             }
         }
     }

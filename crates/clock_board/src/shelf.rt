@@ -1,5 +1,6 @@
 //! The last entries and the number of all: what each copy of the board has.
 
+ghost use Rattle.std.specs.Prelude.{◌≡◌, ◌<◌, ◌≤◌, IsTrue, IsFalse};
 ghost use Rattle.clock_board.specs.Shelves.{after_entry};
 
 use board_entries::{Entry, LAST_ENTRIES};
@@ -14,6 +15,21 @@ pub const MOST_ENTRIES: u32 = 1_000_000_000;
 pub struct Shelf {
     pub(crate) entries: [Option<Entry>; LAST_ENTRIES],
     pub(crate) count: u32,
+}
+
+impl Shelf {
+    /// Becomes as the other, unless that has fewer entries. It returns whether it did. This is the only copy that a question makes.
+    pub(crate) fn take_in(&mut self, other: &Shelf) -> bool
+        ensures taken { IsTrue result → self.new ≡ other.now }
+        ensures kept { IsFalse result → (self.new ≡ self.old) × (other.now.count < self.old.count) }
+        ensures rises { self.old.count ≤ self.new.count }
+    {
+        if other.count < self.count {
+            return false;
+        }
+        *self = *other;
+        true
+    }
 }
 
 impl Absorb<Entry> for Shelf {

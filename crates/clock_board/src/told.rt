@@ -21,18 +21,18 @@ fn has(entry: &Entry, ms: u64) -> bool
     begin <= ms && ms < begin + 1000 * entry.seconds as u64
 }
 
-// The entry in this place, where it has the millisecond, or else the one before.
-fn or_before(before: Option<Entry>, laid: Option<Entry>, ms: u64) -> Option<Entry>
-    ensures last { plain_or_none result ≡ or_laid ms (plain_or_none before) laid }
-    ensures has { IfSome before (λ e. has (plain e) ms ≡ true) → IfSome result (λ e. has (plain e) ms ≡ true) }
+// The entry in this place, where it has the millisecond.
+fn if_it_has(laid: Option<Entry>, ms: u64) -> Option<Entry>
+    ensures laid { plain_or_none result ≡ or_laid ms None laid }
+    ensures has { IfSome result (λ e. has (plain e) ms ≡ true) }
 {
     match laid {
-        None => before,
+        None => None,
         Some(entry) => {
             if has(&entry, ms) {
                 return Some(entry);
             }
-            before
+            None
         }
     }
 }
@@ -61,16 +61,18 @@ pub fn told_of(civil: &Civil, entries: &[Entry], ms: u64) -> Told
     }
 }
 
-// Of the last 64 of these entries, the last that has the millisecond.
+// Of the last 64 of these entries, the last that has the millisecond. The walk begins with the newest and ends at the first that
+// has it.
 fn last_of(entries: &[Entry], ms: u64) -> Option<Entry>
     ensures list { plain_or_none result ≡ last_with ms (last_entries (map plain entries.now)) }
     ensures has { IfSome result (λ e. has (plain e) ms ≡ true) }
 {
-    let mut found = None;
-    for n in entries.len().saturating_sub(LAST_ENTRIES)..entries.len() {
-        found = or_before(found, Some(entry_at(entries, n)), ms);
+    for n in (entries.len().saturating_sub(LAST_ENTRIES)..entries.len()).rev() {
+        if let Some(entry) = if_it_has(Some(entry_at(entries, n)), ms) {
+            return Some(entry);
+        }
     }
-    found
+    None
 }
 
 // The entry of this number.
@@ -107,11 +109,12 @@ impl Shelf {
         ensures list { (list : List Entry) → Shows self.now list → plain_or_none result ≡ last_with ms (last_entries (map plain list)) }
         ensures has { IfSome result (λ e. has (plain e) ms ≡ true) }
     {
-        let mut found = None;
-        for n in self.count.saturating_sub(LAST_ENTRIES as u32)..self.count {
-            found = or_before(found, self.laid(n), ms);
+        for n in (self.count.saturating_sub(LAST_ENTRIES as u32)..self.count).rev() {
+            if let Some(entry) = if_it_has(self.laid(n), ms) {
+                return Some(entry);
+            }
         }
-        found
+        None
     }
 
     // What lies in the place of the entry of this number.

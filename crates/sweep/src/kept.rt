@@ -95,13 +95,8 @@ fn keep_phase<'a, R: Threads + Sync, G: Gate + Sync>(
     ensures kept { IfOk result (IsKeptAt window.now (bank_seen bank.now) certify.now.name.now) }
     ensures memory { IfErr result (λ stop. stop ≡ NoMemory) }
 {
-    let tables = Tables::make_with_days(
-        alloc,
-        parts,
-        heard.grids.as_slice(),
-        civil,
-        &heard.window,
-    )?;
+    // Those of all phases are kept until the certificates are written, so they are the small ones.
+    let tables = Tables::make(alloc, parts, heard.grids.as_slice(), civil, &heard.window)?;
     let found = decide_tables(
         rt,
         alloc,

@@ -1,13 +1,10 @@
--- What is found so far, and the rest, find the last.
-use Rattle.std.proofs.Common.{◌≡◌, true, map, IfSome}
-use Rattle.board_entries.specs.Board.{has, last_entries, last_with}
-use Rattle.board_entries.specs.Plain.{plain}
-use Rattle.clock_board.specs.Shelves.{plain_or_none}
-use Rattle.clock_board.proofs.Listing.{with_rest}
+-- None of the entries that were looked at has the millisecond.
+use Rattle.std.proofs.Common.{◌-◌, ◌≤◌, length}
+use Rattle.clock_board.proofs.Listing.{NoneFrom}
 use Rattle.clock_board.proofs.told.last_of.Given as goal
 
 abbrev pub invariant-loop-n : goal.invariant-loop-n
 invariant-loop-n l = record {
-  list : with_rest l.ms l.entries l.n (plain_or_none l.found) ≡ last_with l.ms (last_entries (map plain l.entries));
-  found : IfSome l.found (λ e. has (plain e) l.ms ≡ true);
+  first : length l.entries - 64 ≤ l.n;
+  none : NoneFrom l.ms l.entries l.n;
 }

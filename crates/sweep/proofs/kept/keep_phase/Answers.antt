@@ -10,8 +10,8 @@ use Rattle.due.specs.Banks.{costs_in}
 use Rattle.bank.specs.Hearing.{bank_seen}
 use Rattle.sweep.proofs.kept.keep_phase.Goals as goal
 
-pub make_with_days-requires-clause-parts : goal.make_with_days-requires-clause-parts
-make_with_days-requires-clause-parts g c =
+pub make-requires-clause-parts : goal.make-requires-clause-parts
+make-requires-clause-parts g c =
     subst (λ (w : Window). c.args.parts.now ≡ scopes_of w.stations w.seconds) (sym c.requires.heard.window_is) c.requires.parts
 
 pub returns-clause-kept : goal.returns-clause-kept
