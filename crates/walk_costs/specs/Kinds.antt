@@ -60,6 +60,13 @@ pub record IsPlaced (old new : List Kind) (kind : Kind) (place : ℕ) : Type 0 w
   pub longer : length old ≤ length new
   pub kept : (k : ℕ) → k < length old → kind_at new k ≡ kind_at old k
 
+-- a kind that begins in this minute at the latest stands there
+pub record IsPlacedBy (old new : List Kind) (last place : ℕ) : Type 0 where
+  pub within : place < length new
+  pub begins : (kind_at new place).last ≡ last
+  pub longer : length old ≤ length new
+  pub kept : (k : ℕ) → k < length old → kind_at new k ≡ kind_at old k
+
 -- and the place stands behind the old places
 pub record HasPlace (old new : List Kind) (places more : List ℕ) (kind : Kind) : Type 0 where
   pub place : ℕ

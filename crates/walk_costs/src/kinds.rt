@@ -2,10 +2,10 @@
 //!
 //! There are few: in those seconds the date tells the year, the weekday and whether a leap second is announced.
 
-ghost use Rattle.std.specs.Prelude.{◌≡◌, ◌*◌, ◌<◌, ℕ, IfOk, OnOk, length, slice_index, true};
+ghost use Rattle.std.specs.Prelude.{◌≡◌, ◌*◌, ◌<◌, ℕ, IfOk, OnOk, false, length, slice_index, true};
 ghost use Rattle.minute_parts.specs.Overlay.{is_given_up};
 ghost use Rattle.minute_parts.specs.Parts.{IsPartTable};
-ghost use Rattle.walk_costs.specs.Kinds.{AreKindsOf, AreSame, HasPlace, IsKindOf, IsPlaced, either_set, end_in, last_begin};
+ghost use Rattle.walk_costs.specs.Kinds.{AreKindsOf, AreSame, HasPlace, IsKindOf, IsPlaced, IsPlacedBy, either_set, end_in, last_begin};
 
 use crate::walks::local_time;
 use definitions::MINUTES_PER_DAY;
@@ -49,6 +49,9 @@ pub fn kinds_of(
     requires { IsPartTable parts.now }
     ensures { IfOk result (λ kinds. AreKindsOf parts.now station across kinds.all.items kinds.places.items (2 * length parts.now.runs)) }
 {
+    if !gives_up(station) {
+        return kinds_by_end(alloc, parts, station, across);
+    }
     let mut all = Vec::new(alloc);
     let mut places = Vec::with_capacity(alloc, parts.runs().saturating_mul(2))?;
     for i in 0..parts.runs() {
@@ -64,6 +67,43 @@ pub fn kinds_of(
         )?;
     }
     Ok(Kinds { all, places })
+}
+
+// The same of a station that gives up no second: they differ by when they may begin alone, and are few.
+fn kinds_by_end(
+    alloc: Global,
+    parts: &Parts,
+    station: Station,
+    across: bool,
+) -> Result<Kinds, AllocError>
+    requires table { IsPartTable parts.now }
+    requires keeps { (s : ℕ) → is_given_up station s ≡ false }
+    ensures { IfOk result (λ kinds. AreKindsOf parts.now station across kinds.all.items kinds.places.items (2 * length parts.now.runs)) }
+{
+    let mut all = Vec::new(alloc);
+    let mut places = Vec::with_capacity(alloc, parts.runs().saturating_mul(2))?;
+    for i in 0..parts.runs() {
+        let place = place_by_end(&mut all, last_begin(parts, across, i))?;
+        places.push(place)?;
+        places.push(place)?;
+    }
+    Ok(Kinds { all, places })
+}
+
+// Where a kind stands then that begins in this minute at the latest, and tells nothing.
+fn place_by_end(all: &mut Vec<Kind>, last: u16) -> Result<usize, AllocError>
+    ensures { IfOk result (IsPlacedBy all.old.items all.new.items last) }
+{
+    for i in 0..all.len() {
+        if all[i].last == last {
+            return Ok(i);
+        }
+    }
+    all.push(Kind {
+        told: nothing(),
+        last,
+    })?;
+    Ok(all.len() - 1)
 }
 
 // That of the walks which begin in a run.
