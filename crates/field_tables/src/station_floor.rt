@@ -29,7 +29,7 @@ struct Piece {
 
 impl StationSums<'_> {
     /// A floor of a block whose walks have 60 seconds in each minute: none of its sequences costs the station less. It is 0
-    /// where a walk goes over the ends of two runs, but over a change of summer time. Where that of a piece isn't above
+    /// where a walk goes over the ends of three runs, or of two at a station that sends a call sign. Where that of a piece isn't above
     /// `enough`, walks are looked at one by one that leave their run, and those of a piece of an hour or less.
     pub fn floor(&self, block: &Block, enough: u32) -> u32
         requires second { block.now.second < SECONDS_PER_MINUTE }
@@ -123,9 +123,9 @@ fn floor_inside(
     walks.least_among(block.announced, block.second, run, t, end)
 }
 
-// The piece of the minutes from `t` on whose walks leave the run of `t`. They are asked for where all of them end in the next run,
-// or, over a change of summer time, in the run behind it, as a run of one minute comes with a change. All else comes on so few days
-// that 0 will do.
+// The piece of the minutes from `t` on whose walks leave the run of `t`. They are asked for where all of them end in the next run or
+// in the one behind it: a run of one minute comes with a change of summer time, and with a new year where a leap second may end the
+// old one. All else comes on so few days that 0 will do.
 fn piece_across(walks: &StationWalks, block: &Block, t: u32, run: usize, enough: u32) -> Piece
     requires second { block.now.second < SECONDS_PER_MINUTE }
     requires begun { block.now.lo ≤ t }
@@ -149,16 +149,13 @@ fn piece_across(walks: &StationWalks, block: &Block, t: u32, run: usize, enough:
         return Piece { end, floor: 0 };
     };
     let shift = parts.run(following).shift;
-    let floor = if parts.run(run).shift != shift {
+    let floor = if last == following && parts.run(run).shift == shift {
+        floor_across(walks, block, t, end, run, enough)
+    } else {
         if parts.run(last).shift != shift {
             return Piece { end, floor: 0 };
         }
         floor_over(walks, block, t, end, run, last)
-    } else {
-        if last != following {
-            return Piece { end, floor: 0 };
-        }
-        floor_across(walks, block, t, end, run, enough)
     };
     Piece { end, floor }
 }
@@ -206,7 +203,7 @@ fn floor_across(
     least
 }
 
-// The floor of the minutes from `t` on whose walks go from the run to the next, which encodes another local time, or to `last`.
+// The floor of the minutes from `t` on whose walks go from the run to the next, which may encode another local time, or to `last`.
 fn floor_over(walks: &StationWalks, block: &Block, t: u32, end: u32, run: usize, last: usize) -> u32
     requires some { t < end }
     requires second { block.now.second < SECONDS_PER_MINUTE }

@@ -1,15 +1,16 @@
 -- What a walk costs at the least that goes over a change of the encoded local time.
-use Rattle.std.proofs.Common.{◌≡◌, ◌⊎◌, ℕ, ◌+◌, ◌-◌, ◌/◌, ◌%◌, ◌<◌, ◌≤◌, inl, inr, Bool, true, false, ◌==◌, ◌&&◌, ◌||◌, nat_lt, if◌then◌else◌, List, length, get_or, refl, ap, ◌∙◌, arith}
+use Rattle.std.proofs.Common.{◌≡◌, ◌⊎◌, ℕ, ◌+◌, ◌-◌, ◌/◌, ◌%◌, ◌<◌, ◌≤◌, inl, inr, Bool, true, false, ◌==◌, ◌&&◌, ◌||◌, nat_lt, if◌then◌else◌, List, [], slice_index_or, length, get_or, refl, ap, ◌∙◌, arith}
 use Rattle.std.proofs.lemmas.Bool.{cases_Bool, cases_lt, le-ltb, lt-ltb, or_from}
 use Rattle.signal_base.specs.declared.station.Station.{Station}
 use Rattle.definitions.specs.declared.sequence.Sequence.{Sequence}
 use Rattle.definitions.specs.sequences.Walks.{set_at}
-use Rattle.symbol_cost.specs.Grid.{cost_at}
+use Rattle.definitions.proofs.CostLaws.{sum_below_same}
+use Rattle.symbol_cost.specs.Grid.{Grid, cost_at}
 use Rattle.minute_parts.specs.Overlay.{is_given_up, is_time_second}
 use Rattle.minute_parts.specs.Parts.{IsInRun, local_time, part_where, times_at}
 use Rattle.minute_parts.specs.Runs.{end_of_run, run_at}
 use Rattle.minute_parts.specs.Walks.{later_minutes}
-use Rattle.slot_columns.specs.Parts.{most_cost, split_cost, split_set}
+use Rattle.slot_columns.specs.Parts.{most_cost, split_cost, split_set, walk_cost, walk_set}
 use Rattle.slot_columns.proofs.SetLaws.{none_chosen}
 use Rattle.walk_costs.specs.Changes.{before, cost_in_slot_over, cost_over}
 use Rattle.walk_costs.specs.Dates.{IsAdded}
@@ -31,6 +32,18 @@ gives_none false keeps gives = absurd cc
 none_given : (call gives : Bool) → gives ≡ false → (call && gives) ≡ false
 none_given true gives keeps = keeps
 none_given false gives keeps = refl
+
+-- where the local time stays as it is the times of day cost what a walk through a day does
+pub unchanged : (grid : Grid) (times : List (List ℕ)) (u b p : ℕ) → walk_cost grid.station (cost_at grid.rows) (length grid.rows) p times u ≡ cost_over grid times u u b p
+unchanged grid times u b p =
+    sum_below_same (length grid.rows) (λ k. cost_in grid k (walk_set times u p k)) (cost_in_slot_over grid times u u b p)
+    (λ k within. by_test k (nat_lt ((p + k) / 60) b))
+  where
+    by_test : (k : ℕ) (t : Bool)
+        → cost_in grid k (get_or (slice_index_or times ((u + (p + k) / 60) % 1440) []) ((p + k) % 60) 0)
+        ≡ cost_in grid k (get_or (slice_index_or times (((if t then u else u) + (p + k) / 60) % 1440) []) ((p + k) % 60) 0)
+    by_test k true = refl
+    by_test k false = refl
 
 module _ (w : PricedParts) (costs : List (List ℕ)) (more : List ℕ) (priced : ArePriced w.parts w.grid costs more)
     (announced : Bool) (p t0 i j end : ℕ) (is_end : end ≡ end_of_run w.parts.runs w.parts.end i) (over : IsOver w announced p t0 i j)

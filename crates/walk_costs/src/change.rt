@@ -119,8 +119,8 @@ fn costs_from(parts: &Parts, columns: &SlotColumns, from: u16, to: u16, p: u8) -
     costs
 }
 
-// So many minutes before a minute of the day, at most 20.
-fn before(u: u16, b: u32) -> u16
+/// So many minutes before a minute of the day, at most 20.
+pub fn before(u: u16, b: u32) -> u16
     requires minute { u < minutes_per_day }
     requires few { b ≤ 20 }
     ensures minute { result ≡ before u b }

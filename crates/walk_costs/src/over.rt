@@ -4,14 +4,18 @@
 //! the change still in the minute that tells the new time first.
 
 ghost use Rattle.std.specs.Prelude.{◌≡◌, ◌+◌, ◌<◌, ◌≤◌, IfSome, length};
+ghost use Rattle.definitions.specs.time.Calendar.{minutes_per_day};
 ghost use Rattle.slot_columns.specs.Parts.{most_cost};
+ghost use Rattle.walk_costs.specs.Changes.{AreCostsOver};
 ghost use Rattle.walk_costs.specs.Kinds.{either_part};
 ghost use Rattle.walk_costs.specs.Overs.{AreCostsOfOver, IsOver};
 ghost use Rattle.walk_costs.specs.Walks.{cost_of};
 
+use crate::change::before;
 use crate::kinds::{either, nothing};
 use crate::walks::{StationWalks, local_time};
-use slot_columns::{Part, SECONDS_PER_MINUTE, SplitCosts};
+use minute_parts::gives_up;
+use slot_columns::{Part, SECONDS_PER_MINUTE, SPLITS, SplitCosts};
 
 /// What walks cost at the least that begin in one run, in one second, and whose other minutes lie in the next run or in another.
 #[derive(Clone, Copy, Debug, PartialEq, Eq)]
@@ -33,8 +37,9 @@ pub struct Over {
 }
 
 impl StationWalks<'_> {
-    /// What walks cost at the least that begin in second `p`, below 60, of a run, and go on to the next, which encodes another local
-    /// time, or to `last`. None where that isn't kept: of a station that sends a call sign, or where the local time is the same.
+    /// What walks cost at the least that begin in second `p`, below 60, of a run, and go on to the next or to `last`, which encode the
+    /// same local time, perhaps another one than the first run. None where the change isn't kept, and of a station that sends a call
+    /// sign.
     pub fn costs_over(&self, announced: bool, p: u8, run: usize, last: usize) -> Option<Over>
         requires second { p < SECONDS_PER_MINUTE }
         requires next { run + 1 < length self.now.parts.runs }
@@ -46,27 +51,60 @@ impl StationWalks<'_> {
         // The next run's number fits, as the count of runs does, and it begins in the century.
         parts.runs();
         parts.end();
+        if gives_up(self.columns.station()) {
+            return None;
+        }
         let end = parts.run_end(run);
         let from = local_time(parts.run(run).shift, end);
         let to = local_time(parts.run(run + 1).shift, end);
+        let times = self.times_over(p, from, to)?;
+        let before = parts.run(run).date_part(announced);
+        let next = parts.run(run + 1).date_part(announced);
+        let after = either_part(next, parts.run(last).date_part(announced));
+        Some(Over {
+            announced,
+            second: p,
+            run,
+            last,
+            end,
+            times,
+            dates: self.columns.split_costs(p, before, &after),
+        })
+    }
+
+    // What the times of day cost where the local time goes on at `to` in place of `from`: in the walks through a day where these are
+    // the same, else by the changes.
+    fn times_over(&self, p: u8, from: u16, to: u16) -> Option<SplitCosts>
+        requires second { p < SECONDS_PER_MINUTE }
+        requires minute { from < minutes_per_day }
+        ensures { IfSome result (AreCostsOver self.now.grid self.now.parts.times from to p) }
+    {
+        if from == to {
+            return Some(self.times_on(p, from));
+        }
         for i in 0..self.changes.len() {
             let change = &self.changes[i];
             if change.from == from && change.to == to {
-                let before = parts.run(run).date_part(announced);
-                let next = parts.run(run + 1).date_part(announced);
-                let after = either_part(next, parts.run(last).date_part(announced));
-                return Some(Over {
-                    announced,
-                    second: p,
-                    run,
-                    last,
-                    end,
-                    times: change.costs[p as usize],
-                    dates: self.columns.split_costs(p, before, &after),
-                });
+                return Some(change.costs[p as usize]);
             }
         }
         None
+    }
+
+    // Where they are the same.
+    fn times_on(&self, p: u8, from: u16) -> SplitCosts
+        requires second { p < SECONDS_PER_MINUTE }
+        requires minute { from < minutes_per_day }
+        ensures { AreCostsOver self.now.grid self.now.parts.times from from p result }
+    {
+        let walks = &self.walks;
+        // The slots are few, and so the later minutes.
+        self.columns.seconds();
+        let mut costs = [0; SPLITS];
+        for b in 0..SPLITS as u32 {
+            costs[b as usize] = walks.cost(p, before(from, b));
+        }
+        costs
     }
 
     /// What a sequence costs the station at the least that begins in the minute `t0`, where its walk is one of these.

@@ -155,6 +155,10 @@ fn one_value_of_dut1_is_told_in_a_day(rt: HostRuntime) -> Result<(), Fail> {
 // The minute before the two that tell of summer time first: 2024-03-31T00:58Z.
 const SPRING: u32 = 12_752_698;
 
+// The minute before the one in which the new year is told first; the next one tells of a leap second, if there is one:
+// 2024-12-31T22:58Z.
+const NEW_YEAR: u32 = 13_150_018;
+
 // A low tenth costs 20 and a high one 10, so 0, 1 and no reduction cost 110, 120 and 100. From second 29 on the hour is 1 in the
 // first minute, 100000, and 3 in the next, 110000. From second 59 on a walk meets the last minute that announces the change, which
 // tells the new hour, and the first that doesn't: two marks, a bit that may be 0, and a second 0.
@@ -167,7 +171,8 @@ fn a_walk_over_a_change_of_summer_time(rt: HostRuntime) -> Result<(), Fail> {
         (29, SPRING, Some(120 + 110 + 120 + 120)),
         (59, SPRING, Some(100 + 110 + 100 + 110)),
         (29, SPRING - 1, None),
-        (29, SPRING + 1, None),
+        (29, SPRING + 1, Some(120 + 110 + 120 + 120)),
+        (59, NEW_YEAR, Some(100 + 110 + 100 + 110)),
     ] {
         assert_eq!(rt;
             least_over(&walks, second, minute),
