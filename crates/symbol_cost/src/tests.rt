@@ -203,3 +203,32 @@ fn grids_of_the_largest_logs(rt: HostRuntime) -> Result<(), Fail> {
     }
     Ok(())
 }
+
+// Three minutes of such a log at one receiver, moved by a minute and made anew: a second costs 500 throughout. `bench/grid` reads what
+// is printed.
+#[test]
+fn grids_moved_by_a_minute(rt: HostRuntime) -> Result<(), Fail> {
+    let text = largest_text(rt.alloc())?;
+    let tunings = [Tuning {
+        delay: 0,
+        weight: 1,
+    }];
+    let logs = [read(&rt, text.as_slice())?];
+    let table = CostTable::default();
+    let msf = Station::Msf;
+    for _ in 0..5u8 {
+        let mut moved = CostGrid::make(rt.alloc(), msf, &tunings, &table, &logs, 0, 0, 180)?;
+        let begin = Instant::now(&rt)?;
+        moved.advance(&tunings, &table, &logs, 0, 0, 60);
+        let advancing = begin.elapsed(&rt)?.as_nanos();
+        let begin = Instant::now(&rt)?;
+        let made = CostGrid::make(rt.alloc(), msf, &tunings, &table, &logs, 60_000, 0, 180)?;
+        let making = begin.elapsed(&rt)?.as_nanos();
+        println!(rt; "{advancing} nanoseconds to move, {making} to make")?;
+        for slot in [0, 119, 120, 179] {
+            assert_eq!(rt; moved.cost(slot, 16), 500);
+            assert_eq!(rt; made.cost(slot, 16), 500);
+        }
+    }
+    Ok(())
+}
