@@ -213,28 +213,44 @@ impl CertificateGate for Meeting {
     fn wrote(&self, _steps: u64) {}
 }
 
-// A run whose workers took turns would hold one of them in vain.
+// A run whose workers took turns would hold one of them in vain, also where a certificate is asked for.
 #[test]
 fn workers_search_beside_each_other(rt: HostRuntime) -> Result<(), Fail> {
-    let mut files = files_of(rt.alloc(), CONFIG, "")?;
-    let words = words(rt.alloc(), "decode k.toml --workers 2")?;
-    let gate = Meeting {
-        first: AtomicBool::new(false),
-        second: AtomicBool::new(false),
-        gave_up: AtomicBool::new(false),
-    };
-    assert_eq!(rt; run(&rt, rt.alloc(), &words, &mut files, &gate), 1);
-    assert!(rt;
-        printed(
-            &files,
-            "undecided 0\nphase 0\nsequence 2000-01-01T00:00Z 0 no\nsequence 2000-01-01T00:01Z 0 no\n"
-        )
-    );
-    assert!(rt; gate.first.load(Ordering::SeqCst), "worker 0 passed");
-    assert!(rt; gate.second.load(Ordering::SeqCst), "worker 1 passed");
-    assert!(rt;
-        !gate.gave_up.load(Ordering::SeqCst),
-        "neither waited in vain"
-    );
+    for line in [
+        "decode k.toml --workers 2",
+        "decode k.toml --workers 2 --certificate y.cert",
+    ] {
+        let mut files = files_of(rt.alloc(), CONFIG, "")?;
+        let words = words(rt.alloc(), line)?;
+        let gate = Meeting {
+            first: AtomicBool::new(false),
+            second: AtomicBool::new(false),
+            gave_up: AtomicBool::new(false),
+        };
+        assert_eq!(rt;
+            run(&rt, rt.alloc(), &words, &mut files, &gate),
+            1,
+            "{line}"
+        );
+        assert!(rt;
+            printed(
+                &files,
+                "undecided 0\nphase 0\nsequence 2000-01-01T00:00Z 0 no\nsequence 2000-01-01T00:01Z 0 no\n"
+            ),
+            "{line}"
+        );
+        assert!(rt;
+            gate.first.load(Ordering::SeqCst),
+            "worker 0 passed: {line}"
+        );
+        assert!(rt;
+            gate.second.load(Ordering::SeqCst),
+            "worker 1 passed: {line}"
+        );
+        assert!(rt;
+            !gate.gave_up.load(Ordering::SeqCst),
+            "neither waited in vain: {line}"
+        );
+    }
     Ok(())
 }

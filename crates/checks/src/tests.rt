@@ -182,33 +182,53 @@ fn ends_at_a_failing_report(rt: HostRuntime) -> Result<(), Fail> {
     Ok(())
 }
 
+const DECODE: &str =
+    "decode k.toml --seconds 60 --from 2099-12-31T22:58Z --workers 1 --certificate y.cert";
+
+const DECODED: &str =
+    "decided 0\nphase 0\nsequence 2099-12-31T22:58Z 0 no\nnext none\nminute 2099-12-31T22:58Z at 0\n";
+
 // The decode that writes the certificate. The configuration is read in two calls and the empty log in one; then the file is made, its
-// text is written in one, and the report.
+// text is written in one, and the report. So the seventh never comes.
 #[test]
 fn a_decode_ends_at_a_failing_call(rt: HostRuntime) -> Result<(), Fail> {
     let text = certificate(rt.alloc())?;
-    let words = words(
-        rt.alloc(),
-        "decode k.toml --seconds 60 --from 2099-12-31T22:58Z --workers 1 --certificate y.cert",
-    )?;
-    for call in 1..7 {
+    let words = words(rt.alloc(), DECODE)?;
+    for call in 1..8 {
         let mut files = files_of(rt.alloc(), CONFIG, "", "")?;
         files.fail(call)?;
+        let status = if call < 7 { 6 } else { 0 };
         assert_eq!(rt;
             bank::run(&rt, rt.alloc(), &words, &mut files, &NoGate),
-            6,
+            status,
             "call {call}"
         );
         let written = files.contents("y.cert");
         assert_eq!(rt; written.is_some(), call > 4, "call {call}");
         let due = if call > 5 { text.as_bytes() } else { b"" };
         assert!(rt; written.unwrap_or(b"") == due, "call {call}");
-        assert!(rt; printed(&files, ""), "call {call}");
-        assert!(rt;
-            files.contents("k.toml") == Some(CONFIG.as_bytes()),
-            "call {call}"
-        );
+        let report = if call < 7 { "" } else { DECODED };
+        assert!(rt; printed(&files, report), "call {call}");
+        for (name, held) in [("k.toml", CONFIG), ("a.log", ""), ("x.cert", "")] {
+            assert!(rt;
+                files.contents(name) == Some(held.as_bytes()),
+                "call {call}: {name}"
+            );
+        }
     }
+    Ok(())
+}
+
+// Files that read and write a byte a call.
+#[test]
+fn a_decode_writes_byte_by_byte(rt: HostRuntime) -> Result<(), Fail> {
+    let text = certificate(rt.alloc())?;
+    let inner = files_of(rt.alloc(), CONFIG, "", "")?;
+    let mut files = OneByte { inner };
+    let words = words(rt.alloc(), DECODE)?;
+    assert_eq!(rt; bank::run(&rt, rt.alloc(), &words, &mut files, &NoGate), 0);
+    assert!(rt; files.inner.contents("y.cert") == Some(text.as_bytes()));
+    assert!(rt; printed(&files.inner, DECODED));
     Ok(())
 }
 

@@ -73,8 +73,13 @@ fn steps_of(
     }
 }
 
-// How many steps a visit of the second item has, and what the first of them read, once another seat has offered two keys.
-fn first_seen(alloc: Global, tables: &Tables, list: &[Block]) -> Result<Option<(usize, u64)>, Fail>
+// How many steps a visit of the second item has, and of the first of them the bound and what was read, once another seat has
+// offered two keys.
+fn first_step(
+    alloc: Global,
+    tables: &Tables,
+    list: &[Block],
+) -> Result<Option<(usize, Option<u32>, u64)>, Fail>
     requires { list.now ≡ items tables.now.window }
 {
     let (race, mut first) = Race::make(alloc, 2)?;
@@ -84,11 +89,13 @@ fn first_seen(alloc: Global, tables: &Tables, list: &[Block]) -> Result<Option<(
     let Some(steps) = steps_of(alloc, &race, &mut other, tables, list, 1) else {
         return Ok(None);
     };
-    let seen = steps.as_slice().first().map(|step| step.seen);
-    Ok(seen.map(|seen| (steps.as_slice().len(), seen)))
+    let Some(step) = steps.as_slice().first() else {
+        return Ok(None);
+    };
+    Ok(Some((steps.as_slice().len(), step.bound, step.seen)))
 }
 
-// A worker that cuts by its own offers alone would open the year.
+// A worker that cuts by its own offers alone would open the year, whose bound is 0: where nothing was heard, nothing costs.
 #[test]
 fn keeps_what_is_read_of_another_seat(rt: HostRuntime) -> Result<(), Fail> {
     let civil = Civil::make(rt.alloc())?;
@@ -97,7 +104,10 @@ fn keeps_what_is_read_of_another_seat(rt: HostRuntime) -> Result<(), Fail> {
     let parts = parts_of(rt.alloc(), &civil, &window)?;
     let tables = Tables::make(rt.alloc(), &parts, &grids, &civil, &window)?;
     let list = items(rt.alloc(), &civil, &window)?;
-    assert_eq!(rt; first_seen(rt.alloc(), &tables, &list)?, Some((1, 1)));
+    assert_eq!(rt;
+        first_step(rt.alloc(), &tables, &list)?,
+        Some((1, Some(0), 1))
+    );
     Ok(())
 }
 

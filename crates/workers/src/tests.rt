@@ -391,6 +391,80 @@ fn blocks_of_all<R: Threads + Sync>(
     }
 }
 
+// Keeps so many steps in each part, and fails at the next.
+#[derive(Drop)]
+struct FewSteps {
+    room: u32,
+}
+
+#[derive(Clone, Copy, Debug, PartialEq, Eq)]
+struct NoRoom;
+
+impl Recorder for FewSteps {
+    type Fault = NoRoom;
+
+    ghost told = { λ before step after. Unit {0} };
+
+    ghost fails = { λ before after. Unit {0} };
+
+    ghost parts = { λ before after part. Unit {0} };
+
+    ghost joins = { λ before part after. Unit {0} };
+
+    fn needs_steps(&self) -> bool {
+        true
+    }
+
+    fn record(&mut self, _block: &Block, _bound: Option<u32>, _seen: u64) -> Result<(), NoRoom> {
+        if self.room == 0 {
+            return Err(NoRoom);
+        }
+        self.room -= 1;
+        Ok(())
+    }
+
+    fn split(&mut self) -> Result<FewSteps, NoRoom> {
+        Ok(FewSteps { room: self.room })
+    }
+
+    fn join(&mut self, _part: FewSteps) -> Result<(), NoRoom> {
+        Ok(())
+    }
+}
+
+#[test]
+fn a_search_whose_steps_cannot_be_kept_ends(rt: HostRuntime) -> Result<(), Fail> {
+    // An hour of JJY has 121 items, each of which takes a step at least, and two workers keep at most 60 each.
+    let civil = Civil::make(rt.alloc())?;
+    let window = jjy(0, 60);
+    let grids = [silent_grid(rt.alloc(), Station::Jjy)?];
+    let parts = parts_of(rt.alloc(), &civil, &window)?;
+    let tables = Tables::make(rt.alloc(), &parts, &grids, &civil, &window)?;
+    let list = items(rt.alloc(), &civil, &window)?;
+    for (room, least, second) in [(0, u64::MAX, u64::MAX), (1, u64::MAX, u64::MAX), (60, 0, 1)] {
+        let (race, mut seat) = Race::make(rt.alloc(), 2)?;
+        let mut recorder = FewSteps { room };
+        let kept = search_with(
+            &rt,
+            &race,
+            &mut seat,
+            &tables,
+            &list,
+            GREATEST_COST,
+            2,
+            &NoGate,
+            &mut recorder,
+        );
+        assert_eq!(rt; kept, Err(NoRoom), "{room} steps");
+
+        // The seat has the whole share, with which alone a race is closed. A key is offered at the fourth step, behind the
+        // year, the day and the hour, and who draws the first item offers the least two.
+        let ends = race.close(seat);
+        assert_eq!(rt; (ends.least, ends.second), (least, second), "{room} steps");
+    }
+    Ok(())
+}
+
 #[test]
 fn each_workers_steps_are_told(rt: HostRuntime) -> Result<(), Fail> {
     // An hour of JJY has 121 items, and whoever visits one comes to its year at least.
