@@ -205,6 +205,30 @@ fn a_step_may_be_longer_than_a_window(rt: HostRuntime) -> Result<(), Fail> {
     Ok(())
 }
 
+// A receiver of each station, in another order than that of stations. That of JJY has the log, and the others heard nothing.
+const FOUR: &str =
+    "station = \"wwvb\"\n[[receiver]]\nname = \"w\"\nlog = \"b.log\"\n[[receiver]]\nname = \"j\"\nlog = \"a.log\"\nstation = \"jjy\"\n[[receiver]]\nname = \"m\"\nlog = \"b.log\"\nstation = \"msf\"\n[[receiver]]\nname = \"d\"\nlog = \"b.log\"\nstation = \"dcf77\"\n";
+
+// JJY alone decides, and of what was never heard no value of DUT1 is told from another.
+#[test]
+fn follows_four_stations(rt: HostRuntime) -> Result<(), Fail> {
+    let log = heard(rt.alloc(), &JJY_WAVES, &MINUTES)?;
+    let mut files = files_of(rt.alloc(), FOUR, &log)?;
+    files.put("b.log", b"")?;
+    let words = words(
+        rt.alloc(),
+        "follow k.toml --seconds 60 --step 90 --count 2 --from 2024-06-10T06:10Z --to 2024-06-10T06:19Z",
+    )?;
+    assert_eq!(rt; follow(&rt, rt.alloc(), &words, &mut files, &NoGate), 0);
+    assert!(rt;
+        printed(
+            &files,
+            "window 0\ndecided 0\nphase 0\nsequence 2024-06-10T06:16Z 0 no\nnext 600\ndut1 msf undecided\ndut1 wwvb undecided\nminute 2024-06-10T06:16Z at 0\nwindow 90000\ndecided 0\nphase 0\nsequence 2024-06-10T06:17Z 30 no\nnext 300\ndut1 msf undecided\ndut1 wwvb undecided\nminute 2024-06-10T06:18Z at 120000\n"
+        )
+    );
+    Ok(())
+}
+
 // The minutes of DCF77 from 2016-12-31T23:58Z on. The second of them has 61 seconds.
 const LEAP: [&str; 3] = [
     "00000000000000000011110011010000000010000011110000111010001-",
@@ -251,6 +275,29 @@ fn follows_over_the_end_of_summer_time(rt: HostRuntime) -> Result<(), Fail> {
             "follow k.toml --seconds 60 --count 3 --from 2024-10-27T00:00Z --to 2024-10-27T01:59Z",
             0,
             "window 0\ndecided 0\nphase 0\nsequence 2024-10-27T00:58Z 0 no\nnext 200\nminute 2024-10-27T00:58Z at 0\nwindow 60000\ndecided 0\nphase 0\nsequence 2024-10-27T00:59Z 0 no\nnext 300\nminute 2024-10-27T00:59Z at 60000\nwindow 120000\ndecided 0\nphase 0\nsequence 2024-10-27T01:00Z 0 no\nnext 200\nminute 2024-10-27T01:00Z at 120000\n",
+        )?
+    );
+    Ok(())
+}
+
+// The minutes of DCF77 from 2024-03-31T00:58Z on. They tell 01:59 in winter time, then 03:00 and 03:01 in summer time.
+const SPRING: [&str; 3] = [
+    "00000000000000001010110011010100000110001111111000001001000-",
+    "00000000000000001100100000000110000010001111111000001001000-",
+    "00000000000000000100110000001110000010001111111000001001000-",
+];
+
+#[test]
+fn follows_over_the_begin_of_summer_time(rt: HostRuntime) -> Result<(), Fail> {
+    let log = heard(rt.alloc(), &DCF77_WAVES, &SPRING)?;
+    assert!(rt;
+        tells(
+            &rt,
+            DCF77,
+            &log,
+            "follow k.toml --seconds 60 --count 3 --from 2024-03-31T00:00Z --to 2024-03-31T01:59Z",
+            0,
+            "window 0\ndecided 0\nphase 0\nsequence 2024-03-31T00:58Z 0 no\nnext 200\nminute 2024-03-31T00:58Z at 0\nwindow 60000\ndecided 0\nphase 0\nsequence 2024-03-31T00:59Z 0 no\nnext 300\nminute 2024-03-31T00:59Z at 60000\nwindow 120000\ndecided 0\nphase 0\nsequence 2024-03-31T01:00Z 0 no\nnext 200\nminute 2024-03-31T01:00Z at 120000\n",
         )?
     );
     Ok(())

@@ -12,6 +12,8 @@ mod offsets;
 mod owed;
 mod report;
 #[cfg(test)]
+mod sweep_tests;
+#[cfg(test)]
 mod tests;
 mod words;
 

@@ -9,7 +9,7 @@ use std::test::Fail;
 use workers::NoGate;
 
 // The words of a line that parts them by spaces.
-fn words(alloc: Global, line: &str) -> Result<Vec<String>, AllocError> {
+pub fn words(alloc: Global, line: &str) -> Result<Vec<String>, AllocError> {
     let mut words = Vec::new(alloc);
     for word in line.split(' ') {
         words.push(word.to_string(alloc)?)?;
@@ -77,7 +77,7 @@ fn silent_files(alloc: Global) -> Result<MemoryFiles, Fail> {
     files_of(alloc, "", 5, 11, 0)
 }
 
-fn printed(files: &MemoryFiles, text: &str) -> bool {
+pub fn printed(files: &MemoryFiles, text: &str) -> bool {
     files
         .contents("-")
         .is_some_and(|found| found == text.as_bytes())
@@ -220,6 +220,26 @@ fn tells_wrong_keys(rt: HostRuntime) -> Result<(), Fail> {
 fn tells_a_bad_line(rt: HostRuntime) -> Result<(), Fail> {
     let line = "certificate 8: line 143: shape\n";
     assert!(rt; tells(rt.alloc(), "s.8", 30, "end\n", "en", line)?);
+    Ok(())
+}
+
+// A byte more than a certificate has at most, whatever they are.
+#[test]
+fn tells_too_many_bytes(rt: HostRuntime) -> Result<(), Fail> {
+    let mut files = silent_files(rt.alloc())?;
+    {
+        let text = vec![in rt.alloc(); b'7'; 128_000_001]?;
+        files.put("s.6", &text)?;
+    }
+    let words = words(rt.alloc(), JUDGE)?;
+    assert_eq!(rt; judge(rt.alloc(), &words, &mut files), 8);
+    assert!(rt;
+        printed(
+            &files,
+            "certificate 6: too large
+"
+        )
+    );
     Ok(())
 }
 

@@ -9,6 +9,7 @@ use crate::tests::{
 use bank_files::{MemoryFiles, OneByte};
 use std::alloc::{AllocError, Global};
 use std::test::Fail;
+use std::thread::Threads;
 use workers::NoGate;
 
 const DCF77: &str = "station = \"dcf77\"\n[[receiver]]\nname = \"a\"\nlog = \"a.log\"\n";
@@ -105,7 +106,7 @@ fn phase_of(offset: u8) -> u16 {
 
 #[test]
 fn writes_a_certificate_of_each_phase(rt: HostRuntime) -> Result<(), Fail> {
-    for workers in [1u8, 2, 4] {
+    for workers in [1u8, 2, 4, 8] {
         let line = format!(in rt.alloc(); "{CENTURY_END} {workers}")?;
         let words = words(rt.alloc(), &line)?;
         let mut files = silent(rt.alloc())?;
@@ -141,38 +142,68 @@ fn writes_the_same_byte_by_byte(rt: HostRuntime) -> Result<(), Fail> {
     Ok(())
 }
 
-// The configuration is read in two calls and the empty log in one. Then each certificate's file is made in one and written in one,
-// and the report is written in the 16th. The log fails, the second file can't be made or written, and standard output fails: what
-// comes before is whole, and all behind it as before.
-#[test]
-fn stops_at_a_failing_file(rt: HostRuntime) -> Result<(), Fail> {
+// What an offset's file holds once this call failed: its certificate is made in call 4 for the least offset, two calls later for
+// each next one, and written in the call behind that.
+fn holds_after(
+    alloc: Global,
+    files: &MemoryFiles,
+    offset: u8,
+    call: u8,
+) -> Result<bool, AllocError> {
+    let text = certificate(alloc, phase_of(offset), 1)?;
+    let made = offset.saturating_mul(2).saturating_sub(6);
+    if call <= made {
+        return holds(alloc, files, offset, BEFORE);
+    }
+    if call == made.saturating_add(1) {
+        return holds_front(alloc, files, offset, &text);
+    }
+    holds(alloc, files, offset, &text)
+}
+
+// Whether a run ends with 6 at each of these calls on files, if it fails: what comes before is whole, and all behind it as before. The
+// configuration is read in two calls and the empty log in one. Then each certificate's file is made in one and written in one, and the
+// report is written in the 16th.
+fn stops_at_calls<R: Threads + Sync + AllocGlobal>(rt: &R, from: u8, to: u8) -> Result<bool, Fail> {
     let line = format!(in rt.alloc(); "{CENTURY_END} 1")?;
     let words = words(rt.alloc(), &line)?;
-    for call in [3u8, 6, 7, 16] {
+    for call in from..to {
         let mut files = silent(rt.alloc())?;
         files.fail(u64::from(call))?;
-        assert_eq!(rt;
-            sweep(&rt, rt.alloc(), &words, &mut files, &NoGate),
-            6,
-            "{call}"
-        );
+        if sweep(rt, rt.alloc(), &words, &mut files, &NoGate) != 6 {
+            return Ok(false);
+        }
         for offset in 5..11u8 {
-            let text = certificate(rt.alloc(), phase_of(offset), 1)?;
-            let made = offset * 2 - 6;
-            let kept = if call <= made {
-                holds(rt.alloc(), &files, offset, BEFORE)?
-            } else if call == made + 1 {
-                holds_front(rt.alloc(), &files, offset, &text)?
-            } else {
-                holds(rt.alloc(), &files, offset, &text)?
-            };
-            assert!(rt; kept, "call {call}, offset {offset}");
+            if !holds_after(rt.alloc(), &files, offset, call)? {
+                return Ok(false);
+            }
         }
         let front = files.contents("-").unwrap_or(b"");
-        assert!(rt; REPORT.as_bytes().starts_with(front), "call {call}");
-        assert!(rt; front.len() < REPORT.len(), "call {call}");
-        assert!(rt; call == 16 || front.is_empty(), "call {call}");
+        if !REPORT.as_bytes().starts_with(front) || front.len() >= REPORT.len() {
+            return Ok(false);
+        }
+        if call < 16 && !front.is_empty() {
+            return Ok(false);
+        }
     }
+    Ok(true)
+}
+
+#[test]
+fn stops_at_the_first_calls_that_fail(rt: HostRuntime) -> Result<(), Fail> {
+    assert!(rt; stops_at_calls(&rt, 1, 7)?);
+    Ok(())
+}
+
+#[test]
+fn stops_at_further_calls_that_fail(rt: HostRuntime) -> Result<(), Fail> {
+    assert!(rt; stops_at_calls(&rt, 7, 12)?);
+    Ok(())
+}
+
+#[test]
+fn stops_at_the_last_calls_that_fail(rt: HostRuntime) -> Result<(), Fail> {
+    assert!(rt; stops_at_calls(&rt, 12, 17)?);
     Ok(())
 }
 
@@ -198,6 +229,7 @@ fn writes_those_of_the_phases_there_are(rt: HostRuntime) -> Result<(), Fail> {
         (0u16, 5u8, 10u8),
         (49, 1, 10),
         (50, 0, 10),
+        (949, 0, 10),
         (950, 0, 9),
         (999, 0, 5),
     ] {

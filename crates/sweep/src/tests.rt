@@ -195,7 +195,7 @@ fn tells_of_a_clean_log_what_a_decode_tells(rt: HostRuntime) -> Result<(), Fail>
 #[test]
 fn any_number_of_workers_tells_the_same(rt: HostRuntime) -> Result<(), Fail> {
     let log = heard(rt.alloc(), &JJY_WAVES, &MINUTES, LATE_RISES)?;
-    for workers in [1u8, 3] {
+    for workers in [1u8, 2, 4, 8] {
         let line = format!(in rt.alloc(); "{HOUR} --workers {workers}")?;
         assert!(rt; tells(&rt, JJY, &log, &line, 0, SWEPT)?, "{workers}");
     }
@@ -258,6 +258,31 @@ fn tells_dut1_at_the_better_phase(rt: HostRuntime) -> Result<(), Fail> {
             0,
             "decided 1830\nphase 0\nsequence 2024-07-15T23:58Z 0 no\nnext 1940\ndut1 -2\nminute 2024-07-15T23:58Z at 0\n",
         )?
+    );
+    Ok(())
+}
+
+// A receiver of each station, in another order than that of stations. That of JJY has the log, and the others heard nothing.
+const FOUR: &str =
+    "station = \"wwvb\"\n[[receiver]]\nname = \"w\"\nlog = \"b.log\"\n[[receiver]]\nname = \"j\"\nlog = \"a.log\"\nstation = \"jjy\"\n[[receiver]]\nname = \"m\"\nlog = \"b.log\"\nstation = \"msf\"\n[[receiver]]\nname = \"d\"\nlog = \"b.log\"\nstation = \"dcf77\"\n";
+
+// JJY alone decides, and of what was never heard no value of DUT1 is told from another. The next is minute 15 of JJY at phase 30:
+// there 60 seconds cost 30 each, but for the nine that aren't scored, and one bit differs at 300 and one at 240.
+#[test]
+fn sweeps_four_stations(rt: HostRuntime) -> Result<(), Fail> {
+    let log = heard(rt.alloc(), &JJY_WAVES, &MINUTES, LATE_RISES)?;
+    let mut files = files_of(rt.alloc(), FOUR, &log)?;
+    files.put("b.log", b"")?;
+    let words = words(
+        rt.alloc(),
+        "sweep k.toml --seconds 60 --from 2024-06-10T06:10Z --to 2024-06-10T06:19Z",
+    )?;
+    assert_eq!(rt; sweep(&rt, rt.alloc(), &words, &mut files, &NoGate), 0);
+    assert!(rt;
+        printed(
+            &files,
+            "decided 1770\nphase 0\nsequence 2024-06-10T06:16Z 0 no\nnext 2070\ndut1 msf undecided\ndut1 wwvb undecided\nminute 2024-06-10T06:16Z at 0\n"
+        )
     );
     Ok(())
 }
