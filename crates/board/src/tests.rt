@@ -1,8 +1,17 @@
 //! Runs of `board` over files in memory, with ample memory. The texts are worked out from docs/FORMATS.md and the code
 //! descriptions, by hand. Of the answers that askers gave while windows were decided each text tells what it may be.
 
+ghost use Rattle.std.specs.Prelude.{◌≡◌, ◌<◌, []};
+ghost use Rattle.clock_board.specs.Seats.{published};
+
 use crate::board;
+use crate::counts::counts_of;
+use crate::desk::{Desk, ask_all, ask_behind_the_news, desks_of};
 use bank_files::MemoryFiles;
+use board_entries::{Entry, Told};
+use civil::Civil;
+use clock_board::{Asker, Tracker, make};
+use definitions::Sequence;
 use std::alloc::{AllocError, Global};
 use std::sync::Wait;
 use std::test::Fail;
@@ -263,13 +272,96 @@ fn ends_at_a_failing_file(rt: HostRuntime) -> Result<(), Fail> {
     Ok(())
 }
 
+// 200,000 bytes are read, and have too many lines; one byte more is refused for the size.
 #[test]
 fn refuses_too_many_bytes(rt: HostRuntime) -> Result<(), Fail> {
     let mut queries = String::new(rt.alloc());
-    for _ in 0..100_001 {
+    for _ in 0..100_000 {
         queries.push_str("7\n")?;
     }
+    let lines = "queries: line 10001: shape\n";
+    assert!(rt; tells(&rt, JJY, "", &queries, BOTH, 9, lines)?);
+    queries.push_str("7")?;
     assert!(rt; tells(&rt, JJY, "", &queries, BOTH, 9, "queries: too large\n")?);
+    Ok(())
+}
+
+// A minute from millisecond 0 on, of which this minute was decided.
+#[tactic(auto, using(clock_board::proofs::Staying::minute_stays))]
+fn entry(first: u32) -> Entry
+    requires { first < 50_000_000 }
+{
+    Entry {
+        start: 0,
+        phase: 0,
+        seconds: 60,
+        sequence: Sequence {
+            first,
+            second: 0,
+            announced: false,
+        },
+    }
+}
+
+const ASKED: [u64; 4] = [0, 59_999, 60_000, 1_000];
+
+// Two entries of the same window, which differ in their minute.
+const FIRST_MINUTE: u32 = 100;
+
+const SECOND_MINUTE: u32 = 200;
+
+// The desks of askers that asked behind the first entry, and once more behind the second.
+fn asked_between<R: Threads + Wait + Sync>(
+    rt: &R,
+    alloc: Global,
+    civil: &Civil,
+    tracker: &mut Tracker,
+    askers: Vec<Asker>,
+) -> Option<Vec<Desk>>
+    requires { published tracker.old ≡ [] }
+{
+    let mut desks = desks_of(alloc, askers, ASKED.len()).ok()?;
+    tracker.publish(rt, entry(FIRST_MINUTE)).ok()?;
+    ask_all(rt, civil, desks.as_mut_slice(), &ASKED);
+    tracker.publish(rt, entry(SECOND_MINUTE)).ok()?;
+    ask_behind_the_news(civil, tracker, desks.as_mut_slice());
+    Some(desks)
+}
+
+// Whether the four queries were answered by so many of these entries each.
+fn counted(alloc: Global, civil: &Civil, entries: &[Entry], desks: &[Desk], want: &[u64]) -> bool {
+    counts_of(alloc, civil, entries, &ASKED, desks, 2).is_ok_and(|counts| counts.as_slice() == want)
+}
+
+// An answer counts by what its asker said where that is so, and where the asker read the board in the end.
+#[test]
+fn counts_what_askers_said(rt: HostRuntime) -> Result<(), Fail> {
+    let civil = Civil::make(rt.alloc())?;
+    let (mut tracker, askers) = make(rt.alloc(), 2)?;
+    let asked = asked_between(&rt, rt.alloc(), &civil, &mut tracker, askers);
+    tracker.end(&rt);
+    let Some(mut desks) = asked else {
+        assert!(rt; false);
+        return Ok(());
+    };
+    let both = [entry(FIRST_MINUTE), entry(SECOND_MINUTE)];
+    assert!(rt; counted(rt.alloc(), &civil, &both, &desks, &[1, 1, 1, 1]));
+    assert!(rt; counted(rt.alloc(), &civil, &[], &desks, &[0, 0, 0, 0]));
+    for desk in desks.as_mut_slice() {
+        desk.fresh = false;
+    }
+    assert!(rt; counted(rt.alloc(), &civil, &both, &desks, &[2, 2, 2, 2]));
+    if let Some(desk) = desks.first_mut() {
+        desk.fresh = true;
+    }
+    assert!(rt; counted(rt.alloc(), &civil, &both, &desks, &[1, 2, 1, 2]));
+    if let Some(reading) = desks.first_mut().and_then(|desk| desk.readings.first_mut()) {
+        reading.told = Told::Unknown;
+    }
+    assert!(rt;
+        counted(rt.alloc(), &civil, &both, &desks, &[2, 2, 2, 2]),
+        "an answer that no entry gives"
+    );
     Ok(())
 }
 

@@ -87,13 +87,14 @@ fn an_asker_reads_the_board(rt: HostRuntime) -> Result<(), Fail> {
     Ok(())
 }
 
-// What an asker without a place answers before it learned anything, and after; and what the board's own asker answers.
+// What an asker without a place answers before it learned anything, and after; what the board's own asker answers; and what the
+// first one answers when it has learned news with a place.
 fn answers_without_a_place<R: Wait>(
     rt: &R,
     civil: &Civil,
     tracker: &mut Tracker,
     askers: &mut [Asker],
-) -> Option<(Reading, Reading, Reading)>
+) -> Option<(Reading, Reading, Reading, Reading)>
     requires { published tracker.old ≡ [] }
 {
     let mut asker = Asker {
@@ -107,11 +108,15 @@ fn answers_without_a_place<R: Wait>(
     asker.learn(tracker.news());
     let after = asker.ask(civil, 0);
     drop(held);
-    Some((before, after, askers.first_mut()?.ask(civil, 0)))
+    let own = askers.first_mut()?.ask(civil, 0);
+    asker.learn(tracker.news());
+    Some((before, after, own, asker.ask(civil, 0)))
 }
 
 #[test]
-fn an_asker_without_a_place_answers_from_its_copy(rt: HostRuntime) -> Result<(), Fail> {
+fn an_asker_without_a_place_answers_from_its_copy_until_news_bring_one(
+    rt: HostRuntime,
+) -> Result<(), Fail> {
     let civil = Civil::make(rt.alloc())?;
     let (mut tracker, mut askers) = make(rt.alloc(), 1)?;
     let answers = answers_without_a_place(&rt, &civil, &mut tracker, askers.as_mut_slice());
@@ -121,6 +126,7 @@ fn an_asker_without_a_place_answers_from_its_copy(rt: HostRuntime) -> Result<(),
             == Some((
                 reading(Told::Unknown, 0, false),
                 reading(in_june(), 1, false),
+                reading(in_june(), 1, true),
                 reading(in_june(), 1, true)
             ))
     );

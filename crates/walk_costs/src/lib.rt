@@ -1,5 +1,6 @@
-//! What a sequence costs a station where each minute that it walks through has 60 seconds and the date tells the same in
-//! all of them: a sum of three numbers that were made before.
+//! What a walk of a sequence costs a station, by sums that were made before: the exact cost, of three numbers, where each
+//! minute has 60 seconds and the date tells the same in all of them; and floors, which no such walk costs less than, where a
+//! walk goes from one date to the next, sends a call sign, announces a change, or goes over a change of summer time.
 #![tactic(auto)]
 
 mod announced;
