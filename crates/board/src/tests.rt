@@ -355,8 +355,10 @@ fn counts_what_askers_said(rt: HostRuntime) -> Result<(), Fail> {
         desk.fresh = true;
     }
     assert!(rt; counted(rt.alloc(), &civil, &both, &desks, &[1, 2, 1, 2]));
-    if let Some(reading) = desks.first_mut().and_then(|desk| desk.readings.first_mut()) {
-        reading.told = Told::Unknown;
+    if let Some(desk) = desks.first_mut() {
+        if let Some(reading) = desk.readings.first_mut() {
+            reading.told = Told::Unknown;
+        }
     }
     assert!(rt;
         counted(rt.alloc(), &civil, &both, &desks, &[2, 2, 2, 2]),
