@@ -71,7 +71,7 @@ pub fn runs_of(alloc: Global, civil: &Civil, station: Station, end: u32) -> Resu
         let here = date_facts(civil, station, t);
         add_run(&mut runs, &mut date, station, t, here)?;
         add_day(&mut days, &runs, t)?;
-        t = piece_end(station, t).min(end);
+        t = piece_end(civil, station, t, &here).min(end);
     }
     Ok(Runs { runs, days })
 }
