@@ -13,8 +13,8 @@ use definitions::Day;
 use signal_base::Station;
 use std::array;
 
-// The time of day tells the same whatever the date is.
-const SOME_DATE: DateFacts = DateFacts {
+/// The time of day tells the same whatever the date is.
+pub const SOME_DATE: DateFacts = DateFacts {
     day: Day {
         year: 2000,
         month: 1,
