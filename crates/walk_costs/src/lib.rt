@@ -9,7 +9,6 @@ mod change;
 mod crossing;
 mod date;
 mod dut;
-mod halves;
 mod kept;
 mod kinds;
 mod least;
@@ -18,6 +17,7 @@ mod set_costs;
 mod shown;
 #[cfg(test)]
 mod tests;
+mod thirds;
 mod walks;
 
 pub use crossing::Crossing;
