@@ -17,3 +17,4 @@ pub mod NeighbourLaws
 pub mod ChangeLaws
 pub mod LeastLaws
 pub mod FloorLaws
+pub mod SpanLaws

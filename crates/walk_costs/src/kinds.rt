@@ -36,8 +36,8 @@ pub struct Kinds {
 // same in the same year mostly seven runs ago, or eight where a day had two.
 const BACK: [usize; 4] = [1, 14, 16, 2];
 
-// How many sets of at most five symbols there are.
-const SETS: u8 = 32;
+/// How many sets of at most five symbols there are.
+pub const SETS: u8 = 32;
 
 /// The kinds of the walks that lie in one run, or of those that go on to the next.
 pub fn kinds_of(
