@@ -9,3 +9,4 @@ pub mod StationLaws
 pub mod SumLaws
 pub mod UnionBoundLaws
 pub mod WalkableLaws
+pub mod YearLaws

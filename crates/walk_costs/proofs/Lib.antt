@@ -18,3 +18,4 @@ pub mod ChangeLaws
 pub mod OverLaws
 pub mod LeastLaws
 pub mod FloorLaws
+pub mod SpanLaws

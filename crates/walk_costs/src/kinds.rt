@@ -39,8 +39,8 @@ pub struct Kinds {
 // weeks and two runs before.
 const BACK: [usize; 5] = [1, 14, 16, 2, 368];
 
-// How many sets of at most five symbols there are.
-const SETS: u8 = 32;
+/// How many sets of at most five symbols there are.
+pub const SETS: u8 = 32;
 
 /// The kinds of the walks that lie in one run, or of those that go on to the next.
 pub fn kinds_of(

@@ -87,8 +87,8 @@ impl LeastTable {
         })
     }
 
-    // That of the walks from second `p` which begin in a run.
-    fn at(&self, announced: bool, p: u8, run: usize) -> u32
+    /// That of the walks from second `p` which begin in a run.
+    pub fn at(&self, announced: bool, p: u8, run: usize) -> u32
         requires second { p < SECONDS_PER_MINUTE }
         requires run { (runs : ℕ) × (run < runs) × AreLeastSums self.now runs }
         ensures { result ≡ least_at self.now announced p run }

@@ -15,6 +15,7 @@ mod least;
 mod over;
 mod set_costs;
 mod shown;
+mod span;
 #[cfg(test)]
 mod tests;
 mod thirds;
@@ -23,4 +24,5 @@ mod walks;
 pub use crossing::Crossing;
 pub use over::Over;
 pub use shown::Shown;
+pub use span::SpanCosts;
 pub use walks::StationWalks;

@@ -4,7 +4,7 @@ use Rattle.slot_columns.specs.Parts.{most_cost}
 use Rattle.walk_costs.specs.Walks.{PricedParts}
 use Rattle.field_tables.specs.Floors.{CostAtLeast}
 use Rattle.field_tables.proofs.FloorLaws.{joined}
-use Rattle.field_tables.proofs.station.StationSums.floor.Goals as goal
+use Rattle.field_tables.proofs.station.StationSums.floor_by_pieces.Goals as goal
 
 pub loop-t-init : goal.loop-t-init
 loop-t-init c = record {

@@ -1,7 +1,7 @@
 use Rattle.std.proofs.Common.{◌-◌, ◌<◌, ◌≤◌}
 use Rattle.slot_columns.specs.Parts.{most_cost}
 use Rattle.field_tables.specs.Floors.{CostAtLeast}
-use Rattle.field_tables.proofs.station.StationSums.floor.Given as goal
+use Rattle.field_tables.proofs.station.StationSums.floor_by_pieces.Given as goal
 
 abbrev pub invariant-loop-t : goal.invariant-loop-t
 invariant-loop-t l = record {
