@@ -233,13 +233,7 @@ fn tells_too_many_bytes(rt: HostRuntime) -> Result<(), Fail> {
     }
     let words = words(rt.alloc(), JUDGE)?;
     assert_eq!(rt; judge(rt.alloc(), &words, &mut files), 8);
-    assert!(rt;
-        printed(
-            &files,
-            "certificate 6: too large
-"
-        )
-    );
+    assert!(rt; printed(&files, "certificate 6: too large\n"));
     Ok(())
 }
 
