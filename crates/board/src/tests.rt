@@ -321,7 +321,9 @@ fn asked_between<R: Threads + Wait + Sync>(
     requires { published tracker.old ≡ [] }
 {
     let mut desks = desks_of(alloc, askers, ASKED.len()).ok()?;
-    tracker.publish(rt, entry(FIRST_MINUTE)).ok()?;
+    let Ok(()) = tracker.publish(rt, entry(FIRST_MINUTE)) else {
+        return None;
+    };
     ask_all(rt, civil, desks.as_mut_slice(), &ASKED);
     tracker.publish(rt, entry(SECOND_MINUTE)).ok()?;
     ask_behind_the_news(civil, tracker, desks.as_mut_slice());
@@ -355,8 +357,10 @@ fn counts_what_askers_said(rt: HostRuntime) -> Result<(), Fail> {
         desk.fresh = true;
     }
     assert!(rt; counted(rt.alloc(), &civil, &both, &desks, &[1, 2, 1, 2]));
-    if let Some(reading) = desks.first_mut().and_then(|desk| desk.readings.first_mut()) {
-        reading.told = Told::Unknown;
+    if let Some(desk) = desks.first_mut() {
+        if let Some(reading) = desk.readings.first_mut() {
+            reading.told = Told::Unknown;
+        }
     }
     assert!(rt;
         counted(rt.alloc(), &civil, &both, &desks, &[2, 2, 2, 2]),
