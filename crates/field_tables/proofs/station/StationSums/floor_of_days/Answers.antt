@@ -1,6 +1,7 @@
-use Rattle.std.proofs.Common.{◌≤◌, subst, arith}
+use Rattle.std.proofs.Common.{◌≡◌, ◌≤◌, IfSome, rules, subst, arith}
 use Rattle.std.proofs.Math.Nat.{min-le_right}
 use Rattle.slot_columns.specs.Parts.{most_cost}
+use Rattle.walk_costs.specs.Near.{AreSpanCosts}
 use Rattle.walk_costs.specs.Walks.{PricedParts}
 use Rattle.field_tables.specs.Floors.{CostAtLeast}
 use Rattle.field_tables.proofs.FloorLaws.{joined}
@@ -11,6 +12,7 @@ loop-t-init c = record {
   begun = omega arith;
   none_less = λ t0 ge lt. absurd (omega (arith, ge, lt));
   small = λ some. absurd (omega (arith, some));
+  near = search rules;
 }
 
 pub loop-t-preserved : goal.loop-t-preserved
@@ -25,6 +27,7 @@ loop-t-preserved c =
       begun = omega (arith, before.begun, c.piece_of_run-piece.ensures.more);
       none_less = joined w b b.lo c.loop-t.t piece.end c.loop-t.floor piece.floor c.min-floor.result c.min-floor.ensures before.none_less here;
       small = λ _. omega (arith, few, c.min-floor.ensures, min-le_right c.loop-t.floor piece.floor);
+      near = subst (λ (v : PricedParts). IfSome c.piece_of_run-piece.new.near (λ costs. (costs.second ≡ b.second) × AreSpanCosts v costs)) c.walks-walks.ensures c.piece_of_run-piece.ensures.near;
     }
 
 pub returns-clause-floor : goal.returns-clause-floor
