@@ -13,7 +13,7 @@ use Rattle.minute_parts.specs.Unions.{IsUnionOf, IsUnionOver}
 use Rattle.minute_parts.proofs.UnionLaws.{union_one}
 use Rattle.walk_costs.specs.Dates.{IsAdded}
 use Rattle.walk_costs.specs.Walks.{AreSmall, PricedParts, last_minute}
-use Rattle.walk_costs.proofs.PlaceLaws.{nominal}
+use Rattle.walk_costs.proofs.PlaceLaws.{but_last, nominal}
 use Rattle.walk_costs.proofs.TotalLaws.{IsTotal, total as total_of_sets}
 use Rattle.block_costs.specs.Blocks.{AreUnionsOfWalks, unions_cost}
 
@@ -53,4 +53,4 @@ module _ (w : PricedParts) (small : AreSmall w.grid) (announced : Bool) (p t0 : 
       → ((last_minute w p t0 / 1440 == t0 / 1440) ≡ false → added ≡ 0)
       → IsTotal w announced p t0 cost added
   total cost added is more none =
-      subst (λ c. IsTotal w announced p t0 c added) (sym (is (set_at w.grid.station q) one_minute)) (total_of_sets w small announced p t0 second short added more none)
+      subst (λ c. IsTotal w announced p t0 c added) (sym (is (set_at w.grid.station q) one_minute)) (total_of_sets w small announced p t0 second (but_last announced t0 (last_minute w p t0) short) added more none)

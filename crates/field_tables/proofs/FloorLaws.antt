@@ -5,9 +5,7 @@ use Rattle.std.proofs.lemmas.Bool.{cases_lt}
 use Rattle.signal_base.specs.declared.window.Window.{Window}
 use Rattle.definitions.specs.declared.block.Block.{Block}
 use Rattle.definitions.specs.declared.sequence.Sequence.{Sequence}
-use Rattle.definitions.specs.declared.block.Span.TheVariants.{Minute}
-use Rattle.definitions.specs.answers.Blocks.{IsIn, IsMinuteBound}
-use Rattle.definitions.specs.sequences.Walks.{IsLegal}
+use Rattle.definitions.specs.answers.Blocks.{IsIn}
 use Rattle.definitions.specs.heard.Costs.{Costs, sequence_cost}
 use Rattle.definitions.proofs.KeyLaws.{same_sequence}
 use Rattle.plain_costs.specs.Agreement.{AgreeOn}
@@ -71,9 +69,30 @@ joined_floors costs window b lo t hi one other front rest = by_floors one other 
 pub zero_floor : (costs : Costs) (window : Window) (b : Block) → IsFloor costs window b (Some 0)
 zero_floor costs window b = λ q inside legal. omega arith
 
--- the bound of a minute is a floor of its sequences
-pub floor_of_bound : (costs : Costs) (window : Window) (b : Block) (t : ℕ) (bound : Option ℕ)
-    → IsMinuteBound costs window (record { announced = b.announced; second = b.second; span = Minute; lo = t; hi = t + 1 }) bound → IsFloor costs window (piece b t (t + 1)) bound
-floor_of_bound costs window b t None none = λ q inside legal. none (subst (IsLegal window) (sym (first_one b t q inside)) legal)
-floor_of_bound costs window b t (Some n) is = λ q inside legal.
-    subst (λ (x : Sequence). n ≤ sequence_cost costs window x) (first_one b t q inside) (omega (arith, is.1))
+-- what the sequence of a minute costs is a floor of it
+pub floor_of_cost : (costs : Costs) (window : Window) (b : Block) (t n : ℕ) → n ≡ sequence_cost costs window (sequence_at b t)
+    → IsFloor costs window (piece b t (t + 1)) (Some n)
+floor_of_cost costs window b t n is = λ q inside legal.
+    subst (λ (x : Sequence). n ≤ sequence_cost costs window x) (first_one b t q inside) (omega (arith, is))
+
+-- of all minutes of a block
+pub whole_floor : (costs : Costs) (window : Window) (b : Block) (floor : Option ℕ) → IsFloor costs window (piece b b.lo b.hi) floor → IsFloor costs window b floor
+whole_floor costs window b None is = λ q inside legal. is q (whole q inside) legal
+  where
+    whole : (q : Sequence) → IsIn b q → IsIn (piece b b.lo b.hi) q
+    whole q inside = record { announced = inside.announced; second = inside.second; not_before = inside.not_before; before_end = inside.before_end }
+whole_floor costs window b (Some n) is = λ q inside legal. is q (whole q inside) legal
+  where
+    whole : (q : Sequence) → IsIn b q → IsIn (piece b b.lo b.hi) q
+    whole q inside = record { announced = inside.announced; second = inside.second; not_before = inside.not_before; before_end = inside.before_end }
+
+-- any number is one of no minutes
+pub empty_floor : (costs : Costs) (window : Window) (b : Block) (t n : ℕ) → IsFloor costs window (piece b t t) (Some n)
+empty_floor costs window b t n = λ q inside legal. absurd (omega (arith, inside.not_before, inside.before_end))
+
+-- what no sequence of an announced block costs less than that begins in some minutes
+pub floor_by_minutes : (costs : Costs) (window : Window) (b : Block) (lo hi n : ℕ)
+    → ((t0 : ℕ) → lo ≤ t0 → t0 < hi → n ≤ sequence_cost costs window (sequence_at b t0)) → IsFloor costs window (piece b lo hi) (Some n)
+floor_by_minutes costs window b lo hi n less = λ q inside legal.
+    subst (λ (x : Sequence). n ≤ sequence_cost costs window x)
+    (same_sequence (sequence_at b q.first) q refl (sym inside.second) (sym inside.announced)) (less q.first inside.not_before inside.before_end)

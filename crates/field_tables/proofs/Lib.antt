@@ -6,6 +6,8 @@ pub mod MinuteLaws
 pub mod QuietLaws
 pub mod ScopeLaws
 pub mod StationLaws
+pub mod SetCostLaws
 pub mod SumLaws
 pub mod UnionBoundLaws
 pub mod WalkableLaws
+pub mod YearLaws

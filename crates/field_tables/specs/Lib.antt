@@ -4,7 +4,6 @@ pub mod Scored
 pub mod Sums
 pub mod Blocks
 pub mod Minutes
-pub mod Leaps
 pub mod Floors
 pub mod Quiet
 pub mod Scopes

@@ -1,7 +1,8 @@
 //! Floors of blocks: what no legal sequence of a block costs less than.
 
-ghost use Rattle.std.specs.Prelude.{ℕ, ◌≡◌, ◌+◌, ◌<◌, ◌≤◌, IfSome, true};
+ghost use Rattle.std.specs.Prelude.{ℕ, ◌≡◌, ◌+◌, ◌<◌, ◌≤◌, IfSome, Some, true};
 ghost use Rattle.signal_base.specs.declared.limits.TheConstants.{GREATEST_COST};
+ghost use Rattle.slot_columns.specs.declared.limits.TheConstants.{SECONDS_PER_MINUTE};
 ghost use Rattle.definitions.specs.answers.Blocks.{IsBlock};
 ghost use Rattle.definitions.specs.declared.sequence.Sequence.{Sequence};
 ghost use Rattle.definitions.specs.heard.Costs.{sequence_cost};
@@ -16,11 +17,16 @@ ghost use Rattle.field_tables.specs.Scored.{costs_of};
 ghost use Rattle.field_tables.specs.Sums.{costs_by};
 
 use crate::leaps::meets_leap_end;
+use crate::quiet::LAST_SECOND;
 use crate::sums::WindowSums;
 use crate::tables::Tables;
 use civil::Civil;
 use definitions::{Block, MINUTES_PER_DAY, MINUTES_PER_HOUR, Span};
+use signal_base::GREATEST_COST;
 use slot_columns::SECONDS_PER_MINUTE;
+
+// Walks that begin in so many minutes are looked at together.
+const FEW: u32 = 2;
 
 impl<'a> Tables<'a> {
     /// A floor of a block of the window: no legal sequence of it costs less. It is at most 1,920,000,000, and may be less than
@@ -94,9 +100,8 @@ impl WindowSums<'_> {
         Some(self.least_cost(block, enough))
     }
 
-    // That of a block whose last walks may meet a leap second, as those of an hour do that ends with one: what the first walks
-    // cost at the least, and of the last ones what each costs. Of a longer block it is 0, since its bound costs less to ask for
-    // than these walks, and mostly passes it over.
+    // That of a block whose last walks may meet a leap second: what the first walks cost at the least, and the last ones. Of a longer
+    // block than an hour it is 0 where the first walks alone cost no more than `enough`.
     fn floor_at_leap_end(&self, civil: &Civil, block: &Block, enough: u32) -> Option<u32>
         requires { AreMinutesOf self.now.window block.now }
         ensures floor { IsFloor (costs_by self.now) self.now.window block.now result }
@@ -107,16 +112,79 @@ impl WindowSums<'_> {
         if !block.announced || block.second as usize >= SECONDS_PER_MINUTE {
             return Some(0);
         }
-        if block.hi - block.lo > MINUTES_PER_HOUR {
+        let last = self.later_minutes(LAST_SECOND) + 1;
+        let cut = block.hi.saturating_sub(last).max(block.lo);
+        let front = self.floor_before(civil, block, cut, enough);
+        if block.hi - block.lo > MINUTES_PER_HOUR && !is_above(front, enough) {
             return Some(0);
         }
-        let last = self.later_minutes(block.second) + 1;
-        let cut = block.hi.saturating_sub(last).max(block.lo);
-        let mut floor = self.floor_before(civil, block, cut, enough);
-        for t in cut..block.hi {
-            floor = lesser(floor, self.floor_of_minute(block, t));
+        lesser(front, Some(self.floor_from(block, cut, enough)))
+    }
+
+    // That of the minutes from this one on: what all their sequences carry together costs, or, where that isn't above `enough`, the
+    // least that few of them do.
+    fn floor_from(&self, block: &Block, cut: u32, enough: u32) -> u32
+        requires block { AreMinutesOf self.now.window block.now }
+        requires announced { block.now.announced ≡ true }
+        requires second { block.now.second < SECONDS_PER_MINUTE }
+        requires begun { block.now.lo ≤ cut }
+        requires within { cut ≤ block.now.hi }
+        ensures floor { IsFloor (costs_by self.now) self.now.window (piece block.now cut block.now.hi) (Some result) }
+        ensures small { result ≤ GREATEST_COST }
+    {
+        // The range of a window ends with the century.
+        self.end();
+        let all = self.floor_together(block, cut, block.hi);
+        if all > enough {
+            return all;
         }
-        floor
+        let mut least = GREATEST_COST;
+        let mut t = cut;
+        while t < block.hi {
+            let end = block.hi.min(t + FEW);
+            least = least.min(self.floor_of_few(block, t, end, enough));
+            t = end;
+        }
+        least
+    }
+
+    // The same of few minutes: or else the least that one of them does.
+    fn floor_of_few(&self, block: &Block, lo: u32, hi: u32, enough: u32) -> u32
+        requires block { AreMinutesOf self.now.window block.now }
+        requires announced { block.now.announced ≡ true }
+        requires second { block.now.second < SECONDS_PER_MINUTE }
+        requires begun { block.now.lo ≤ lo }
+        requires order { lo ≤ hi }
+        requires within { hi ≤ block.now.hi }
+        ensures floor { IsFloor (costs_by self.now) self.now.window (piece block.now lo hi) (Some result) }
+        ensures small { result ≤ GREATEST_COST }
+    {
+        let all = self.floor_together(block, lo, hi);
+        if all > enough {
+            return all;
+        }
+        let mut least = GREATEST_COST;
+        for t in lo..hi {
+            least = least.min(self.floor_of_minute(block, t));
+        }
+        least
+    }
+
+    // What the sequences of some minutes carry together costs. It is 0 where the stations don't know that at once.
+    fn floor_together(&self, block: &Block, lo: u32, hi: u32) -> u32
+        requires announced { block.now.announced ≡ true }
+        requires second { block.now.second < SECONDS_PER_MINUTE }
+        ensures floor { IsFloor (costs_by self.now) self.now.window (piece block.now lo hi) (Some result) }
+        ensures small { result ≤ GREATEST_COST }
+    {
+        let mut all = 0;
+        for station in &self.stations {
+            let Some(floor) = station.leap_floor(block.second, lo, hi) else {
+                return 0;
+            };
+            all += floor;
+        }
+        all
     }
 
     // That of the minutes before this one.
@@ -143,14 +211,15 @@ impl WindowSums<'_> {
         self.regular_floor(&front, enough)
     }
 
-    // That of one minute, whose walk may meet a leap second.
-    fn floor_of_minute(&self, block: &Block, t: u32) -> Option<u32>
+    // That of one minute, whose walk may meet a leap second: what its sequence costs, legal or not. It is 0 where that isn't known
+    // at once.
+    fn floor_of_minute(&self, block: &Block, t: u32) -> u32
         requires block { AreMinutesOf self.now.window block.now }
         requires announced { block.now.announced ≡ true }
         requires begun { block.now.lo ≤ t }
         requires within { t < block.now.hi }
-        ensures floor { IsFloor (costs_by self.now) self.now.window (piece block.now t (t + 1)) result }
-        ensures small { IfSome result (λ n. n ≤ GREATEST_COST) }
+        ensures floor { IsFloor (costs_by self.now) self.now.window (piece block.now t (t + 1)) (Some result) }
+        ensures small { result ≤ GREATEST_COST }
     {
         // The range of a window ends with the century.
         self.end();
@@ -161,10 +230,10 @@ impl WindowSums<'_> {
             lo: t,
             hi: t + 1,
         };
-        match self.leap_minute_bound(&minute) {
-            Some(bound) => bound,
-            None => Some(0),
-        }
+        let Some(cost) = self.leap_minute_cost(&minute) else {
+            return 0;
+        };
+        cost
     }
 
     // Whether the sequences of a block would begin with a second that none of its minutes has.
@@ -225,6 +294,14 @@ impl WindowSums<'_> {
             return u32::MAX;
         }
         0
+    }
+}
+
+// Whether a floor is above a cost.
+fn is_above(floor: Option<u32>, cost: u32) -> bool {
+    match floor {
+        Some(floor) => floor > cost,
+        None => true,
     }
 }
 

@@ -1,9 +1,14 @@
 //! Where leap seconds may be inserted, and what announced sequences cost that begin shortly before.
 
-ghost use Rattle.std.specs.Prelude.{◌≡◌, ◌+◌, ◌<◌, ◌≤◌, ℕ, IfSome, false, true};
+ghost use Rattle.std.specs.Prelude.{◌≡◌, ◌+◌, ◌<◌, ◌≤◌, ◌↔◌, ℕ, IfSome, false, true};
 ghost use Rattle.signal_base.specs.declared.limits.TheConstants.{GREATEST_COST};
-ghost use Rattle.definitions.specs.answers.Blocks.{IsBlock, IsMinuteBound};
+ghost use Rattle.definitions.specs.answers.Blocks.{IsBlock, IsMinuteBound, first_of};
+ghost use Rattle.definitions.specs.heard.Costs.{sequence_cost};
+ghost use Rattle.definitions.specs.sequences.Walks.{IsLegal};
 ghost use Rattle.definitions.specs.time.Calendar.{century_minutes, is_leap_end};
+ghost use Rattle.minute_parts.specs.Walks.{later_minutes};
+ghost use Rattle.slot_columns.specs.declared.limits.TheConstants.{SECONDS_PER_MINUTE};
+ghost use Rattle.field_tables.specs.Blocks.{AreMinutesOf};
 ghost use Rattle.field_tables.specs.Sums.{costs_by};
 
 use crate::minute::bound_if;
@@ -38,23 +43,67 @@ impl WindowSums<'_> {
         ensures bound { IfSome result (IsMinuteBound (costs_by self.now) self.now.window minute.now) }
         ensures small { IfSome result (λ bound. IfSome bound (λ n. n ≤ GREATEST_COST)) }
     {
-        let p = minute.second;
-        if p as usize >= SECONDS_PER_MINUTE {
+        let cost = self.leap_minute_cost(minute)?;
+        let legal = self.leap_minute_is_legal(minute)?;
+        Some(bound_if(legal, cost))
+    }
+
+    /// What its sequence costs, where the stations know that at once.
+    pub fn leap_minute_cost(&self, minute: &Block) -> Option<u32>
+        requires block { AreMinutesOf self.now.window minute.now }
+        requires announced { minute.now.announced ≡ true }
+        ensures cost { IfSome result (λ cost. cost ≡ sequence_cost (costs_by self.now) self.now.window (first_of minute.now)) }
+        ensures small { IfSome result (λ cost. cost ≤ GREATEST_COST) }
+    {
+        // The sums are those of a window, as their end says, and its range ends with the century.
+        self.end();
+        if !self.may_be_leap_walk(minute) {
             return None;
         }
-        let later = self.later_minutes(p);
-        if minute.lo + later >= self.end() {
-            return None;
-        }
-        let mut cost = 0;
-        let mut shows = false;
+        let mut total = 0;
         for station in &self.stations {
-            let Some(leap) = station.leap_cost(p, minute.lo) else {
+            let Some(cost) = station.leap_cost(minute.second, minute.lo) else {
                 return None;
             };
-            cost += leap.cost;
-            shows |= leap.shows;
+            total += cost;
         }
-        Some(bound_if(shows, cost))
+        Some(total)
+    }
+
+    // Whether its sequence is legal, where they know that.
+    fn leap_minute_is_legal(&self, minute: &Block) -> Option<bool>
+        requires block { IsBlock self.now.window minute.now }
+        requires announced { minute.now.announced ≡ true }
+        ensures { IfSome result (λ legal. legal ≡ true ↔ IsLegal self.now.window (first_of minute.now)) }
+    {
+        // The same.
+        self.end();
+        if !self.may_be_leap_walk(minute) {
+            return None;
+        }
+        let mut legal = false;
+        for station in &self.stations {
+            let Some(shows) = station.leap_shows(minute.second, minute.lo) else {
+                return None;
+            };
+            legal |= shows;
+        }
+        Some(legal)
+    }
+
+    // Whether its walk begins in no leap second, and ends before the first minute that not all stations can encode.
+    fn may_be_leap_walk(&self, minute: &Block) -> bool
+        requires { minute.now.lo < century_minutes }
+        ensures second { result ≡ true → minute.now.second < SECONDS_PER_MINUTE }
+        ensures early { result ≡ true → minute.now.lo + later_minutes self.now.window.seconds minute.now.second < self.now.end }
+    {
+        let p = minute.second;
+        if p as usize >= SECONDS_PER_MINUTE {
+            return false;
+        }
+        if minute.lo + self.later_minutes(p) >= self.end() {
+            return false;
+        }
+        true
     }
 }

@@ -13,6 +13,7 @@ mod station_floor;
 mod stations;
 mod sums;
 mod tables;
+mod year_floor;
 
 pub use parts::{StationParts, parts_of};
 pub use plain_costs::{agreeing_costs_cost_alike, dut1, grids_agree_with_their_costs, plain_cost};

@@ -11,8 +11,8 @@ use civil::Civil;
 use definitions::{CENTURY_DAYS, MINUTES_PER_DAY};
 use std::alloc::{AllocError, Global};
 
-// The walks that begin in it reach furthest.
-const LAST_SECOND: u8 = 59;
+/// The walks that begin in it reach furthest.
+pub const LAST_SECOND: u8 = 59;
 
 impl WindowSums<'_> {
     /// For each day of the century whether it is known that no announced sequence is legal that begins on it.

@@ -8,9 +8,9 @@ ghost use Rattle.definitions.specs.sequences.Windows.{IsWindow};
 ghost use Rattle.slot_columns.specs.declared.limits.TheConstants.{SECONDS_PER_MINUTE};
 ghost use Rattle.minute_parts.specs.Unions.{AreRegular};
 ghost use Rattle.minute_parts.specs.Walks.{later_minutes};
-ghost use Rattle.walk_costs.specs.Walks.{ShowsAnnouncement};
+ghost use Rattle.slot_columns.specs.Parts.{most_cost};
+ghost use Rattle.walk_costs.specs.Walks.{ShowsAnnouncement, cost_of};
 ghost use Rattle.field_tables.specs.Minutes.{sequence_at};
-ghost use Rattle.field_tables.specs.Leaps.{IsLeapCost};
 ghost use Rattle.field_tables.specs.Sums.{IsOf};
 
 use crate::parts::StationParts;
@@ -23,15 +23,6 @@ use std::alloc::{AllocError, Global};
 use std::marker::Model;
 use symbol_cost::CostGrid;
 use walk_costs::StationWalks;
-
-/// What an announced sequence costs a station.
-#[derive(Clone, Copy, Debug, PartialEq, Eq)]
-pub struct LeapCost {
-    /// What it costs.
-    pub cost: u32,
-    /// Whether it shows the announcement at the station.
-    pub shows: bool,
-}
 
 /// A station's walks and blocks with what they cost. Contracts see the parts of its telegrams and the grid of costs.
 #[derive(Drop)]
@@ -103,22 +94,52 @@ impl<'a> StationSums<'a> {
     }
 
     /// What an announced sequence costs the station that begins shortly before a leap second may be inserted. None of other
-    /// sequences, and where the station sends DUT1 and the walk isn't known to go on to the next UTC day.
-    pub fn leap_cost(&self, p: u8, first: u32) -> Option<LeapCost>
+    /// sequences, and where the station sends DUT1 and the walk ends with the leap second.
+    pub fn leap_cost(&self, p: u8, first: u32) -> Option<u32>
         requires second { p < SECONDS_PER_MINUTE }
         requires encoded { first + 1 + later_minutes (length self.now.grid.rows) p ≤ self.now.parts.end }
-        ensures { IfSome result (IsLeapCost self.now p first) }
+        ensures cost { IfSome result (λ cost. cost ≡ cost_of self.now true p first) }
+        ensures small { IfSome result (λ cost. cost ≤ most_cost self.now.grid) }
     {
         let walks = self.blocks.walks();
-        let walk = self.leaps.walk(walks.unions(), p, first)?;
+        // They are the station's, and end in the century.
+        walks.unions().parts().end();
+        let walk = self.leaps.walk(p, first)?;
         let columns = walks.columns();
-        if !is_untold(columns.station(), walk.next_day) {
+        let sets = columns.sets_cost(&walk.sets);
+        if is_untold(columns.station(), walk.next_day) {
+            return Some(sets);
+        }
+        if !walk.early {
             return None;
         }
-        Some(LeapCost {
-            cost: columns.sets_cost(&walk.sets),
-            shows: walk.shows,
-        })
+        Some(sets + walks.added_from(p, first))
+    }
+
+    /// Whether it shows the announcement at the station. None of the same sequences at most.
+    pub fn leap_shows(&self, p: u8, first: u32) -> Option<bool>
+        requires second { p < SECONDS_PER_MINUTE }
+        requires encoded { first + 1 + later_minutes (length self.now.grid.rows) p ≤ self.now.parts.end }
+        ensures { IfSome result (λ shows. shows ≡ true ↔ ShowsAnnouncement self.now (record { first = first; second = p; announced = true })) }
+    {
+        let walk = self.leaps.walk(p, first)?;
+        let unions = self.blocks.walks().unions();
+        Some(self.leaps.shows(unions, &walk, p, first))
+    }
+
+    /// What no announced sequence costs the station less than that begins in second `p` of the minutes from `lo` up to, and
+    /// without, `hi`, where these are some of the last before a leap second may be inserted: what all of them carry together
+    /// costs. None of other minutes.
+    pub fn leap_floor(&self, p: u8, lo: u32, hi: u32) -> Option<u32>
+        requires second { p < SECONDS_PER_MINUTE }
+        ensures floor { IfSome result (λ floor. (t0 : ℕ) → lo ≤ t0 → t0 < hi → floor ≤ cost_of self.now true p t0) }
+        ensures small { IfSome result (λ floor. floor ≤ most_cost self.now.grid) }
+    {
+        let walks = self.blocks.walks();
+        // They are the station's.
+        walks.unions();
+        let sets = self.leaps.walks_together(p, lo, hi)?;
+        Some(walks.columns().sets_cost(&sets))
     }
 
     /// In each slot the union of what the walkable sequences of an announced block allow the station, or None where no

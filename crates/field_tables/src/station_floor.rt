@@ -18,20 +18,38 @@ use definitions::{Block, MINUTES_PER_DAY, MINUTES_PER_HOUR};
 use minute_parts::Parts;
 use walk_costs::StationWalks;
 
-// What the sequences cost at the least that begin in a piece of a block's minutes.
+/// What the sequences cost at the least that begin in a piece of a block's minutes.
 #[derive(Clone, Copy, Debug, PartialEq, Eq)]
-struct Piece {
-    // The minute after its last one.
-    end: u32,
-    // None of them costs less.
-    floor: u32,
+pub struct Piece {
+    /// The minute after its last one.
+    pub end: u32,
+    /// None of them costs less.
+    pub floor: u32,
 }
 
 impl StationSums<'_> {
     /// A floor of a block whose walks have 60 seconds in each minute: none of its sequences costs the station less. It is 0
-    /// where a walk goes over the ends of three runs, or of two at a station that sends a call sign. Where that of a piece isn't above
-    /// `enough`, walks are looked at one by one that leave their run, and those of a piece of an hour or less.
+    /// where a walk goes over the ends of three runs, or of two at a station that sends a call sign, and of a block of more than a day
+    /// where it isn't above `enough`. Where that of a piece isn't, walks are looked at one by one that leave their run, and those of a
+    /// piece of an hour or less.
     pub fn floor(&self, block: &Block, enough: u32) -> u32
+        requires second { block.now.second < SECONDS_PER_MINUTE }
+        requires order { block.now.lo < block.now.hi }
+        requires regular { AreRegular block.now.announced block.now.lo (block.now.hi + later_minutes (length self.now.grid.rows) block.now.second) self.now.parts.end }
+        ensures floor { CostAtLeast self.now block.now block.now.lo block.now.hi result }
+        ensures small { result ≤ most_cost self.now.grid }
+    {
+        if block.announced {
+            return self.floor_by_pieces(block, enough);
+        }
+        if block.hi - block.lo <= MINUTES_PER_DAY {
+            return self.floor_by_pieces(block, enough);
+        }
+        self.floor_of_days(block, enough)
+    }
+
+    // The same piece by piece.
+    fn floor_by_pieces(&self, block: &Block, enough: u32) -> u32
         requires second { block.now.second < SECONDS_PER_MINUTE }
         requires order { block.now.lo < block.now.hi }
         requires regular { AreRegular block.now.announced block.now.lo (block.now.hi + later_minutes (length self.now.grid.rows) block.now.second) self.now.parts.end }
@@ -53,9 +71,9 @@ impl StationSums<'_> {
     }
 }
 
-// The piece from the minute `t` on: the minutes whose walks lie in the run of `t`, or those whose walks leave it.
+/// The piece from the minute `t` on: the minutes whose walks lie in the run of `t`, or those whose walks leave it.
 #[inline(always)]
-fn piece_from(walks: &StationWalks, block: &Block, t: u32, enough: u32) -> Piece
+pub fn piece_from(walks: &StationWalks, block: &Block, t: u32, enough: u32) -> Piece
     requires second { block.now.second < SECONDS_PER_MINUTE }
     requires begun { block.now.lo ≤ t }
     requires some { t < block.now.hi }

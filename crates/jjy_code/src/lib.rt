@@ -2,9 +2,12 @@
 //! standard time code).
 #![tactic(auto)]
 
-ghost use Rattle.std.specs.Prelude.{◌≡◌, ◌%◌, ◌<◌, map};
+ghost use Rattle.std.specs.Prelude.{◌≡◌, ◌%◌, ◌<◌, false, map, replicate};
 ghost use Rattle.std.specs.List.{range_with_len};
 ghost use Rattle.definitions.specs.codes.Jjy.{AreInRange, is_call_minute, is_marked, jjy_bit, jjy_fields, jjy_second};
+ghost use Rattle.definitions.specs.codes.Vocabulary.{only};
+ghost use Rattle.telegram_fields.specs.Laying.{with_sets};
+ghost use Rattle.jjy_code.specs.Laying.{no_field};
 
 pub use definitions::JjyFacts;
 use signal_base::UNSCORED;
@@ -26,16 +29,61 @@ const YEAR: [(u8, u8); 8] = [
 
 const WEEKDAY: [(u8, u8); 3] = [(50, 4), (51, 2), (52, 1)];
 
+// The symbol of a one.
+const ONE: u8 = 1;
+
 /// The sets of symbols that the seconds of a minute may carry, as masks. The last is empty unless the minute has
 /// 61 seconds.
 pub fn telegram(facts: &JjyFacts) -> [u8; 61]
     requires { AreInRange facts.now }
     ensures { result ≡ map (jjy_second facts.now) (range_with_len 0 61) }
 {
-    array::from_fn(|second| set_of(facts, second as u8))
+    if is_call_minute(facts) {
+        return array::from_fn(|second| set_of(facts, second as u8));
+    }
+    coded_telegram(facts)
+}
+
+// That of a minute in which no call sign is sent.
+fn coded_telegram(facts: &JjyFacts) -> [u8; 61]
+    requires range { AreInRange facts.now }
+    requires coded { is_call_minute facts.now ≡ false }
+    ensures { result ≡ map (jjy_second facts.now) (range_with_len 0 61) }
+{
+    let mut sets = sets_of_no_field(facts);
+    let [minute, hour, day, year, weekday] = &fields(facts);
+    minute.lay(&mut sets, ONE);
+    hour.lay(&mut sets, ONE);
+    day.lay(&mut sets, ONE);
+    year.lay(&mut sets, ONE);
+    weekday.lay(&mut sets, ONE);
+    sets
+}
+
+// The sets of the seconds that no field has: most of them carry 0.
+fn sets_of_no_field(facts: &JjyFacts) -> [u8; 61]
+    requires { AreInRange facts.now }
+    ensures { result ≡ with_sets (jjy_second facts.now) no_field (replicate 61 (only 0)) }
+{
+    let mut sets = [only(0); 61];
+    sets[0] = set_of(facts, 0);
+    sets[9] = set_of(facts, 9);
+    sets[19] = set_of(facts, 19);
+    sets[29] = set_of(facts, 29);
+    sets[36] = set_of(facts, 36);
+    sets[37] = set_of(facts, 37);
+    sets[39] = set_of(facts, 39);
+    sets[49] = set_of(facts, 49);
+    sets[53] = set_of(facts, 53);
+    sets[54] = set_of(facts, 54);
+    sets[59] = set_of(facts, 59);
+    sets[60] = set_of(facts, 60);
+    sets
 }
 
 /// The set of symbols that a second may carry, empty from the end of the minute on.
+// Of a second that is given as a number, what it carries is looked up as the program is built.
+#[inline(always)]
 pub fn set_of(facts: &JjyFacts, second: u8) -> u8
     requires { AreInRange facts.now }
     ensures { result ≡ jjy_second facts.now second }

@@ -1,7 +1,7 @@
 -- A walk over a leap second goes on to the next day, and what a walk carries without the announcement.
-use Rattle.std.proofs.Common.{◌≡◌, ℕ, ◌+◌, ◌-◌, ◌*◌, ◌/◌, ◌%◌, ◌<◌, ◌≤◌, Bool, false, true, ◌==◌, nat_lt, if◌then◌else◌, List, slice_index, refl, sym, ap, ◌∙◌, subst, arith, zero-add}
+use Rattle.std.proofs.Common.{◌≡◌, ◌≢◌, ◌↔◌, inl, inr, ℕ, ◌+◌, ◌-◌, ◌*◌, ◌/◌, ◌%◌, ◌<◌, ◌≤◌, Bool, false, true, ◌==◌, nat_lt, if◌then◌else◌, List, slice_index, refl, sym, ap, ◌∙◌, subst, arith, zero-add}
 use Rattle.std.specs.List.{range_with_len}
-use Rattle.std.proofs.lemmas.Bool.{ne_eqb}
+use Rattle.std.proofs.lemmas.Bool.{cases_Bool, ne_eqb}
 use Rattle.std.proofs.lemmas.List.Folds.{list_all_at}
 use Rattle.std.proofs.lemmas.List.FromFn.{get_or-range_with_len, length-range_with_len}
 use Rattle.signal_base.specs.declared.station.Station.{Station}
@@ -18,7 +18,9 @@ use Rattle.minute_parts.proofs.UnionLaws.{one_union, union_one}
 use Rattle.leap_unions.specs.declared.tapes.KeptTape.{KeptTape}
 use Rattle.leap_unions.specs.Kept.{IsKeptTape}
 use Rattle.leap_unions.specs.Pieces.{announced_from}
-use Rattle.leap_unions.specs.Walks.{unannounced_from}
+use Rattle.leap_unions.specs.declared.walk.LeapWalk.{LeapWalk}
+use Rattle.leap_unions.specs.Scope.{Scope}
+use Rattle.leap_unions.specs.Walks.{IsLeapWalk, ShowsIn, unannounced_from}
 use Rattle.leap_unions.proofs.LeapLaws.{last_of_day}
 use Rattle.leap_unions.proofs.NominalLaws.{from_second, goes_on, minutes_on}
 
@@ -71,3 +73,18 @@ unannounced_sets station seconds second first row small over k lt =
     ap (slice_index row) at
     ∙ one_union sets (first + m) (first + m + 1) (slice_index row (60 * m + s)) (sets (first + m)) told alone
     ∙ sym (ap (allowed station false) (place_at-plain (unannounced_from second first) k refl small))
+
+-- whether such a walk shows the announcement, by its sets
+pub shown_by : (scope : Scope) (second first : ℕ) (walk : LeapWalk) → IsLeapWalk scope second first walk → (station : Station) → station ≡ scope.station → (shows : Bool)
+    → (shows ≡ true → (k : ℕ) × (k < scope.seconds) × (slice_index walk.sets k ≢ set_at station (unannounced_from second first) k))
+    → (shows ≡ false → (k : ℕ) → k < scope.seconds → slice_index walk.sets k ≡ set_at station (unannounced_from second first) k)
+    → (shows ≡ true ↔ ShowsIn scope second first)
+shown_by scope second first walk is station same shows shown hidden = (
+  λ e.
+      let found = shown e in
+      (found.0, found.1, λ alike. found.2 (is.sets found.0 found.1 ∙ alike ∙ ap (λ (s : Station). set_at s (unannounced_from second first) found.0) (sym same))),
+  λ some. elim (cases_Bool shows) [
+    | inl e ↦ e
+    | inr not ↦ absurd (some.2 (sym (is.sets some.0 some.1) ∙ hidden not some.0 some.1 ∙ ap (λ (s : Station). set_at s (unannounced_from second first) some.0) same))
+  ],
+)

@@ -11,6 +11,7 @@ mod sets;
 mod tapes;
 #[cfg(test)]
 mod tests;
+mod together;
 mod unions;
 mod walk;
 

@@ -1,16 +1,17 @@
 //! The unions of blocks that announce a leap second.
 
-ghost use Rattle.std.specs.Prelude.{ℕ, ◌≡◌, ◌+◌, ◌-◌, ◌/◌, ◌<◌, ◌≤◌, ◌↔◌, IfOk, IfSome, MatchOption, slice_index, true};
+ghost use Rattle.std.specs.Prelude.{ℕ, ◌≡◌, ◌+◌, ◌-◌, ◌/◌, ◌<◌, ◌≤◌, ◌↔◌, IfOk, IfSome, IsTrue, MatchOption, slice_index, true};
 ghost use Rattle.signal_base.specs.declared.limits.TheConstants.{MOST_SECONDS};
 ghost use Rattle.definitions.specs.codes.Allowed.{has_station, CanBeEncoded};
 ghost use Rattle.definitions.specs.sequences.Windows.{IsWindow};
 ghost use Rattle.definitions.specs.answers.Blocks.{HasWalk, IsBlock, IsUnion};
-ghost use Rattle.leap_unions.specs.Walks.{IsLeapWalk};
+ghost use Rattle.leap_unions.specs.Walks.{AreTogether, IsLeapWalk, ShowsIn};
 
 use crate::pieces::Walks;
 use crate::row_maker::{Maker, Rows};
 use crate::sets::Sets;
-use crate::walk::{LeapWalk, tape_with, walk_of};
+use crate::together::walks_of;
+use crate::walk::{LeapWalk, shows, tape_with, walk_of};
 use civil::Civil;
 use definitions::Block;
 use minute_parts::Unions;
@@ -109,13 +110,35 @@ impl LeapUnions {
 
     /// The announced walk from second `p`, below 60, of a minute, where that is one of the last before a leap second may be
     /// inserted: from 21 minutes before it on at most. None of other minutes, and near the end of what the station can encode.
-    pub fn walk(&self, unions: &Unions, p: u8, first: u32) -> Option<LeapWalk>
-        requires unions { unions.now.station ≡ self.now.station }
+    pub fn walk(&self, p: u8, first: u32) -> Option<LeapWalk>
         requires second { p < 60 }
-        requires encoded { first + 1 + (p + self.now.seconds - 1) / 60 ≤ unions.now.end }
         ensures { IfSome result (IsLeapWalk self.now p first) }
     {
         let kept = tape_with(&self.rows.tapes, self.station, self.seconds, first)?;
-        Some(walk_of(kept, self.station, unions, self.seconds, p, first))
+        Some(walk_of(kept, self.station, self.seconds, p, first))
+    }
+
+    /// What the announced walks from second `p`, below 60, carry together that begin in the minutes from `lo` up to, and without,
+    /// `hi`: they may carry less, and nothing else. None where these aren't some of the last ones before a leap second.
+    pub fn walks_together(&self, p: u8, lo: u32, hi: u32) -> Option<Sets>
+        requires second { p < 60 }
+        ensures { IfSome result (AreTogether self.now p lo hi) }
+    {
+        let kept = tape_with(&self.rows.tapes, self.station, self.seconds, lo)?;
+        if kept.hi < hi {
+            return None;
+        }
+        Some(walks_of(kept, self.station, self.seconds, p, lo, hi))
+    }
+
+    /// Whether a walk shows the announcement: whether some of its sets is another than without it.
+    pub fn shows(&self, unions: &Unions, walk: &LeapWalk, p: u8, first: u32) -> bool
+        requires unions { unions.now.station ≡ self.now.station }
+        requires walk { IsLeapWalk self.now p first walk.now }
+        requires second { p < 60 }
+        requires encoded { first + 1 + (p + self.now.seconds - 1) / 60 ≤ unions.now.end }
+        ensures { IsTrue result ↔ ShowsIn self.now p first }
+    {
+        shows(&walk.sets, unions, self.seconds, p, first)
     }
 }

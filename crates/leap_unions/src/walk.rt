@@ -19,10 +19,10 @@ use signal_base::Station;
 pub struct LeapWalk {
     /// A set for each slot.
     pub sets: Sets,
-    /// Whether some of them is another than without the announcement.
-    pub shows: bool,
     /// Whether it is known that the walk goes on to the next UTC day.
     pub next_day: bool,
+    /// Whether it is known that it ends before the leap second.
+    pub early: bool,
 }
 
 /// The tape that has a minute. The tapes are in order, two a year, and no year is longer than 366 days.
@@ -48,31 +48,22 @@ pub fn tape_with<'a>(
     None
 }
 
-/// The walk of `seconds` seconds from second `p` of one of a tape's minutes. The unions are the station's.
-pub fn walk_of(
-    kept: &KeptTape,
-    station: Station,
-    unions: &Unions,
-    seconds: u16,
-    p: u8,
-    first: u32,
-) -> LeapWalk
+/// The walk of `seconds` seconds from second `p` of one of a tape's minutes.
+pub fn walk_of(kept: &KeptTape, _station: Station, seconds: u16, p: u8, first: u32) -> LeapWalk
     requires some { 1 ≤ seconds }
     requires few { seconds ≤ MOST_SECONDS }
-    requires kept { IsKeptTape station seconds kept.now }
-    requires unions { unions.now.station ≡ station }
+    requires kept { IsKeptTape _station seconds kept.now }
     requires second { p < SECONDS }
     requires begun { kept.now.lo ≤ first }
     requires ends { first < kept.now.hi }
-    requires encoded { first + 1 + (p + seconds - 1) / SECONDS ≤ unions.now.end }
-    ensures { IsLeapWalk (record { station = station; seconds = seconds }) p first result }
+    ensures { IsLeapWalk (record { station = _station; seconds = seconds }) p first result }
 {
     let from = SECONDS * (first - kept.lo) as usize + p as usize;
-    let sets = sets_from(&kept.tape, from);
+    let minutes = kept.hi - first;
     LeapWalk {
-        sets,
-        shows: shows(&sets, unions, seconds, p, first),
-        next_day: goes_on(kept.hi - first, seconds, p),
+        sets: sets_from(&kept.tape, from),
+        next_day: goes_on(minutes, seconds, p),
+        early: ends_before(minutes, seconds, p),
     }
 }
 
@@ -84,8 +75,16 @@ fn goes_on(minutes: u32, seconds: u16, p: u8) -> bool
     SECONDS as u32 * minutes + 1 < p as u32 + seconds as u32
 }
 
-// Whether some of the sets is another than the walk from second `p` of a minute carries without an announcement.
-fn shows(sets: &Sets, unions: &Unions, seconds: u16, p: u8, first: u32) -> bool
+// Whether it ends before the last second of these minutes.
+fn ends_before(minutes: u32, seconds: u16, p: u8) -> bool
+    requires { minutes ≤ 21 }
+    ensures { result ≡ true → p + seconds ≤ SECONDS * minutes }
+{
+    p as u32 + seconds as u32 <= SECONDS as u32 * minutes
+}
+
+/// Whether some of the sets is another than the walk from second `p` of a minute carries without an announcement.
+pub fn shows(sets: &Sets, unions: &Unions, seconds: u16, p: u8, first: u32) -> bool
     requires some { 1 ≤ seconds }
     requires few { seconds ≤ MOST_SECONDS }
     requires second { p < SECONDS }

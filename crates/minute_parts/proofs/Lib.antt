@@ -1,5 +1,6 @@
 pub mod EndLaws
 pub mod FactLaws
+pub mod FieldLaws
 pub mod FillLaws
 pub mod LayerLaws
 pub mod PartLaws

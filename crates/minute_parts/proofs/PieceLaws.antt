@@ -1,17 +1,17 @@
 -- What a station tells by the date, from the UTC day and the time in it.
-use Rattle.std.proofs.Common.{◌≡◌, ℕ, ◌+◌, ◌*◌, ◌-◌, ◌/◌, ◌%◌, ◌<◌, ◌≤◌, Bool, true, false, not, ◌==◌, ◌&&◌, ◌||◌, nat_lt, if◌then◌else◌, refl, sym, ap, ◌∙◌, arith}
-use Rattle.std.proofs.lemmas.Bool.{ltb-true, ltb-false, eqb-true, eqb-false, lt-ltb, le-ltb, eq-eqb, ne_eqb, lt-leb}
+use Rattle.std.proofs.Common.{◌≡◌, ℕ, ◌+◌, ◌*◌, ◌-◌, ◌/◌, ◌%◌, ◌<◌, ◌≤◌, Bool, true, false, not, ◌==◌, ◌&&◌, ◌||◌, nat_lt, if◌then◌else◌, refl, sym, ap, ◌∙◌, subst, arith}
+use Rattle.std.proofs.lemmas.Bool.{ltb-true, ltb-false, eqb-true, eqb-false, lt-ltb, le-ltb, eq-eqb, ne_eqb, lt-leb, or_parts}
 use Rattle.std.proofs.lemmas.Bool.Decides.{nat_tests}
 use Rattle.signal_base.specs.declared.station.Station.{Station}
 use Rattle.signal_base.specs.declared.station.Station.TheVariants.{Dcf77, Msf, Wwvb, Jjy}
 use Rattle.definitions.specs.declared.day.Day.{Day}
 use Rattle.definitions.specs.time.Calendar.{day_at, is_leap_end}
-use Rattle.definitions.specs.time.Summer.{eu_change_within, eu_season, is_eu_summer, season_at, us_begins, us_ends, us_code_on}
+use Rattle.definitions.specs.time.Summer.{eu_change_within, eu_season, is_eu_summer, is_last_sunday, season_at, us_begins, us_ends, us_code_on}
 use Rattle.civil.specs.Seasons.{IsNextOneOclock, is_eu_change_day}
-use Rattle.civil.proofs.Seasons.{change_in_time, change_too_late}
+use Rattle.civil.proofs.Seasons.{change_in_time, change_too_late, season_more}
 use Rattle.minute_parts.specs.declared.dates.DateFacts.{DateFacts}
 use Rattle.minute_parts.specs.Dates.{date_facts}
-use Rattle.minute_parts.specs.Pieces.{IsPiece, IsUncut}
+use Rattle.minute_parts.specs.Pieces.{IsPiece, IsPlainDay, IsUncut, is_leap_day, local_midnight}
 
 -- a test of the time in a day has one answer over a piece
 same_test : (m v e cut : ℕ) → m ≤ v → v < e → IsUncut m e cut → nat_lt v cut ≡ nat_lt m cut
@@ -98,10 +98,6 @@ msf_change t = by_test (nat_lt (t % 1440) 60) refl
     by_test true h = change_today t 61 (omega arith) (omega arith) (ltb-true _ _ h)
     by_test false h = by_midnight (ltb-false _ _ h) _ refl
 
--- the day ends with a leap second, where one is announced
-abbrev is_leap_day : Day → Bool
-is_leap_day d = (d.month == 6) && (d.day == 30) || (d.month == 12) && (d.day == 31)
-
 dcf_leap : (t : ℕ) → is_leap_end (t / 60 * 60 + 59) ≡ (not (nat_lt (t % 1440) 1380) && is_leap_day (day_at (t / 1440)))
 dcf_leap t = by_test (nat_lt (t % 1440) 1380) refl
   where
@@ -122,7 +118,7 @@ dcf_leap t = by_test (nat_lt (t % 1440) 1380) refl
 abbrev is_leap_month_day : Day → Bool
 is_leap_month_day d = (d.month == 6) || (d.month == 12)
 
-same_facts : (d d' : Day) (a a' b b' c c' : Bool) (u u' : ℕ) → d ≡ d' → a ≡ a' → b ≡ b' → u ≡ u' → c ≡ c'
+pub same_facts : (d d' : Day) (a a' b b' c c' : Bool) (u u' : ℕ) → d ≡ d' → a ≡ a' → b ≡ b' → u ≡ u' → c ≡ c'
     → ◌≡◌ {A = DateFacts} (record { day = d; summer = a; change = b; us_code = u; leap = c }) (record { day = d'; summer = a'; change = b'; us_code = u'; leap = c' })
 same_facts d d' a a' b b' c c' u u' day summer change code leap = cc
 
@@ -227,4 +223,105 @@ same_in_piece station t v e within piece le lt =
     facts_are station v
     ∙ ap (λ n. form_at station n (v % 1440)) day
     ∙ same_form station (t / 1440) (t % 1440) (v % 1440) e (omega (arith, day)) (omega (arith, day)) piece
+    ∙ sym (facts_are station t)
+
+-- Which days change something, as they are asked for.
+pub change_on : (n : ℕ) → eu_change_within (n * 1440) 60 ≡ is_eu_change_day (day_at n)
+change_on n =
+    let day : n * 1440 / 1440 ≡ n = omega arith in
+    change_today (n * 1440) 60 (omega arith) (omega arith) (omega arith) ∙ ap (λ d. is_eu_change_day (day_at d)) day
+
+pub change_after : (n : ℕ) → eu_change_within (n * 1440 + 60) 1440 ≡ is_eu_change_day (day_at (n + 1))
+change_after n =
+    let day : (n * 1440 + 60) / 1440 + 1 ≡ n + 1 = omega arith in
+    change_tomorrow (n * 1440 + 60) 1440 (omega arith) (omega arith) (omega arith) ∙ ap (λ d. is_eu_change_day (day_at d)) day
+
+pub leap_on : (n : ℕ) → is_leap_end (n * 1440 + 1439) ≡ is_leap_day (day_at n)
+leap_on n =
+    let day : (n * 1440 + 1439) / 1440 ≡ n = omega arith in
+    let last : ((n * 1440 + 1439) % 1440 == 1439) ≡ true = eq-eqb _ _ (omega arith) in
+    rw (day, last) refl
+
+-- The facts of a day on which nothing changes but the local day: they ask of the minute only whether it comes before local
+-- midnight.
+abbrev plain_form : ℕ → Bool → Bool → DateFacts
+plain_form n summer before =
+    record { day = day_at (if before then n else n + 1); summer = summer; change = false; us_code = 0; leap = false }
+
+and_false : (b : Bool) → (b && false) ≡ false
+and_false true = refl
+and_false false = refl
+
+same_season : (n : ℕ) → is_eu_change_day (day_at n) ≡ false → eu_season (n + 1) ≡ eu_season n
+same_season n still =
+    let none = or_parts (is_last_sunday 3 (day_at n)) (is_last_sunday 10 (day_at n)) still in
+    season_more (is_last_sunday 3) (is_last_sunday 10) n ∙ rw (none.0, none.1) refl
+
+plain_summer : (n : ℕ) (early : Bool) → is_eu_change_day (day_at n) ≡ false → next_summer n early ≡ eu_season n
+plain_summer n true still = refl
+plain_summer n false still = same_season n still
+
+plain_day : (n : ℕ) (summer before_summer before_winter : Bool)
+    → day_at (next_day_by n summer before_summer before_winter) ≡ day_at (if (if summer then before_summer else before_winter) then n else n + 1)
+plain_day n true a b = refl
+plain_day n false a b = refl
+
+plain_change : (early : Bool) (d : Day) → is_eu_change_day d ≡ false → (early && is_eu_change_day d) ≡ false
+plain_change early d still = rw still (and_false early)
+
+plain_leap : (late : Bool) (d : Day) → is_leap_day d ≡ false → (late && is_leap_day d) ≡ false
+plain_leap late d none = rw none (and_false late)
+
+msf_plain_change : (n : ℕ) (early before : Bool) → is_eu_change_day (day_at n) ≡ false → is_eu_change_day (day_at (n + 1)) ≡ false
+    → msf_change_by n early before ≡ false
+msf_plain_change n true before today tomorrow = today
+msf_plain_change n false true today tomorrow = refl
+msf_plain_change n false false today tomorrow = tomorrow
+
+dcf_plain : (n : ℕ) (a b c d e : Bool) → IsPlainDay Dcf77 n → dcf_form n a b c d e ≡ plain_form n (eu_season n) (if eu_season n then c else d)
+dcf_plain n a b c d e plain =
+    let summer = plain_summer n a plain.0 in
+    same_facts _ _ _ _ _ _ _ _ _ _
+    (ap (λ s. day_at (next_day_by n s c d)) summer ∙ plain_day n (eu_season n) c d)
+    summer (plain_change b (day_at n) plain.0) refl (plain_leap (not e) (day_at n) plain.1)
+
+msf_plain : (n : ℕ) (a b c d : Bool) → IsPlainDay Msf n → msf_form n a b c d ≡ plain_form n (eu_season n) (if eu_season n then c else d)
+msf_plain n a b c d plain =
+    let summer = plain_summer n a plain.0 in
+    same_facts _ _ _ _ _ _ _ _ _ _
+    (ap (λ s. day_at (next_day_by n s c d)) summer ∙ plain_day n (eu_season n) c d)
+    summer (msf_plain_change n b d plain.0 plain.1) refl refl
+
+-- two times of a day lie on the same side of local midnight
+same_side : (m v e s w : ℕ) (summer : Bool) → m ≤ v → v < e → IsUncut m e (if summer then s else w)
+    → (if summer then nat_lt v s else nat_lt v w) ≡ (if summer then nat_lt m s else nat_lt m w)
+same_side m v e s w true le lt uncut = same_test m v e s le lt uncut
+same_side m v e s w false le lt uncut = same_test m v e w le lt uncut
+
+same_plain_form : (station : Station) (n m v e : ℕ) → m ≤ v → v < e → IsPlainDay station n → IsUncut m e (local_midnight station (form_at station n m).summer)
+    → form_at station n v ≡ form_at station n m
+same_plain_form Dcf77 n m v e le lt plain uncut =
+    let summer = plain_summer n (nat_lt m 59) plain.0 in
+    let at_midnight = subst (λ s. IsUncut m e (local_midnight Dcf77 s)) summer uncut in
+    dcf_plain n _ _ _ _ _ plain
+    ∙ ap (plain_form n (eu_season n)) (same_side m v e 1319 1379 (eu_season n) le lt at_midnight)
+    ∙ sym (dcf_plain n _ _ _ _ _ plain)
+same_plain_form Msf n m v e le lt plain uncut =
+    let summer = plain_summer n (nat_lt m 59) plain.0 in
+    let at_midnight = subst (λ s. IsUncut m e (local_midnight Msf s)) summer uncut in
+    msf_plain n _ _ _ _ plain
+    ∙ ap (plain_form n (eu_season n)) (same_side m v e 1379 1439 (eu_season n) le lt at_midnight)
+    ∙ sym (msf_plain n _ _ _ _ plain)
+same_plain_form Wwvb n m v e le lt plain uncut = absurd plain
+same_plain_form Jjy n m v e le lt plain uncut = absurd plain
+
+pub same_in_plain_piece : (station : Station) (t v e : ℕ) → IsPlainDay station (t / 1440) → e ≤ 1440
+    → IsUncut (t % 1440) e (local_midnight station (date_facts station t).summer) → t ≤ v → v < t - t % 1440 + e
+    → date_facts station v ≡ date_facts station t
+same_in_plain_piece station t v e plain within uncut le lt =
+    let day : v / 1440 ≡ t / 1440 = omega arith in
+    let at_midnight = subst (λ (f : DateFacts). IsUncut (t % 1440) e (local_midnight station f.summer)) (facts_are station t) uncut in
+    facts_are station v
+    ∙ ap (λ n. form_at station n (v % 1440)) day
+    ∙ same_plain_form station (t / 1440) (t % 1440) (v % 1440) e (omega (arith, day)) (omega (arith, day)) plain at_midnight
     ∙ sym (facts_are station t)

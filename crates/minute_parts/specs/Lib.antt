@@ -1,5 +1,6 @@
 pub mod Overlay
 pub mod Dates
+pub mod DateRows
 pub mod Pieces
 pub mod Filling
 pub mod Runs

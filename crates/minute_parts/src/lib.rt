@@ -5,6 +5,7 @@
 
 mod call;
 mod date_parts;
+mod date_rows;
 mod dates;
 mod hour_layers;
 mod laws;

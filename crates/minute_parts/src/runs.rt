@@ -7,7 +7,7 @@ ghost use Rattle.minute_parts.specs.Dates.{AreInRange, date_facts, unannounced};
 ghost use Rattle.minute_parts.specs.Parts.{part_where};
 ghost use Rattle.minute_parts.specs.Runs.{Covers, Extends, Points, days_before, first_of, last_of, run_by};
 
-use crate::date_parts::date_part;
+use crate::date_rows::DateRows;
 use crate::dates::{DateFacts, date_facts, shift_by};
 use crate::part::Part;
 use crate::pieces::piece_end;
@@ -62,16 +62,17 @@ pub fn runs_of(alloc: Global, civil: &Civil, station: Station, end: u32) -> Resu
     ensures begun { IfOk result (λ r. first_of r.runs.items (last_of r.runs.items) < end) }
     ensures days { IfOk result (λ r. Points r.days.items r.runs.items (days_before end)) }
 {
+    let rows = DateRows::make(alloc, station)?;
     let mut runs = Vec::with_capacity(alloc, ROOM)?;
     let mut days = Vec::with_capacity(alloc, CENTURY_DAYS as usize)?;
     let mut date = date_facts(civil, station, 0);
-    runs.push(run_by(station, 0, &date))?;
+    runs.push(run_by(&rows, station, 0, &date))?;
     let mut t = 0;
     while t < end {
         let here = date_facts(civil, station, t);
-        add_run(&mut runs, &mut date, station, t, here)?;
+        add_run(&mut runs, &mut date, &rows, station, t, here)?;
         add_day(&mut days, &runs, t)?;
-        t = piece_end(station, t).min(end);
+        t = piece_end(civil, station, t, &here).min(end);
     }
     Ok(Runs { runs, days })
 }
@@ -80,10 +81,12 @@ pub fn runs_of(alloc: Global, civil: &Civil, station: Station, end: u32) -> Resu
 fn add_run(
     runs: &mut Vec<Run>,
     date: &mut DateFacts,
+    rows: &DateRows,
     station: Station,
     t: u32,
     here: DateFacts,
 ) -> Result<(), AllocError>
+    requires rows { rows.now.station ≡ station }
     requires covered { Covers station runs.old.items date.old t }
     requires here { here ≡ date_facts station t }
     requires ranges { AreInRange here }
@@ -92,7 +95,7 @@ fn add_run(
     ensures grown { OnOk result (Extends runs.new.items runs.old.items) }
 {
     if here != *date {
-        runs.push(run_by(station, t, &here))?;
+        runs.push(run_by(rows, station, t, &here))?;
         *date = here;
     }
     Ok(())
@@ -112,13 +115,14 @@ fn add_day(days: &mut Vec<usize>, runs: &Vec<Run>, t: u32) -> Result<(), AllocEr
 }
 
 // The run that begins at this minute, with the facts of its date.
-fn run_by(station: Station, first: u32, date: &DateFacts) -> Run
-    requires { AreInRange date.now }
+fn run_by(rows: &DateRows, station: Station, first: u32, date: &DateFacts) -> Run
+    requires rows { rows.now.station ≡ station }
+    requires date { AreInRange date.now }
     ensures { result ≡ run_by station first date.now }
 {
-    let announced = date_part(station, date);
+    let announced = rows.part_of(date);
     let without = if date.leap {
-        date_part(station, &unannounced(date))
+        rows.part_of(&unannounced(date))
     } else {
         announced
     };

@@ -1,20 +1,20 @@
 //! What the time of day tells of each second.
 
-ghost use Rattle.std.specs.Prelude.{◌≡◌, ◌<◌};
+ghost use Rattle.std.specs.Prelude.{◌≡◌, ◌<◌, if◌then◌else◌, slice_index};
 ghost use Rattle.definitions.specs.time.Calendar.{minutes_per_day};
 ghost use Rattle.minute_parts.specs.Overlay.{is_clock_second, is_time_second, tells_time};
-ghost use Rattle.minute_parts.specs.Dates.{time_part, time_set};
+ghost use Rattle.minute_parts.specs.Dates.{time_part};
+ghost use Rattle.minute_parts.specs.declared.part.TheConstants.{SECONDS};
 
 use crate::call::{is_call_minute, is_given_up};
 use crate::dates::DateFacts;
-use crate::part::Part;
-use crate::seconds::set_by;
+use crate::part::{Part, SECONDS, nothing};
+use crate::seconds::sets_by;
 use definitions::Day;
 use signal_base::Station;
-use std::array;
 
-// The time of day tells the same whatever the date is.
-const SOME_DATE: DateFacts = DateFacts {
+/// The time of day tells the same whatever the date is.
+pub const SOME_DATE: DateFacts = DateFacts {
     day: Day {
         year: 2000,
         month: 1,
@@ -33,22 +33,28 @@ pub fn time_part(station: Station, u: u16) -> Part
     requires { u < minutes_per_day }
     ensures { result ≡ time_part station u }
 {
-    array::from_fn(|second| time_set(station, u, second as u8))
+    let sets = sets_by(station, &SOME_DATE, u);
+    let mut part = nothing();
+    for s in 0..SECONDS {
+        part[s] = time_set(station, u, &sets, s);
+    }
+    part
 }
 
-fn time_set(station: Station, u: u16, second: u8) -> u8
-    requires { u < minutes_per_day }
-    ensures { result ≡ time_set station u second }
+// What it tells of a second by these sets of the minute.
+fn time_set(station: Station, u: u16, sets: &[u8; 61], second: usize) -> u8
+    requires { second < SECONDS }
+    ensures { result ≡ (if tells_time station u second then slice_index sets.now second else 0) }
 {
-    if tells_time(station, u, second) {
-        set_by(station, &SOME_DATE, u, second)
+    if tells_time(station, u, second as u8) {
+        sets[second]
     } else {
         0
     }
 }
 
-// Whether the time of day always tells the second.
-fn is_time_second(station: Station, second: u8) -> bool
+/// Whether the time of day always tells the second.
+pub fn is_time_second(station: Station, second: u8) -> bool
     ensures { result ≡ is_time_second station second }
 {
     match station {

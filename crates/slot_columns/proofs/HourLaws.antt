@@ -1,23 +1,18 @@
--- Seconds that carry the same in each hour.
+-- Seconds that carry the same in each hour, or throughout an hour.
 use Rattle.std.proofs.Common.{◌≡◌, ℕ, ◌+◌, ◌*◌, ◌/◌, ◌%◌, ◌<◌, ◌≤◌, List, slice_index, ap, sym, ◌∙◌, arith}
 use Rattle.signal_base.specs.declared.limits.TheConstants.{MOST_RECEIVERS}
 use Rattle.symbol_cost.specs.Grid.{Grid, cost_at}
 use Rattle.symbol_cost.specs.declared.limits.TheConstants.{RECEIVER_COST}
-use Rattle.slot_columns.specs.Days.{day_cost}
+use Rattle.slot_columns.specs.Days.{hour_begin}
 use Rattle.slot_columns.specs.Parts.{entry}
 use Rattle.slot_columns.specs.Rows.{IsRow, cost_in_slot}
 use Rattle.slot_columns.specs.declared.limits.TheConstants.{HOUR_MINUTES, REACHED_MINUTES, SETS}
 use Rattle.slot_columns.proofs.SetLaws.{none_chosen}
 
-module _ (grid : Grid) (columns : List (List ℕ)) (p k : ℕ) where
-  abbrev s : ℕ
-  s = (p + k) % 60
-
-  abbrev m : ℕ
-  m = (p + k) / 60
-
+module _ (grid : Grid) (columns : List (List ℕ)) (s m k : ℕ) where
+  -- what slot k costs that lies in second s of walk minute m
   abbrev cost : ℕ → ℕ
-  cost u = day_cost grid columns p u k
+  cost u = cost_in_slot grid (entry columns s (u + m)) k
 
   -- a second that isn't used costs nothing
   pub unused : ((i : ℕ) → i < REACHED_MINUTES → entry columns s i ≡ 0) → (u : ℕ) → u + m < REACHED_MINUTES → cost u ≡ 0
@@ -42,3 +37,17 @@ module _ (grid : Grid) (columns : List (List ℕ)) (p k : ℕ) where
       let same : (u % 60 + m) % 60 ≡ (u + m) % 60 = omega arith in
       ap (λ set. cost_in_slot grid set k)
       (repeats (u % 60 + m) low ∙ ap (entry columns s) same ∙ sym (repeats (u + m) reached))
+
+  -- or what stands in the row for the beginning of the hour in which the slot lies
+  pub in_its_hour : (row column : List ℕ) → IsRow row grid k → ((i : ℕ) → slice_index column i ≡ entry columns s i)
+      → ((i : ℕ) → i < REACHED_MINUTES → slice_index column i < SETS) → ((i : ℕ) → i < REACHED_MINUTES → entry columns s i ≡ entry columns s (hour_begin i))
+      → (u : ℕ) → u + m < REACHED_MINUTES
+      → (slice_index row (slice_index column (60 * ((u + m) / 60))) ≡ cost u) × (cost u ≤ MOST_RECEIVERS * RECEIVER_COST)
+  in_its_hour row column is there bound stays u reached =
+      let begin : 60 * ((u + m) / 60) ≡ hour_begin (u + m) = omega arith in
+      let low : 60 * ((u + m) / 60) < REACHED_MINUTES = omega (arith, reached) in
+      let few = bound (60 * ((u + m) / 60)) low in
+      let found : slice_index row (slice_index column (60 * ((u + m) / 60))) ≡ cost u =
+      is.each (slice_index column (60 * ((u + m) / 60))) few
+      ∙ ap (λ set. cost_in_slot grid set k) (there (60 * ((u + m) / 60)) ∙ ap (entry columns s) begin ∙ sym (stays (u + m) reached)) in
+      (found, omega (arith, found, is.small (slice_index column (60 * ((u + m) / 60))) few))

@@ -3,7 +3,7 @@
 ghost use Rattle.std.specs.Prelude.{◌≡◌, ◌<◌, ◌%◌, [], ℕ, IfOk, false, length, slice_index, slice_index_or, true};
 ghost use Rattle.definitions.specs.time.Calendar.{minutes_per_day};
 ghost use Rattle.slot_columns.specs.declared.limits.TheConstants.{SETS};
-ghost use Rattle.slot_columns.specs.Days.{AreDayColumns, AreOfDay};
+ghost use Rattle.slot_columns.specs.Days.{AreDayColumns, AreOfDay, hour_begin};
 ghost use Rattle.slot_columns.specs.Parts.{entry};
 ghost use Rattle.slot_columns.specs.Rows.{index_of};
 
@@ -23,6 +23,7 @@ pub struct Day {
     columns: Vec<DayColumn>,
     used: [bool; SECONDS_PER_MINUTE],
     hourly: [bool; SECONDS_PER_MINUTE],
+    steady: [bool; SECONDS_PER_MINUTE],
 }
 
 impl Model for Day {
@@ -33,7 +34,7 @@ impl Model for Day {
 
     ghost view = { λ d. d.columns.items };
 
-    ghost invariant = { λ d. AreDayColumns d.columns.items d.used d.hourly };
+    ghost invariant = { λ d. AreDayColumns d.columns.items d.used d.hourly d.steady };
 }
 
 impl Day {
@@ -45,16 +46,19 @@ impl Day {
         let mut columns = Vec::with_capacity(alloc, SECONDS_PER_MINUTE)?;
         let mut used = [false; SECONDS_PER_MINUTE];
         let mut hourly = [false; SECONDS_PER_MINUTE];
+        let mut steady = [false; SECONDS_PER_MINUTE];
         for s in 0..SECONDS_PER_MINUTE {
             let column = column_of(times, s);
             used[s] = is_used(&column);
             hourly[s] = is_hourly(&column);
+            steady[s] = is_steady(&column);
             columns.push(column)?;
         }
         Ok(Day {
             columns,
             used,
             hourly,
+            steady,
         })
     }
 
@@ -81,6 +85,14 @@ impl Day {
         ensures { result ≡ true → (i : ℕ) → i < REACHED_MINUTES → entry self.now s i ≡ entry self.now s (i % HOUR_MINUTES) }
     {
         self.hourly[s]
+    }
+
+    /// Whether a second is known to carry the same in all minutes of an hour.
+    pub fn is_steady(&self, s: usize) -> bool
+        requires { s < SECONDS_PER_MINUTE }
+        ensures { result ≡ true → (i : ℕ) → i < REACHED_MINUTES → entry self.now s i ≡ entry self.now s (hour_begin i) }
+    {
+        self.steady[s]
     }
 }
 
@@ -111,6 +123,18 @@ fn is_hourly(column: &DayColumn) -> bool
 {
     for i in 0..REACHED_MINUTES {
         if column[i] != column[i % HOUR_MINUTES] {
+            return false;
+        }
+    }
+    true
+}
+
+// Whether the column stays as it is through each hour.
+fn is_steady(column: &DayColumn) -> bool
+    ensures { result ≡ true → (i : ℕ) → i < REACHED_MINUTES → slice_index column.now i ≡ slice_index column.now (hour_begin i) }
+{
+    for i in 0..REACHED_MINUTES {
+        if column[i] != column[i / HOUR_MINUTES * HOUR_MINUTES] {
             return false;
         }
     }

@@ -12,6 +12,7 @@ mod limits;
 mod part;
 mod slots;
 mod split;
+mod sums;
 mod tables;
 mod terms;
 #[cfg(test)]

@@ -22,3 +22,6 @@ pub(crate) const HOUR_MINUTES: usize = MINUTES_PER_HOUR as usize;
 
 /// The minutes of a day, and after them those that a walk from the day's last minute may reach.
 pub(crate) const REACHED_MINUTES: usize = DAY_MINUTES + LATER_MINUTES;
+
+/// The hours of a day, and behind them the one that a walk from the day's last hour may reach.
+pub(crate) const REACHED_HOURS: usize = DAY_MINUTES / HOUR_MINUTES + 1;

@@ -22,6 +22,7 @@ use Rattle.walk_costs.proofs.NeighbourLaws.{either_less, sent_by}
 use Rattle.walk_costs.proofs.SlotLaws.{set_in}
 use Rattle.walk_costs.proofs.SplitLaws.{calls, parts_of_second, tells_by}
 use Rattle.walk_costs.proofs.SumLaws.{cost_in, sum_le, sum_of_two}
+use Rattle.walk_costs.proofs.PlaceLaws.{but_last}
 use Rattle.walk_costs.proofs.TotalLaws.{total}
 
 -- a station that sends no call sign gives up no second
@@ -191,5 +192,5 @@ module _ (w : PricedParts) (costs : List (List ℕ)) (more : List ℕ) (priced :
       → (times + dates + added ≤ cost_of w announced p t0) × (cost_of w announced p t0 ≤ most_cost w.grid)
   least_over times dates added by_time by_date one_day two_days =
       let sets = sum_le n (λ k. time_in k + date_over k) (λ k. cost_in w.grid k (set_at w.grid.station q k)) in_slot in
-      let all = total w priced.small announced p t0 over.second over.short added one_day two_days in
+      let all = total w priced.small announced p t0 over.second (but_last announced t0 (last_minute w p t0) over.short) added one_day two_days in
       (omega (arith, sets, sum_of_two n time_in date_over, by_time, by_date, all.cost), omega (arith, all.cost, all.bound))

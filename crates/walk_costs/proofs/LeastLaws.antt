@@ -1,26 +1,29 @@
 -- What dates cost in the seconds that are given up for the call sign, and the least of all walks of a kind.
-use Rattle.std.proofs.Common.{◌≡◌, ℕ, ◌+◌, ◌*◌, ◌/◌, ◌%◌, ◌<◌, ◌≤◌, ◌⊎◌, inl, inr, Bool, true, false, ◌==◌, if◌then◌else◌, List, [], ◌∷◌, ◌++◌, length, get_or, refl, sym, ap, ◌∙◌, subst, arith}
+use Rattle.std.proofs.Common.{◌≡◌, ℕ, ◌+◌, ◌*◌, ◌/◌, ◌%◌, ◌<◌, ◌≤◌, ◌⊎◌, inl, inr, Bool, true, false, ◌==◌, if◌then◌else◌, List, [], ◌∷◌, ◌++◌, length, get_or, min, refl, sym, ap, ◌∙◌, subst, arith}
 use Rattle.std.proofs.Math.ListN.{get_or-append}
 use Rattle.std.proofs.lemmas.Bool.{cases_lt, eq-eqb, ne_eqb}
-use Rattle.std.proofs.lemmas.List.{get_or_push, length_push}
+use Rattle.std.proofs.lemmas.List.{get_or_default, get_or_push, length_push}
 use Rattle.std.proofs.lemmas.List.FromFn.{get_or-map-range_with_len}
 use Rattle.signal_base.specs.declared.station.Station.{Station}
 use Rattle.definitions.specs.heard.Costs.{sum_below}
 use Rattle.definitions.proofs.CostLaws.{sum_below_same}
 use Rattle.symbol_cost.specs.Grid.{Grid, cost_at}
 use Rattle.minute_parts.specs.Overlay.{is_given_up}
-use Rattle.minute_parts.specs.Parts.{PartTable}
-use Rattle.slot_columns.specs.Parts.{AreWalkCosts}
+use Rattle.minute_parts.specs.Parts.{PartTable, part_where}
+use Rattle.minute_parts.specs.Runs.{run_at}
+use Rattle.minute_parts.specs.Walks.{later_minutes}
+use Rattle.slot_columns.specs.Parts.{AreWalkCosts, entry}
 use Rattle.slot_columns.specs.Layered.{AreAdded, AreGroups}
 use Rattle.slot_columns.proofs.SetLaws.{none_chosen}
-use Rattle.walk_costs.specs.declared.halves.Split.{Split}
+use Rattle.walk_costs.specs.declared.thirds.Split.{Split}
 use Rattle.walk_costs.specs.declared.kinds.Kind.{Kind}
+use Rattle.walk_costs.specs.declared.least.Begins.{Begins}
 use Rattle.walk_costs.specs.declared.least.LeastTable.{LeastTable}
 use Rattle.walk_costs.specs.Dates.{given_cost, given_up_set, minutes_to_call}
-use Rattle.walk_costs.specs.Kinds.{AreKindsOf, AreSame, HasPlace, IsBegin, IsKindOf, either_part, either_set, end_in, kind_at, told_of}
-use Rattle.walk_costs.specs.Leasts.{AreHalfCosts, AreHalves, AreLeast, IsLeastBy, IsLeastOf, IsSplit, IsSplitTo, begin_count, no_split, place_of_run, split_at}
+use Rattle.walk_costs.specs.Kinds.{AreKindsOf, AreSame, HasPlace, IsBegin, IsKindOf, IsToldAlike, either_part, either_set, end_in, kind_at, no_kind, told_of}
+use Rattle.walk_costs.specs.Leasts.{AreBegins, AreLeast, AreThirdCosts, AreThirds, IsLeastBy, IsLeastOf, IsOneOf, IsSplit, IsSplitIn, IsSplitOf, IsSplitTo, begin_count, call_class, no_split, place_of_run, split_at}
 use Rattle.walk_costs.proofs.CallLaws.{in_call}
-use Rattle.walk_costs.proofs.DateLaws.{given, given_sum}
+use Rattle.walk_costs.proofs.DateLaws.{given, given_sum, none_later}
 use Rattle.walk_costs.proofs.SumLaws.{cost_in, sum_of_two}
 use Rattle.walk_costs.proofs.WalkLaws.{lost, lost_sum}
 
@@ -58,29 +61,50 @@ module _ (grid : Grid) (p : ℕ) where
       by_test s true is = is refl
       by_test s false is = refl
 
-  -- two halves cost what the whole does
-  pub halves_together : (m : ℕ) (told low high : List ℕ) → IsSplit told low high → given_cost grid p m told ≡ given_cost grid p m low + given_cost grid p m high
-  halves_together m told low high split =
-      let both = sum_below_same n (given_in m told) (λ k. given_in m low k + given_in m high k)
+  -- three thirds cost what the whole does
+  pub thirds_together : (m : ℕ) (told low middle high : List ℕ) → IsSplit told low middle high
+      → given_cost grid p m told ≡ given_cost grid p m low + given_cost grid p m middle + given_cost grid p m high
+  thirds_together m told low middle high split =
+      let both = sum_below_same n (given_in m told) (λ k. given_in m low k + (given_in m middle k + given_in m high k))
       (λ k within. slot k ((p + k) % 60) ((p + k) / 60 == m) (is_given_up grid.station ((p + k) % 60))
       (λ gives. let call = in_call grid.station ((p + k) % 60) gives in split ((p + k) % 60) call.0 call.1)) in
-      omega (arith, both, given_by_slot m told, given_by_slot m low, given_by_slot m high, sum_of_two n (given_in m low) (given_in m high))
+      omega (
+        arith,
+        both,
+        given_by_slot m told,
+        given_by_slot m low,
+        given_by_slot m middle,
+        given_by_slot m high,
+        sum_of_two n (given_in m low) (λ k. given_in m middle k + given_in m high k),
+        sum_of_two n (given_in m middle) (given_in m high),
+      )
     where
-      set : ℕ → List ℕ → Bool → ℕ
-      set s part gives = if gives then get_or part s 0 else 0
-
-      by_half : (k s : ℕ) → ((get_or low s 0 ≡ get_or told s 0) × (get_or high s 0 ≡ 0)) ⊎ ((get_or low s 0 ≡ 0) × (get_or high s 0 ≡ get_or told s 0))
-          → cost_in grid k (get_or told s 0) ≡ cost_in grid k (get_or low s 0) + cost_in grid k (get_or high s 0)
-      by_half k s (inl is) = omega (arith, ap (cost_in grid k) is.0, ap (cost_in grid k) is.1, none_chosen grid.station (cost_at grid.rows k))
-      by_half k s (inr is) = omega (arith, ap (cost_in grid k) is.0, ap (cost_in grid k) is.1, none_chosen grid.station (cost_at grid.rows k))
+      by_third : (k s : ℕ) → IsOneOf told low middle high s ⊎ IsOneOf told middle low high s ⊎ IsOneOf told high low middle s
+          → cost_in grid k (get_or told s 0) ≡ cost_in grid k (get_or low s 0) + (cost_in grid k (get_or middle s 0) + cost_in grid k (get_or high s 0))
+      by_third k s (inl is) = omega (arith, ap (cost_in grid k) is.0, ap (cost_in grid k) is.1, ap (cost_in grid k) is.2, none_chosen grid.station (cost_at grid.rows k))
+      by_third k s (inr (inl is)) = omega (arith, ap (cost_in grid k) is.0, ap (cost_in grid k) is.1, ap (cost_in grid k) is.2, none_chosen grid.station (cost_at grid.rows k))
+      by_third k s (inr (inr is)) = omega (arith, ap (cost_in grid k) is.0, ap (cost_in grid k) is.1, ap (cost_in grid k) is.2, none_chosen grid.station (cost_at grid.rows k))
 
       slot : (k s : ℕ) (here gives : Bool)
-          → (gives ≡ true → ((get_or low s 0 ≡ get_or told s 0) × (get_or high s 0 ≡ 0)) ⊎ ((get_or low s 0 ≡ 0) × (get_or high s 0 ≡ get_or told s 0)))
+          → (gives ≡ true → IsOneOf told low middle high s ⊎ IsOneOf told middle low high s ⊎ IsOneOf told high low middle s)
           → (if here then 0 else cost_in grid k (if gives then get_or told s 0 else 0))
-          ≡ (if here then 0 else cost_in grid k (if gives then get_or low s 0 else 0)) + (if here then 0 else cost_in grid k (if gives then get_or high s 0 else 0))
+          ≡ (if here then 0 else cost_in grid k (if gives then get_or low s 0 else 0))
+          + ((if here then 0 else cost_in grid k (if gives then get_or middle s 0 else 0)) + (if here then 0 else cost_in grid k (if gives then get_or high s 0 else 0)))
       slot k s true gives is = refl
-      slot k s false true is = by_half k s (is refl)
+      slot k s false true is = by_third k s (is refl)
       slot k s false false is = omega (arith, none_chosen grid.station (cost_at grid.rows k))
+
+  -- a walk that ends before the call sign loses nothing to it, whenever it comes
+  alike_later : (m j : ℕ) (part : List ℕ) → later_minutes n p < m → later_minutes n p < j → given_cost grid p m part ≡ given_cost grid p j part
+  alike_later m j part late too = omega (arith, none_later grid p part m late, none_later grid p part j too)
+
+  pub by_class : (reached m : ℕ) (part : List ℕ) → reached ≡ later_minutes n p + 1 → given_cost grid p (min m reached) part ≡ given_cost grid p m part
+  by_class reached m part count = elim (cases_lt m reached) [
+    | inl lt ↦ (let same : min m reached ≡ m = omega (arith, lt) in ap (λ (j : ℕ). given_cost grid p j part) same)
+    | inr le ↦ (
+        let same : min m reached ≡ reached = omega (arith, le) in
+        ap (λ (j : ℕ). given_cost grid p j part) same ∙ alike_later reached m part (omega (arith, count)) (omega (arith, count, le)))
+  ]
 
 -- a kind that is the same as another is of the same walks
 pub same_kind : (parts : PartTable) (station : Station) (across announced : Bool) (i : ℕ) (kind other : Kind) → AreSame other kind
@@ -119,30 +143,35 @@ one_more_kind parts station across all new places more kind n are has is =
     last : (q : ℕ) → q < n + 1 → n ≤ q → get_or (places ++ has.place ∷ []) q 0 ≡ has.place
     last q lt late = get_or_push places has.place 0 q (omega (arith, lt, late, are.count))
 
--- the halves of one kind more
-pub one_more_split : (kinds all new : List Kind) (splits more : List Split) (split : Split) (n : ℕ) → AreHalves kinds all splits n → IsSplitTo all new (kind_at kinds n).told split
-    → more ≡ splits ++ split ∷ [] → AreHalves kinds new more (n + 1)
+-- what is told of walks in runs that tell the same with the announcement and without it
+pub announced_alike : (parts : PartTable) (station : Station) (across : Bool) (i : ℕ) (kind : Kind) → IsKindOf parts station across false i kind
+    → IsToldAlike (run_at parts.runs i) → (end_in across i < length parts.runs → IsToldAlike (run_at parts.runs (end_in across i)))
+    → IsKindOf parts station across true i kind
+announced_alike parts station across i kind is one other = record {
+  told = λ s within lt gives.
+      is.told s within lt gives
+      ∙ ap (λ (a : List ℕ). get_or (either_part a (part_where false (run_at parts.runs (end_in across i)))) s 0) one
+      ∙ ap (λ (b : List ℕ). get_or (either_part (part_where true (run_at parts.runs i)) b) s 0) (other within);
+  last = is.last;
+}
+
+-- the thirds of one kind more
+pub one_more_split : (kinds all new : List Kind) (splits more : List Split) (split : Split) (n : ℕ) → AreThirds kinds all splits n → IsSplitTo all new (kind_at kinds n).told split
+    → more ≡ splits ++ split ∷ [] → AreThirds kinds new more (n + 1)
 one_more_split kinds all new splits more split n are is added =
-    subst (λ (xs : List Split). AreHalves kinds new xs (n + 1)) (sym added)
+    subst (λ (xs : List Split). AreThirds kinds new xs (n + 1)) (sym added)
     (record {
       count = omega (arith, length_push splits split, are.count);
-      low = λ k lt. elim (cases_lt k n) [
-        | inl early ↦ omega (arith, ap (λ (x : Split). x.low) (before k early), are.low k early, is.longer)
-        | inr late ↦ omega (arith, ap (λ (x : Split). x.low) (last k lt late), is.low)
-      ];
-      high = λ k lt. elim (cases_lt k n) [
-        | inl early ↦ omega (arith, ap (λ (x : Split). x.high) (before k early), are.high k early, is.longer)
-        | inr late ↦ omega (arith, ap (λ (x : Split). x.high) (last k lt late), is.high)
+      within = λ k lt. elim (cases_lt k n) [
+        | inl early ↦ subst (λ (x : Split). IsSplitIn x (length new)) (sym (before k early)) (wider (split_at splits k) (are.within k early))
+        | inr late ↦ subst (λ (x : Split). IsSplitIn x (length new)) (sym (last k lt late)) is.within
       ];
       each = λ k lt. elim (cases_lt k n) [
-        | inl early ↦ subst (λ (x : Split). IsSplit (kind_at kinds k).told (kind_at new x.low).told (kind_at new x.high).told) (sym (before k early))
-            (subst (λ (h : Kind). IsSplit (kind_at kinds k).told h.told (kind_at new (split_at splits k).high).told) (sym (is.kept (split_at splits k).low (are.low k early)))
-            (subst (λ (h : Kind). IsSplit (kind_at kinds k).told (kind_at all (split_at splits k).low).told h.told) (sym (is.kept (split_at splits k).high (are.high k early)))
-            (are.each k early)))
+        | inl early ↦ subst (λ (x : Split). IsSplitOf (kind_at kinds k).told new x) (sym (before k early)) (moved k (split_at splits k) (are.within k early) (are.each k early))
         | inr late ↦ (
             let here : n ≡ k = omega (arith, lt, late) in
-            subst (λ (x : Split). IsSplit (kind_at kinds k).told (kind_at new x.low).told (kind_at new x.high).told) (sym (last k lt late))
-            (subst (λ (j : ℕ). IsSplit (kind_at kinds j).told (kind_at new split.low).told (kind_at new split.high).told) here is.each))
+            subst (λ (x : Split). IsSplitOf (kind_at kinds k).told new x) (sym (last k lt late))
+            (subst (λ (j : ℕ). IsSplitOf (kind_at kinds j).told new split) here is.each))
       ];
     })
   where
@@ -152,25 +181,73 @@ one_more_split kinds all new splits more split n are is added =
     last : (k : ℕ) → k < n + 1 → n ≤ k → split_at (splits ++ split ∷ []) k ≡ split
     last k lt late = get_or_push splits split no_split k (omega (arith, lt, late, are.count))
 
--- the least of each kind by its halves is that by what its dates tell
-pub by_halves : (grid : Grid) (walks : List (List ℕ)) (kinds all : List Kind) (splits : List Split) (rows : List (List ℕ)) (across : Bool) (p n : ℕ) (old new : List ℕ)
-    → AreHalves kinds all splits (length kinds) → AreHalfCosts grid p all rows (length all) → n ≡ begin_count (length grid.rows) across p
-    → AreAdded 0 (IsLeastBy walks kinds splits rows p n) old new (length kinds) → AreAdded 0 (IsLeastOf grid walks kinds across p) old new (length kinds)
-by_halves grid walks kinds all splits rows across p n old new halves costs count added = record {
+    wider : (x : Split) → IsSplitIn x (length all) → IsSplitIn x (length new)
+    wider x inside = record {
+      low = omega (arith, inside.low, is.longer);
+      middle = omega (arith, inside.middle, is.longer);
+      high = omega (arith, inside.high, is.longer);
+    }
+
+    moved : (k : ℕ) (x : Split) → IsSplitIn x (length all) → IsSplitOf (kind_at kinds k).told all x → IsSplitOf (kind_at kinds k).told new x
+    moved k x inside each =
+        subst (λ (h : Kind). IsSplit (kind_at kinds k).told h.told (kind_at new x.middle).told (kind_at new x.high).told) (sym (is.kept x.low inside.low))
+        (subst (λ (h : Kind). IsSplit (kind_at kinds k).told (kind_at all x.low).told h.told (kind_at new x.high).told) (sym (is.kept x.middle inside.middle))
+        (subst (λ (h : Kind). IsSplit (kind_at kinds k).told (kind_at all x.low).told (kind_at all x.middle).told h.told) (sym (is.kept x.high inside.high)) each))
+
+-- the row of a third, wherever its place comes from
+third_is : (rows : List (List ℕ)) (i j m : ℕ) (d : List ℕ) → i ≡ j → j < length rows → get_or (get_or rows i d) m 0 ≡ entry rows j m
+third_is rows i j m d same lt =
+    ap (λ (n : ℕ). get_or (get_or rows n d) m 0) same ∙ ap (λ (r : List ℕ). get_or r m 0) (get_or_default rows j d [] lt)
+
+-- the least of one kind more
+pub least_more : (walks : List (List ℕ)) (kinds : List Kind) (splits : List Split) (rows : List (List ℕ)) (p n reached k : ℕ) (begins : Begins) (least : ℕ)
+    (kind : Kind) (split : Split) (low middle high : List ℕ) → AreBegins walks p n reached begins → begins.last ≡ (get_or kinds k kind).last
+    → k < length kinds → k < length splits → IsSplitIn (split_at splits k) (length rows)
+    → ((m : ℕ) → begins.first ≤ m → m ≤ reached
+    → least ≤ get_or begins.costs m 0 + get_or (get_or rows (get_or splits k split).low low) m 0 + get_or (get_or rows (get_or splits k split).middle middle) m 0
+    + get_or (get_or rows (get_or splits k split).high high) m 0)
+    → IsLeastBy walks kinds splits rows p n reached k least
+least_more walks kinds splits rows p n reached k begins least kind split low middle high are last in_kinds in_splits within found = λ u begin.
+    let m : ℕ = call_class reached u in
+    let ends = last ∙ ap (λ (x : Kind). x.last) (get_or_default kinds k kind no_kind in_kinds) in
+    let here = subst (λ (l : ℕ). IsBegin n l u) (sym ends) begin in
+    let below : call_class reached u ≤ reached = omega arith in
+    let same = get_or_default splits k split no_split in_splits in
+    omega (
+      arith,
+      found m (are.first u here) below,
+      are.least u here,
+      third_is rows (get_or splits k split).low (split_at splits k).low m low (ap (λ (x : Split). x.low) same) within.low,
+      third_is rows (get_or splits k split).middle (split_at splits k).middle m middle (ap (λ (x : Split). x.middle) same) within.middle,
+      third_is rows (get_or splits k split).high (split_at splits k).high m high (ap (λ (x : Split). x.high) same) within.high,
+    )
+
+-- the least of each kind by its thirds is that by what its dates tell
+pub by_thirds : (grid : Grid) (walks : List (List ℕ)) (kinds all : List Kind) (splits : List Split) (rows : List (List ℕ)) (across : Bool) (p n reached : ℕ) (old new : List ℕ)
+    → AreThirds kinds all splits (length kinds) → AreThirdCosts grid p all rows (length all) → n ≡ begin_count (length grid.rows) across p
+    → reached ≡ later_minutes (length grid.rows) p + 1
+    → AreAdded 0 (IsLeastBy walks kinds splits rows p n reached) old new (length kinds) → AreAdded 0 (IsLeastOf grid walks kinds across p) old new (length kinds)
+by_thirds grid walks kinds all splits rows across p n reached old new thirds costs count minutes added = record {
   count = added.count;
   kept = added.kept;
   each = λ k lt u begin.
-      let m : ℕ = minutes_to_call u in
-      let few : m < 30 = omega arith in
+      let m : ℕ = call_class reached u in
+      let few : m < 30 = omega (arith, minutes_below u) in
       let split = split_at splits k in
+      let within = thirds.within k lt in
       omega (
         arith,
         added.each k lt u (subst (λ (c : ℕ). IsBegin c (kind_at kinds k).last u) (sym count) begin),
-        costs.each split.low m (halves.low k lt) few,
-        costs.each split.high m (halves.high k lt) few,
-        halves_together grid p m (kind_at kinds k).told (kind_at all split.low).told (kind_at all split.high).told (halves.each k lt),
+        costs.each split.low m within.low few,
+        costs.each split.middle m within.middle few,
+        costs.each split.high m within.high few,
+        thirds_together grid p m (kind_at kinds k).told (kind_at all split.low).told (kind_at all split.middle).told (kind_at all split.high).told (thirds.each k lt),
+        by_class grid p reached (minutes_to_call u) (kind_at kinds k).told minutes,
       );
 }
+  where
+    minutes_below : (u : ℕ) → minutes_to_call u < 30
+    minutes_below u = omega arith
 
 -- the places of a run
 pub place_is : (announced : Bool) (i : ℕ) → ((place_of_run announced i % 2 == 1) ≡ announced) × (place_of_run announced i / 2 ≡ i)

@@ -15,5 +15,7 @@ pub mod PairLaws
 pub mod ScoredLaws
 pub mod NeighbourLaws
 pub mod ChangeLaws
+pub mod OverLaws
 pub mod LeastLaws
 pub mod FloorLaws
+pub mod SpanLaws

@@ -1,5 +1,5 @@
--- What no walk through minutes of two runs costs less than, which may be one: what its time of day costs, and what both dates
--- tell together.
+-- What no walk through minutes of two runs costs less than, which may be one: what its time of day costs, and what sets cost that
+-- hold both dates.
 use Rattle.std.proofs.Common.{◌≡◌, ℕ, ◌+◌, ◌/◌, ◌%◌, ◌<◌, ◌≤◌, ◌⊎◌, inl, inr, Bool, true, false, ◌==◌, ◌&&◌, bit_or, if◌then◌else◌, List, length, get_or, refl, sym, ap, ◌∙◌, subst, arith}
 use Rattle.std.proofs.lemmas.Bool.{and_left, and_right, cases_Bool, cases_eq, eq-eqb, ne_eqb, or_from}
 use Rattle.std.proofs.lemmas.List.FromFn.{get_or-map-range_with_len}
@@ -28,6 +28,14 @@ use Rattle.walk_costs.proofs.ScoredLaws.{scored, small_set}
 use Rattle.walk_costs.proofs.SplitLaws.{call_minute, calls, tells_by}
 use Rattle.walk_costs.proofs.SumLaws.{at_second, cost_in, part_by_second, sum_le, sum_of_two}
 use Rattle.walk_costs.proofs.WalkLaws.{AreRunsOf, date_in, lost, lost_here, lost_in_slot, lost_sum, part_by, total_by_runs, with_dut1}
+
+-- The sets hold what two dates tell in the seconds that aren't given up, and tell nothing of the others, nor of the time of day.
+pub record HoldBoth (station : Station) (a b dates : List ℕ) : Type 0 where
+  pub small : (s : ℕ) → s < 60 → get_or dates s 0 < 32
+  pub given : (s : ℕ) → s < 60 → is_given_up station s ≡ true → get_or dates s 0 ≡ 0
+  pub timed : (s : ℕ) → s < 60 → is_given_up station s ≡ false → is_time_second station s ≡ true → get_or dates s 0 ≡ 0
+  pub one : (s : ℕ) → s < 60 → is_given_up station s ≡ false → IsWithin (index_of (get_or a s 0)) (get_or dates s 0)
+  pub other : (s : ℕ) → s < 60 → is_given_up station s ≡ false → IsWithin (index_of (get_or b s 0)) (get_or dates s 0)
 
 -- What is kept of two dates, together.
 module _ (station : Station) (a b : List ℕ) where
@@ -63,12 +71,23 @@ module _ (station : Station) (a b : List ℕ) where
   none_told s lt keeps one other =
       both_sets s lt keeps ∙ ap (λ x. bit_or (index_of x) (index_of (get_or b s 0))) one ∙ ap (λ x. bit_or (index_of 0) (index_of x)) other
 
--- a small set lies in the union of it and another
-within_either : (a b x : ℕ) → x < 32 → (x ≡ a) ⊎ (x ≡ b) → IsWithin x (bit_or (index_of a) (index_of b))
-within_either a b x small (inl is) = λ n has.
-    has_or (index_of a) (index_of b) n (inl (ap (λ m. has_bit m n) (ap index_of (sym is) ∙ index_at x small) ∙ has))
-within_either a b x small (inr is) = λ n has.
-    has_or (index_of a) (index_of b) n (inr (ap (λ m. has_bit m n) (ap index_of (sym is) ∙ index_at x small) ∙ has))
+  -- it holds both
+  pub hold_both : ((s : ℕ) → s < 60 → is_time_second station s ≡ true → get_or a s 0 ≡ 0)
+      → ((s : ℕ) → s < 60 → is_time_second station s ≡ true → get_or b s 0 ≡ 0) → HoldBoth station a b kept_together
+  hold_both none_of_a none_of_b = record {
+    small = kept_small;
+    given = none_given_up;
+    timed = λ s lt keeps timed. none_told s lt keeps (none_of_a s lt timed) (none_of_b s lt timed);
+    one = λ s lt keeps n has.
+        subst (λ x. has_bit x n ≡ true) (sym (both_sets s lt keeps)) (has_or (index_of (get_or a s 0)) (index_of (get_or b s 0)) n (inl has));
+    other = λ s lt keeps n has.
+        subst (λ x. has_bit x n ≡ true) (sym (both_sets s lt keeps)) (has_or (index_of (get_or a s 0)) (index_of (get_or b s 0)) n (inr has));
+  }
+
+-- a small set lies in what holds it
+within_both : (a b set x : ℕ) → x < 32 → IsWithin (index_of a) set → IsWithin (index_of b) set → (x ≡ a) ⊎ (x ≡ b) → IsWithin x set
+within_both a b set x small one other (inl is) = λ n has. one n (ap (λ m. has_bit m n) (ap index_of (sym is) ∙ index_at x small) ∙ has)
+within_both a b set x small one other (inr is) = λ n has. other n (ap (λ m. has_bit m n) (ap index_of (sym is) ∙ index_at x small) ∙ has)
 
 -- a set of either date costs no less than what is told of both
 pub either_less : (station : Station) (costs : ℕ → ℕ) (a b x : ℕ) → IsSetOf station x → (x ≡ a) ⊎ (x ≡ b) → set_cost station costs (either_set a b) ≤ set_cost station costs x
@@ -119,23 +138,16 @@ module _ (w : PricedParts) (costs : List (List ℕ)) (more : List ℕ) (priced :
   abbrev pub both_dates : List ℕ
   both_dates = kept_together st before after
 
-  -- what they cost in slot k
-  abbrev both_in : ℕ → ℕ
-  both_in k = cost_in w.grid k (get_or both_dates ((p + k) % 60) 0)
-
-  both_sum : part_cost w.grid p both_dates ≡ sum_below n both_in
-  both_sum = part_by_second w.grid p both_dates
-
-  -- what they tell in the seconds that are given up, and what that costs but in walk minute m
+  -- what the dates tell in the seconds that are given up, and what that costs but in walk minute m
   abbrev pub told : List ℕ
   told = either_part before after
 
   abbrev told_in : ℕ → ℕ → ℕ
   told_in m k = given_in w.grid p m told k
 
-  -- what no walk costs less than that begins at the minute u of the local day
-  abbrev pub least_from : ℕ → ℕ
-  least_from u = walk_cost st (cost_at w.grid.rows) n p w.parts.times u + part_cost w.grid p both_dates + given_cost w.grid p (minutes_to_call u) told
+  -- what no walk costs less than that begins at the minute u of the local day, where sets hold both dates
+  abbrev pub least_from : List ℕ → ℕ → ℕ
+  least_from dates u = walk_cost st (cost_at w.grid.rows) n p w.parts.times u + part_cost w.grid p dates + given_cost w.grid p (minutes_to_call u) told
 
   -- the date tells nothing of the seconds of the time of day
   none_before : (s : ℕ) → s < 60 → is_time_second st s ≡ true → get_or before s 0 ≡ 0
@@ -144,8 +156,8 @@ module _ (w : PricedParts) (costs : List (List ℕ)) (more : List ℕ) (priced :
   none_after : (s : ℕ) → s < 60 → is_time_second st s ≡ true → get_or after s 0 ≡ 0
   none_after s lt timed = priced.table.date_alone announced next s is_next lt (ap (λ (x : Station). is_time_second x s) priced.station ∙ timed)
 
-  none_of_time : (s : ℕ) → s < 60 → is_given_up st s ≡ false → is_time_second st s ≡ true → get_or both_dates s 0 ≡ 0
-  none_of_time s lt keeps timed = none_told st before after s lt keeps (none_before s lt timed) (none_after s lt timed)
+  pub both_held : HoldBoth st before after both_dates
+  both_held = hold_both st before after none_before none_after
 
   nothing_told : (s : ℕ) → s < 60 → is_time_second st s ≡ true → get_or told s 0 ≡ 0
   nothing_told s lt timed =
@@ -203,8 +215,16 @@ module _ (w : PricedParts) (costs : List (List ℕ)) (more : List ℕ) (priced :
       let keeps_too = ap (λ (x : Station). is_given_up x s) priced.station ∙ keeps in
       small_set st set is (λ e. scored own announced t s keeps_too (carried ∙ e))
 
-  -- A walk through minutes of either run.
-  module _ (t0 shift : ℕ) (run_by : ℕ → ℕ) (are : AreRunsOf w announced p t0 shift run_by) (one : (m : ℕ) → (run_by m ≡ i) ⊎ (run_by m ≡ next)) where
+  -- A walk through minutes of either run, and sets that hold both dates.
+  module _ (dates : List ℕ) (held : HoldBoth st before after dates) (t0 shift : ℕ) (run_by : ℕ → ℕ) (are : AreRunsOf w announced p t0 shift run_by)
+      (one : (m : ℕ) → (run_by m ≡ i) ⊎ (run_by m ≡ next)) where
+    -- what they cost in slot k
+    abbrev both_in : ℕ → ℕ
+    both_in k = cost_in w.grid k (get_or dates ((p + k) % 60) 0)
+
+    both_sum : part_cost w.grid p dates ≡ sum_below n both_in
+    both_sum = part_by_second w.grid p dates
+
     abbrev date : ℕ → ℕ
     date = date_in w costs more priced announced p t0 shift run_by are
 
@@ -267,10 +287,8 @@ module _ (w : PricedParts) (costs : List (List ℕ)) (more : List ℕ) (priced :
         let lt : s < 60 = omega arith in
         let set = set_of_date k within untimed (and_right _ _ keeps) in
         let small = small_by (t0 + (p + k) / 60) s (carried k) keeps set.0 set.1 in
-        let is = both_sets st before after s lt keeps in
-        let wider = wider_costs_no_more st (cost_at w.grid.rows k) (carried k) (bit_or (index_of (get_or before s 0)) (index_of (get_or after s 0))) set.0
-        (omega (arith, is, kept_small st before after s lt)) (within_either (get_or before s 0) (get_or after s 0) (carried k) small (one_of k)) in
-        omega (arith, wider, ap (cost_in w.grid k) is)
+        wider_costs_no_more st (cost_at w.grid.rows k) (carried k) (get_or dates s 0) set.0 (omega (arith, held.small s lt))
+        (within_both (get_or before s 0) (get_or after s 0) (get_or dates s 0) (carried k) small (held.one s lt keeps) (held.other s lt keeps) (one_of k))
 
     -- so it is in a second that is given up, of a minute in which no call sign is sent
     told_less : (k : ℕ) → k < n → is_given_up st ((p + k) % 60) ≡ true → ((p + k) / 60 == minutes_to_call ((t0 + shift) % 1440)) ≡ false
@@ -297,20 +315,20 @@ module _ (w : PricedParts) (costs : List (List ℕ)) (more : List ℕ) (priced :
         let lt : s < 60 = omega arith in
         elim (cases_Bool (is_given_up st s)) [
           | inl gives ↦ (
-              let kept_none = free_at k (get_or both_dates s 0) (none_given_up st before after s lt gives) in
+              let kept_none = free_at k (get_or dates s 0) (held.given s lt gives) in
               elim (cases_Bool ((p + k) / 60 == m)) [
                 | inl here ↦ omega (arith, taken_of_date m k, kept_none, none_here m k here)
                 | inr apart ↦ omega (arith, kept_none, none_apart m k apart, told_there m k gives apart, told_less k within gives apart)
               ])
           | inr keeps ↦ elim (cases_Bool (is_time_second st s)) [
-            | inl timed ↦ omega (arith, taken_of_date m k, none_kept m k keeps, free_at k (get_or both_dates s 0) (none_of_time s lt keeps timed))
+            | inl timed ↦ omega (arith, taken_of_date m k, none_kept m k keeps, free_at k (get_or dates s 0) (held.timed s lt keeps timed))
             | inr untimed ↦ omega (arith, none_taken m k keeps, none_kept m k keeps, both_less k within keeps untimed)
           ]
         ]
 
     -- and no less is left of the dates where the call sign takes walk minute m
     less_than_dates : (m : ℕ) → m ≡ minutes_to_call ((t0 + shift) % 1440)
-        → part_cost w.grid p both_dates + given_cost w.grid p m told
+        → part_cost w.grid p dates + given_cost w.grid p m told
         + minute_cost st (cost_at w.grid.rows) n p m (given_up st (part_by w costs more priced announced p t0 shift run_by are m))
         ≤ sum_below n date
     less_than_dates m is =
@@ -327,7 +345,7 @@ module _ (w : PricedParts) (costs : List (List ℕ)) (more : List ℕ) (priced :
     -- with what DUT1 adds
     floor_with : (added : ℕ) → ((last_minute w p t0 / 1440 == t0 / 1440) ≡ true → IsAdded w.grid p added)
         → ((last_minute w p t0 / 1440 == t0 / 1440) ≡ false → added ≡ 0)
-        → (least_from ((t0 + shift) % 1440) + added ≤ cost_of w announced p t0) × (cost_of w announced p t0 ≤ most_cost w.grid)
+        → (least_from dates ((t0 + shift) % 1440) + added ≤ cost_of w announced p t0) × (cost_of w announced p t0 ≤ most_cost w.grid)
     floor_with added once twice =
         let u : ℕ = (t0 + shift) % 1440 in
         let m : ℕ = minutes_to_call u in
@@ -336,8 +354,8 @@ module _ (w : PricedParts) (costs : List (List ℕ)) (more : List ℕ) (priced :
         (omega (arith, all.0.cost, all.1, less_than_dates m refl), omega (arith, all.0.cost, all.0.bound))
 
     pub floor : (added : ℕ) → MayAdd w p t0 added
-        → (least_from ((t0 + shift) % 1440) + added ≤ cost_of w announced p t0) × (cost_of w announced p t0 ≤ most_cost w.grid)
-    floor = with_dut1 w costs more priced p t0 (least_from ((t0 + shift) % 1440)) (cost_of w announced p t0) (most_cost w.grid) second floor_with
+        → (least_from dates ((t0 + shift) % 1440) + added ≤ cost_of w announced p t0) × (cost_of w announced p t0 ≤ most_cost w.grid)
+    floor = with_dut1 w costs more priced p t0 (least_from dates ((t0 + shift) % 1440)) (cost_of w announced p t0) (most_cost w.grid) second floor_with
 
 -- A table of what is kept of the dates.
 pub date_costs : (w : PricedParts) (all : List (List ℕ)) (places : List ℕ) (table : LayerSums) → length places ≡ length w.parts.runs

@@ -1,11 +1,11 @@
 -- Where a walk is that has 60 seconds in each minute, and whether it stays in one day.
-use Rattle.std.proofs.Common.{◌≡◌, ℕ, zero, suc, ◌+◌, ◌-◌, ◌/◌, ◌%◌, ◌<◌, ◌≤◌, Bool, true, false, ◌==◌, ◌&&◌, nat_lt, if◌then◌else◌, [], ◌∷◌, map, refl, sym, ap, ◌∙◌, arith}
+use Rattle.std.proofs.Common.{◌≡◌, ℕ, zero, suc, ◌+◌, ◌-◌, ◌/◌, ◌%◌, ◌<◌, ◌≤◌, ◌⊎◌, inl, inr, Bool, true, false, ◌==◌, ◌&&◌, nat_lt, if◌then◌else◌, [], ◌∷◌, map, refl, sym, ap, ◌∙◌, arith}
 use Rattle.std.specs.List.{list_all, range_with_len}
-use Rattle.std.proofs.lemmas.Bool.{eq-eqb, eqb-true, ltb-true, ltb-false}
+use Rattle.std.proofs.lemmas.Bool.{cases_lt, eq-eqb, eqb-true, lt-ltb, ltb-true, ltb-false}
 use Rattle.std.proofs.lemmas.List.Folds.{list_all-append, list_all-map}
 use Rattle.std.proofs.lemmas.List.FromFn.{map-range_with_len_more}
 use Rattle.definitions.specs.declared.sequence.Sequence.{Sequence}
-use Rattle.definitions.specs.time.Calendar.{minute_length}
+use Rattle.definitions.specs.time.Calendar.{is_leap_end, minute_length}
 use Rattle.definitions.specs.sequences.Walks.{next_place, place_at}
 use Rattle.definitions.specs.heard.Costs.{lies_in_one_day}
 
@@ -56,23 +56,41 @@ list_all-range_more f n =
     ∙ ap (λ b. b && (f n && true)) (list_all-map f self (range_with_len 0 n))
     ∙ ap (λ b. list_all f (range_with_len 0 n) && b) (and_true (f n))
 
+-- no minute has fewer
+step_within : (announced : Bool) (t i : ℕ) → i % 60 + 1 < 60 → next_place announced (plain_place t i) ≡ plain_place t (suc i)
+step_within announced t i within = by_length (announced && is_leap_end (t + i / 60))
+  where
+    by_length : (long : Bool) → (if nat_lt (i % 60 + 1) (if long then 61 else 60) then (t + i / 60, i % 60 + 1) else (t + i / 60 + 1, 0)) ≡ plain_place t (suc i)
+    by_length true = ap (λ (b : Bool). if b then (t + i / 60, i % 60 + 1) else (t + i / 60 + 1, 0)) (lt-ltb (i % 60 + 1) 61 (omega (arith, within))) ∙ same_place _ _ _ _ (omega (arith, within)) (omega (arith, within))
+    by_length false = ap (λ (b : Bool). if b then (t + i / 60, i % 60 + 1) else (t + i / 60 + 1, 0)) (lt-ltb (i % 60 + 1) 60 within) ∙ same_place _ _ _ _ (omega (arith, within)) (omega (arith, within))
+
+-- what holds of a walk's minutes does of all but the last
+pub but_last : (announced : Bool) (first last : ℕ) → ((t : ℕ) → first ≤ t → t ≤ last → minute_length announced t ≡ 60)
+    → (t : ℕ) → first ≤ t → t < last → minute_length announced t ≡ 60
+but_last announced first last short t ge lt = short t ge (omega (arith, lt))
+
+-- a walk whose minutes have 60 seconds but for the last, in which it ends before the sixty-first
 module _ (q : Sequence) (n : ℕ) (second : q.second < 60)
-    (short : (t : ℕ) → q.first ≤ t → t ≤ q.first + (q.second + n - 1) / 60 → minute_length q.announced t ≡ 60) where
+    (short : (t : ℕ) → q.first ≤ t → t < q.first + (q.second + n - 1) / 60 → minute_length q.announced t ≡ 60) where
   -- slot k is second (p + k) mod 60 of walk minute (p + k) div 60
-  pub nominal : (k : ℕ) → k < n → place_at q k ≡ plain_place q.first (q.second + k)
+  pub nominal_but_last : (k : ℕ) → k < n → place_at q k ≡ plain_place q.first (q.second + k)
   unfolding place_at
-  nominal zero within = same_place _ _ _ _ (omega arith) (omega arith)
-  nominal (suc k) within =
+  nominal_but_last zero within = same_place _ _ _ _ (omega arith) (omega arith)
+  nominal_but_last (suc k) within =
       let one_more : suc (q.second + k) ≡ q.second + suc k = omega arith in
-      let here = short (q.first + (q.second + k) / 60) (omega arith) (omega arith) in
-      ap (next_place q.announced) (nominal k (omega arith)) ∙ step q.announced q.first (q.second + k) here ∙ ap (plain_place q.first) one_more
+      ap (next_place q.announced) (nominal_but_last k (omega arith)) ∙ on (cases_lt ((q.second + k) / 60) ((q.second + n - 1) / 60)) ∙ ap (plain_place q.first) one_more
+    where
+      on : ((q.second + k) / 60 < (q.second + n - 1) / 60) ⊎ ((q.second + n - 1) / 60 ≤ (q.second + k) / 60)
+          → next_place q.announced (plain_place q.first (q.second + k)) ≡ plain_place q.first (suc (q.second + k))
+      on (inl before) = step q.announced q.first (q.second + k) (short (q.first + (q.second + k) / 60) (omega arith) (omega (arith, before)))
+      on (inr last) = step_within q.announced q.first (q.second + k) (omega (arith, within, last))
 
   -- its day is that of the first minute
   abbrev pub in_day : ℕ → Bool
   in_day k = (place_at q k).0 / 1440 == q.first / 1440
 
   day_of : (k : ℕ) → k < n → in_day k ≡ ((q.first + (q.second + k) / 60) / 1440 == q.first / 1440)
-  day_of k within = ap (λ (place : ℕ × ℕ). place.0 / 1440 == q.first / 1440) (nominal k within)
+  day_of k within = ap (λ (place : ℕ × ℕ). place.0 / 1440 == q.first / 1440) (nominal_but_last k within)
 
   abbrev pub reached : ℕ → ℕ
   reached m = q.first + (q.second + m - 1) / 60
@@ -91,3 +109,9 @@ module _ (q : Sequence) (n : ℕ) (second : q.second < 60)
 
   pub one_day : lies_in_one_day n q ≡ ((q.first + (q.second + n - 1) / 60) / 1440 == q.first / 1440)
   one_day = first_slots n (omega arith)
+
+-- the same of one whose minutes have 60 seconds
+pub nominal : (q : Sequence) (n : ℕ) → q.second < 60
+    → ((t : ℕ) → q.first ≤ t → t ≤ q.first + (q.second + n - 1) / 60 → minute_length q.announced t ≡ 60)
+    → (k : ℕ) → k < n → place_at q k ≡ plain_place q.first (q.second + k)
+nominal q n second short = nominal_but_last q n second (but_last q.announced q.first (q.first + (q.second + n - 1) / 60) short)

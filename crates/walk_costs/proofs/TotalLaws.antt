@@ -1,4 +1,5 @@
--- What a sequence costs, from the sum of its sets and what DUT1 adds, where its walk has 60 seconds in each minute.
+-- What a sequence costs, from the sum of its sets and what DUT1 adds, where its walk has 60 seconds in each minute, but perhaps for
+-- the last one, in which it ends before the sixty-first.
 use Rattle.std.proofs.Common.{◌≡◌, ℕ, ◌+◌, ◌*◌, ◌/◌, ◌%◌, ◌^◌, ◌<◌, ◌≤◌, Bool, true, false, ◌==◌, if◌then◌else◌, ℤ, List, [], ◌∷◌, length, map, fold, min, unwrap_or, refl, sym, ap, ◌∙◌, arith}
 use Rattle.signal_base.specs.declared.station.Station.{Station}
 use Rattle.signal_base.specs.declared.station.Station.TheVariants.{Dcf77, Msf, Wwvb, Jjy}
@@ -19,7 +20,7 @@ use Rattle.walk_costs.specs.Dates.{IsAdded, free_part, free_set, least_told, par
 use Rattle.walk_costs.specs.Walks.{AreSmall, PricedParts, cost_of, last_minute}
 use Rattle.walk_costs.proofs.SumLaws.{cost_in, made_part, sum_of_two, sums_of_two}
 use Rattle.walk_costs.proofs.ToldLaws.{bit_below}
-use Rattle.walk_costs.proofs.PlaceLaws.{nominal, one_day}
+use Rattle.walk_costs.proofs.PlaceLaws.{nominal_but_last, one_day}
 
 two_symbols : (station : Station) → 2 ≤ symbol_count station
 two_symbols Dcf77 = omega arith
@@ -52,7 +53,7 @@ pub record IsTotal (w : PricedParts) (announced : Bool) (p t0 sets added : ℕ) 
   pub bound : sets + added ≤ most_cost w.grid
 
 module _ (w : PricedParts) (small : AreSmall w.grid) (announced : Bool) (p t0 : ℕ) (second : p < 60)
-    (short : (t : ℕ) → t0 ≤ t → t ≤ last_minute w p t0 → minute_length announced t ≡ 60) where
+    (short : (t : ℕ) → t0 ≤ t → t < last_minute w p t0 → minute_length announced t ≡ 60) where
   abbrev pub n : ℕ
   n = length w.grid.rows
 
@@ -64,7 +65,7 @@ module _ (w : PricedParts) (small : AreSmall w.grid) (announced : Bool) (p t0 : 
   all_sets = sum_below n (λ k. cost_in w.grid k (set_at w.grid.station q k))
 
   pub place_is : (k : ℕ) → k < n → place_at q k ≡ (t0 + (p + k) / 60, (p + k) % 60)
-  place_is k within = nominal q n second short k within
+  place_is k within = nominal_but_last q n second short k within
 
   -- in a second of DUT1 each set is free, so they cost what the free ones do, and the others what they do
   outside_slot : (k : ℕ) → k < n

@@ -19,6 +19,7 @@ use Rattle.walk_costs.specs.Walks.{ArePriced, IsRegularIn, MayAdd, PricedParts, 
 use Rattle.walk_costs.proofs.SumLaws.{at_second, cost_in, most_of_few, part_by_second, sum_le, sums_of_two}
 use Rattle.walk_costs.proofs.SlotLaws.{set_in}
 use Rattle.walk_costs.proofs.SplitLaws.{call_minute, calls, parts_of_second, tells_by}
+use Rattle.walk_costs.proofs.PlaceLaws.{but_last}
 use Rattle.walk_costs.proofs.TotalLaws.{IsTotal, all_sets, total}
 
 -- what the part costs in the seconds that are given up, in slot k
@@ -84,7 +85,7 @@ module _ (w : PricedParts) (costs : List (List ℕ)) (more : List ℕ) (priced :
 
   -- what the sets cost, and what the dates do
   abbrev pub sets : ℕ
-  sets = all_sets w priced.small announced p t0 are.second are.short
+  sets = all_sets w priced.small announced p t0 are.second (but_last announced t0 (last_minute w p t0) are.short)
 
   abbrev pub date_in : ℕ → ℕ
   date_in k = cost_in w.grid k (get_or (part_by ((p + k) / 60)) ((p + k) % 60) 0)
@@ -170,7 +171,7 @@ module _ (w : PricedParts) (costs : List (List ℕ)) (more : List ℕ) (priced :
       let loss_is = by_call ∙ ap (λ x. minute_cost w.grid.station (cost_at w.grid.rows) n p x (given_up w.grid.station (part_by x))) m_is in
       let less : loss ≤ dates = omega (arith, by_call, by_date, lost_of_dates m) in
       let sum : sets ≡ walk + (dates - loss) = omega (arith, split, walk_is, by_date, loss_is, less) in
-      (subst (λ x. IsTotal w announced p t0 x added) sum (total w priced.small announced p t0 are.second are.short added one two), less)
+      (subst (λ x. IsTotal w announced p t0 x added) sum (total w priced.small announced p t0 are.second (but_last announced t0 (last_minute w p t0) are.short) added one two), less)
 
 -- a walk in one run
 module _ (w : PricedParts) (costs : List (List ℕ)) (more : List ℕ) (priced : ArePriced w.parts w.grid costs more)

@@ -8,6 +8,7 @@ use Rattle.minute_parts.specs.declared.call.TheConstants.{CALL_BEGIN, CALL_END}
 use Rattle.minute_parts.specs.Overlay.{is_given_up}
 use Rattle.minute_parts.specs.Parts.{PartTable, local_time, part_where}
 use Rattle.minute_parts.specs.Runs.{end_of_run, run_at}
+use Rattle.minute_parts.specs.declared.runs.Run.{Run}
 use Rattle.walk_costs.specs.declared.kinds.Kind.{Kind}
 use Rattle.walk_costs.specs.declared.kinds.TheConstants.{SETS}
 
@@ -40,6 +41,10 @@ pub record IsKindOf (parts : PartTable) (station : Station) (across announced : 
   pub told : (s : ℕ) → end_in across i < length parts.runs → s < 60 → is_given_up station s ≡ true
       → slice_index kind.told s ≡ slice_index (told_of parts across announced i) s
   pub last : end_in across i < length parts.runs → kind.last ≡ last_begin parts across i
+
+-- the date tells the same with the announcement of a leap second and without it
+abbrev pub IsToldAlike : Run → Type 0
+IsToldAlike run = run.unannounced ≡ run.announced
 
 -- a kind of a list
 abbrev pub no_kind : Kind

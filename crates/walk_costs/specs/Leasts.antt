@@ -1,5 +1,5 @@
 -- What walks cost at the least, at any time of day at which they may begin.
-use Rattle.std.specs.Prelude.{ℕ, ◌≡◌, ◌⊎◌, ◌+◌, ◌*◌, ◌<◌, ◌≤◌, Bool, if◌then◌else◌, List, length, max, slice_index, slice_index_or}
+use Rattle.std.specs.Prelude.{ℕ, ◌≡◌, ◌⊎◌, ◌+◌, ◌*◌, ◌<◌, ◌≤◌, Bool, if◌then◌else◌, List, length, max, min, slice_index, slice_index_or}
 use Rattle.signal_base.specs.declared.limits.TheConstants.{GREATEST_COST}
 use Rattle.definitions.specs.time.Calendar.{minutes_per_day}
 use Rattle.symbol_cost.specs.Grid.{Grid, cost_at}
@@ -8,7 +8,7 @@ use Rattle.minute_parts.specs.Parts.{PartTable}
 use Rattle.minute_parts.specs.Walks.{later_minutes}
 use Rattle.slot_columns.specs.Parts.{entry, walk_cost}
 use Rattle.slot_columns.specs.declared.limits.TheConstants.{SECONDS_PER_MINUTE}
-use Rattle.walk_costs.specs.declared.halves.Split.{Split}
+use Rattle.walk_costs.specs.declared.thirds.Split.{Split}
 use Rattle.walk_costs.specs.declared.kinds.Kind.{Kind}
 use Rattle.walk_costs.specs.declared.least.Begins.{Begins}
 use Rattle.walk_costs.specs.declared.least.LeastTable.{LeastTable}
@@ -19,49 +19,67 @@ use Rattle.walk_costs.specs.Kinds.{IsBegin, end_in, kind_at, last_begin, told_of
 abbrev pub begin_count : ℕ → Bool → ℕ → ℕ
 begin_count slots across p = if across then max (later_minutes slots p) 1 else minutes_per_day
 
--- a second of the call sign is told in one of two halves
-abbrev pub IsSplit : List ℕ → List ℕ → List ℕ → Type 0
-IsSplit told low high =
+-- what is told in a second of the call sign: one of three parts tells it, and the others nothing
+abbrev pub IsOneOf : List ℕ → List ℕ → List ℕ → List ℕ → ℕ → Type 0
+IsOneOf told one other another s = (slice_index one s ≡ slice_index told s) × (slice_index other s ≡ 0) × (slice_index another s ≡ 0)
+
+abbrev pub IsSplit : List ℕ → List ℕ → List ℕ → List ℕ → Type 0
+IsSplit told low middle high =
     (s : ℕ) → CALL_BEGIN ≤ s → s < CALL_END
-    → ((slice_index low s ≡ slice_index told s) × (slice_index high s ≡ 0)) ⊎ ((slice_index low s ≡ 0) × (slice_index high s ≡ slice_index told s))
+    → IsOneOf told low middle high s ⊎ IsOneOf told middle low high s ⊎ IsOneOf told high low middle s
 
 abbrev pub no_split : Split
-no_split = record { low = 0; high = 0 }
+no_split = record { low = 0; middle = 0; high = 0 }
 
 abbrev pub split_at : List Split → ℕ → Split
 split_at splits k = slice_index_or splits k no_split
 
--- where the halves of what is told stand in the new list, which goes on where the old one ends
+-- its thirds stand among so many
+pub record IsSplitIn (split : Split) (n : ℕ) : Type 0 where
+  pub low : split.low < n
+  pub middle : split.middle < n
+  pub high : split.high < n
+
+-- and are those of what is told
+abbrev pub IsSplitOf : List ℕ → List Kind → Split → Type 0
+IsSplitOf told all split = IsSplit told (kind_at all split.low).told (kind_at all split.middle).told (kind_at all split.high).told
+
+-- where the thirds of what is told stand in the new list, which goes on where the old one ends
 pub record IsSplitTo (old new : List Kind) (told : List ℕ) (split : Split) : Type 0 where
-  pub low : split.low < length new
-  pub high : split.high < length new
-  pub each : IsSplit told (kind_at new split.low).told (kind_at new split.high).told
+  pub within : IsSplitIn split (length new)
+  pub each : IsSplitOf told new split
   pub longer : length old ≤ length new
   pub kept : (k : ℕ) → k < length old → kind_at new k ≡ kind_at old k
 
--- where the halves of the first n kinds stand
-pub record AreHalves (kinds all : List Kind) (splits : List Split) (n : ℕ) : Type 0 where
+-- where the thirds of the first n kinds stand
+pub record AreThirds (kinds all : List Kind) (splits : List Split) (n : ℕ) : Type 0 where
   pub count : length splits ≡ n
-  pub low : (k : ℕ) → k < n → (split_at splits k).low < length all
-  pub high : (k : ℕ) → k < n → (split_at splits k).high < length all
-  pub each : (k : ℕ) → k < n → IsSplit (kind_at kinds k).told (kind_at all (split_at splits k).low).told (kind_at all (split_at splits k).high).told
+  pub within : (k : ℕ) → k < n → IsSplitIn (split_at splits k) (length all)
+  pub each : (k : ℕ) → k < n → IsSplitOf (kind_at kinds k).told all (split_at splits k)
 
--- what the first n halves cost in the seconds that are given up
-pub record AreHalfCosts (grid : Grid) (p : ℕ) (halves : List Kind) (rows : List (List ℕ)) (n : ℕ) : Type 0 where
+-- what the first n thirds cost in the seconds that are given up
+pub record AreThirdCosts (grid : Grid) (p : ℕ) (thirds : List Kind) (rows : List (List ℕ)) (n : ℕ) : Type 0 where
   pub count : length rows ≡ n
-  pub each : (h m : ℕ) → h < n → m < CALL_MINUTES → entry rows h m ≡ given_cost grid p m (kind_at halves h).told
+  pub each : (h m : ℕ) → h < n → m < CALL_MINUTES → entry rows h m ≡ given_cost grid p m (kind_at thirds h).told
   pub small : (h m : ℕ) → h < n → m < CALL_MINUTES → entry rows h m ≤ most_given
 
+-- after how many minutes the call sign is sent, where walks go through so many: of those that go through fewer each counts alike
+abbrev pub call_class : ℕ → ℕ → ℕ
+call_class reached u = min (minutes_to_call u) reached
+
 -- what the times of day cost at the least in the walks from second p that begin in the last n minutes up to one
-pub record AreBegins (walks : List (List ℕ)) (p n : ℕ) (begins : Begins) : Type 0 where
-  pub least : (u : ℕ) → IsBegin n begins.last u → slice_index begins.costs (minutes_to_call u) ≤ entry walks p u
+pub record AreBegins (walks : List (List ℕ)) (p n reached : ℕ) (begins : Begins) : Type 0 where
+  pub first : (u : ℕ) → IsBegin n begins.last u → begins.first ≤ call_class reached u
+  pub least : (u : ℕ) → IsBegin n begins.last u → slice_index begins.costs (call_class reached u) ≤ entry walks p u
   pub small : (m : ℕ) → m < CALL_MINUTES → slice_index begins.costs m ≤ GREATEST_COST
 
--- no walk of kind k costs less, by the costs of its halves
-abbrev pub IsLeastBy : List (List ℕ) → List Kind → List Split → List (List ℕ) → ℕ → ℕ → ℕ → ℕ → Type 0
-IsLeastBy walks kinds splits rows p n k least =
-    (u : ℕ) → IsBegin n (kind_at kinds k).last u
-    → least ≤ entry walks p u + entry rows (split_at splits k).low (minutes_to_call u) + entry rows (split_at splits k).high (minutes_to_call u)
+-- no walk of kind k costs less, by the costs of its thirds
+abbrev pub cost_of_split : List (List ℕ) → Split → ℕ → ℕ
+cost_of_split rows split m = entry rows split.low m + entry rows split.middle m + entry rows split.high m
+
+abbrev pub IsLeastBy : List (List ℕ) → List Kind → List Split → List (List ℕ) → ℕ → ℕ → ℕ → ℕ → ℕ → Type 0
+IsLeastBy walks kinds splits rows p n reached k least =
+    (u : ℕ) → IsBegin n (kind_at kinds k).last u → least ≤ entry walks p u + cost_of_split rows (split_at splits k) (call_class reached u)
 
 -- and by what its dates tell
 abbrev pub IsLeastOf : Grid → List (List ℕ) → List Kind → Bool → ℕ → ℕ → ℕ → Type 0

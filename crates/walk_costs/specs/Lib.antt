@@ -6,3 +6,5 @@ pub mod Kinds
 pub mod Leasts
 pub mod Changes
 pub mod Overs
+pub mod Spans
+pub mod Near

@@ -20,7 +20,9 @@ use Rattle.walk_costs.specs.declared.shown.Shown.TheVariants.{Never, Always, Som
 use Rattle.walk_costs.specs.Dates.{AreAdded, IsAdded, kept, part_cost}
 use Rattle.walk_costs.specs.declared.change.Change.{Change}
 use Rattle.walk_costs.specs.declared.least.LeastWalks.{LeastWalks}
+use Rattle.walk_costs.specs.declared.span.DateSpan.{DateSpan}
 use Rattle.walk_costs.specs.Changes.{IsChange}
+use Rattle.walk_costs.specs.Spans.{HoldsDates}
 use Rattle.walk_costs.specs.Leasts.{AreLeast}
 
 -- the parts of a station's telegrams, and what its symbols cost in the slots of a window
@@ -92,12 +94,13 @@ pub record AreDateCosts (parts : PartTable) (grid : Grid) (dates : LayerSums) (p
 
 -- all that is kept of a station
 pub record AreKept (parts : PartTable) (grid : Grid) (costs : List (List ℕ)) (more : List ℕ) (by_date : LayerSums) (places : List ℕ) (floors : LeastWalks)
-    (changes : List Change) : Type 0 where
+    (changes : List Change) (spans : List DateSpan) : Type 0 where
   pub priced : ArePriced parts grid costs more
   pub dates : AreDateCosts parts grid by_date places
   pub inside : AreLeast parts grid false floors.inside
   pub across : AreLeast parts grid true floors.across
   pub over : All (IsChange parts grid) changes
+  pub held : All (HoldsDates parts grid.station) spans
 
 -- in some slot the station may carry another set than without the announcement
 abbrev pub ShowsAnnouncement : PricedParts → Sequence → Type 0

@@ -140,10 +140,9 @@ fn cost_over(parts: &Parts, columns: &SlotColumns, u: u16, v: u16, b: u32, p: u8
     // The receivers are few, so that the sum fits.
     columns.receivers();
     let mut cost = 0;
-    for k in 0..columns.seconds() {
-        let place = p as u16 + k;
-        let part = parts.time_part(time_over(u, v, b, place / SECONDS_PER_MINUTE as u16));
-        cost += columns.cost(k, part[place as usize % SECONDS_PER_MINUTE]);
+    for m in 0..later_minutes(columns.seconds(), p) as u16 + 1 {
+        let part = parts.time_part(time_over(u, v, b, m));
+        cost += columns.minute_cost(p, m as u8, part);
     }
     cost
 }

@@ -32,8 +32,8 @@ pub fn given_costs(columns: &SlotColumns, p: u8, part: &Part) -> ByMinute
     all_but(whole, &lost)
 }
 
-// How many minutes a walk goes through.
-fn walk_minutes(columns: &SlotColumns, p: u8) -> usize
+/// How many minutes a walk goes through.
+pub fn walk_minutes(columns: &SlotColumns, p: u8) -> usize
     requires { p < SECONDS_PER_MINUTE }
     ensures count { result ≡ later_minutes (length columns.now.rows) p + 1 }
     ensures bound { result ≤ 21 }

@@ -5,8 +5,10 @@
 ghost use Rattle.std.specs.Prelude.{◌≡◌, ◌*◌, ◌<◌, ℕ, IfOk, OnOk, false, length, slice_index, true};
 ghost use Rattle.minute_parts.specs.Overlay.{is_given_up};
 ghost use Rattle.minute_parts.specs.Parts.{IsPartTable};
-ghost use Rattle.walk_costs.specs.Kinds.{AreKindsOf, AreSame, HasPlace, IsKindOf, IsPlaced, IsPlacedBy, either_set, end_in, last_begin};
+ghost use Rattle.minute_parts.specs.Runs.{run_at};
+ghost use Rattle.walk_costs.specs.Kinds.{AreKindsOf, AreSame, HasPlace, IsKindOf, IsPlaced, IsPlacedBy, IsToldAlike, either_set, end_in, last_begin};
 
+use crate::shown::is_told_alike;
 use crate::walks::local_time;
 use definitions::MINUTES_PER_DAY;
 use minute_parts::{CALL_BEGIN, CALL_END, Parts, gives_up};
@@ -32,12 +34,13 @@ pub struct Kinds {
     pub places: Vec<usize>,
 }
 
-// Where the same kind may stand, so many places back. What is announced is mostly told as what isn't; and the weekday was the
-// same in the same year mostly seven runs ago, or eight where a day had two.
-const BACK: [usize; 4] = [1, 14, 16, 2];
+// Where the same kind may stand, so many places back. What is announced is mostly told as what isn't; the weekday was the same in
+// the same year mostly seven runs ago, or eight where a day had two; and in December a leap second is announced as in June, 26
+// weeks and two runs before.
+const BACK: [usize; 5] = [1, 14, 16, 2, 368];
 
-// How many sets of at most five symbols there are.
-const SETS: u8 = 32;
+/// How many sets of at most five symbols there are.
+pub const SETS: u8 = 32;
 
 /// The kinds of the walks that lie in one run, or of those that go on to the next.
 pub fn kinds_of(
@@ -55,16 +58,10 @@ pub fn kinds_of(
     let mut all = Vec::new(alloc);
     let mut places = Vec::with_capacity(alloc, parts.runs().saturating_mul(2))?;
     for i in 0..parts.runs() {
-        add_kind(
-            &mut all,
-            &mut places,
-            &kind_of(parts, station, across, false, i),
-        )?;
-        add_kind(
-            &mut all,
-            &mut places,
-            &kind_of(parts, station, across, true, i),
-        )?;
+        let without = kind_of(parts, station, across, false, i);
+        add_kind(&mut all, &mut places, &without)?;
+        let announced = announced_kind(parts, station, across, i, &without);
+        add_kind(&mut all, &mut places, &announced)?;
     }
     Ok(Kinds { all, places })
 }
@@ -118,6 +115,32 @@ fn kind_of(parts: &Parts, station: Station, across: bool, announced: bool, run: 
         told: told_by(station, one, other),
         last: last_begin(parts, across, run),
     }
+}
+
+// The same where a leap second is announced, by the kind where none is: in most months they are one.
+fn announced_kind(parts: &Parts, station: Station, across: bool, run: usize, without: &Kind) -> Kind
+    requires table { IsPartTable parts.now }
+    requires run { run < length parts.now.runs }
+    requires without { IsKindOf parts.now station across false run without.now }
+    ensures { IsKindOf parts.now station across true run result }
+{
+    let end = end_in(parts, across, run);
+    if are_told_alike(parts, run, end) {
+        return *without;
+    }
+    kind_of(parts, station, across, true, run)
+}
+
+// Whether two runs tell the same where a leap second is announced and where none is.
+fn are_told_alike(parts: &Parts, one: usize, other: usize) -> bool
+    requires one { one < length parts.now.runs }
+    requires other { other < length parts.now.runs }
+    ensures { result ≡ true → IsToldAlike (run_at parts.now.runs one) × IsToldAlike (run_at parts.now.runs other) }
+{
+    if !is_told_alike(parts.run(one)) {
+        return false;
+    }
+    is_told_alike(parts.run(other))
 }
 
 // The run in which they end. The last run has no next, and stands for it.

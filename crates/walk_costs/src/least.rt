@@ -11,12 +11,12 @@ ghost use Rattle.slot_columns.specs.Layered.{AreAdded, AreGroups};
 ghost use Rattle.slot_columns.specs.Parts.{AreWalkCosts, entry, most_cost};
 ghost use Rattle.walk_costs.specs.Crossings.{IsAcross};
 ghost use Rattle.walk_costs.specs.Dates.{most_given};
-ghost use Rattle.walk_costs.specs.Leasts.{AreBegins, AreHalfCosts, AreLeast, AreLeastSums, IsLeastBy, IsLeastOf, begin_count, least_at, place_of_run, split_at};
+ghost use Rattle.walk_costs.specs.Leasts.{AreBegins, AreLeast, AreLeastSums, AreThirdCosts, IsLeastBy, IsLeastOf, IsSplitIn, begin_count, call_class, least_at, place_of_run, split_at};
 ghost use Rattle.walk_costs.specs.Walks.{IsRegularIn, cost_of};
 
-use crate::date::{ByMinute, given_costs};
-use crate::halves::{Split, halves_of};
+use crate::date::{ByMinute, given_costs, walk_minutes};
 use crate::kinds::{Kind, kinds_of};
+use crate::thirds::{Split, thirds_of};
 use crate::walks::{StationWalks, minutes_to_call};
 use definitions::MINUTES_PER_DAY;
 use minute_parts::{CALL_MINUTES, Parts, later_minutes};
@@ -87,8 +87,8 @@ impl LeastTable {
         })
     }
 
-    // That of the walks from second `p` which begin in a run.
-    fn at(&self, announced: bool, p: u8, run: usize) -> u32
+    /// That of the walks from second `p` which begin in a run.
+    pub fn at(&self, announced: bool, p: u8, run: usize) -> u32
         requires second { p < SECONDS_PER_MINUTE }
         requires run { (runs : ℕ) × (run < runs) × AreLeastSums self.now runs }
         ensures { result ≡ least_at self.now announced p run }
@@ -152,37 +152,39 @@ fn least_costs(
 ) -> Result<Vec<u32>, AllocError>
     ensures { IfOk result (λ costs. AreGroups 0 (IsLeastOf columns.now walks.now kinds.now across) (length kinds.now) costs.items SECONDS_PER_MINUTE) }
 {
-    let halves = halves_of(alloc, kinds)?;
+    let thirds = thirds_of(alloc, kinds)?;
     let mut costs = Vec::new(alloc);
     for p in 0..SECONDS_PER_MINUTE {
-        let rows = half_costs(alloc, columns, &halves.all, p as u8)?;
+        let rows = third_costs(alloc, columns, &thirds.all, p as u8)?;
         let count = begin_count(columns, p as u8, across);
+        let reached = walk_minutes(columns, p as u8);
         push_costs(
             &mut costs,
             walks,
             kinds,
-            &halves.splits,
+            &thirds.splits,
             &rows,
             p as u8,
             count,
+            reached,
         )?;
     }
     Ok(costs)
 }
 
-// What each half costs in the seconds that are given up.
-fn half_costs(
+// What each third costs in the seconds that are given up.
+fn third_costs(
     alloc: Global,
     columns: &SlotColumns,
-    halves: &[Kind],
+    thirds: &[Kind],
     p: u8,
 ) -> Result<Vec<ByMinute>, AllocError>
     requires { p < SECONDS_PER_MINUTE }
-    ensures { IfOk result (λ rows. AreHalfCosts columns.now p halves.now rows.items (length halves.now)) }
+    ensures { IfOk result (λ rows. AreThirdCosts columns.now p thirds.now rows.items (length thirds.now)) }
 {
-    let mut rows = Vec::with_capacity(alloc, halves.len())?;
-    for i in 0..halves.len() {
-        rows.push(given_costs(columns, p, &halves[i].told))?;
+    let mut rows = Vec::with_capacity(alloc, thirds.len())?;
+    for i in 0..thirds.len() {
+        rows.push(given_costs(columns, p, &thirds[i].told))?;
     }
     Ok(rows)
 }
@@ -201,7 +203,7 @@ fn begin_count(columns: &SlotColumns, p: u8, across: bool) -> u32
     }
 }
 
-// The least of each kind, of the walks from second `p` that begin in so many minutes.
+// The least of each kind, of the walks from second `p` that begin in so many minutes, and go through `reached` ones.
 fn push_costs(
     costs: &mut Vec<u32>,
     walks: &WalkTable,
@@ -210,69 +212,102 @@ fn push_costs(
     rows: &[ByMinute],
     p: u8,
     count: u32,
+    reached: usize,
 ) -> Result<(), AllocError>
     requires second { p < SECONDS_PER_MINUTE }
     requires count { count ≤ minutes_per_day }
-    requires splits { (k : ℕ) → k < length kinds.now → (k < length splits.now) × ((split_at splits.now k).low < length rows.now) × ((split_at splits.now k).high < length rows.now) }
+    requires reached { reached < CALL_MINUTES }
+    requires splits { (k : ℕ) → k < length kinds.now → (k < length splits.now) × IsSplitIn (split_at splits.now k) (length rows.now) }
     requires small { (h m : ℕ) → h < length rows.now → m < CALL_MINUTES → entry rows.now h m ≤ most_given }
-    ensures { OnOk result (AreAdded 0 (IsLeastBy walks.now kinds.now splits.now rows.now p count) costs.old.items costs.new.items (length kinds.now)) }
+    ensures { OnOk result (AreAdded 0 (IsLeastBy walks.now kinds.now splits.now rows.now p count reached) costs.old.items costs.new.items (length kinds.now)) }
 {
-    let mut begins = begins_of(walks, p, count, MINUTES_PER_DAY as u16 - 1);
+    let mut begins = begins_of(walks, p, count, reached, MINUTES_PER_DAY as u16 - 1);
     for k in 0..kinds.len() {
-        change_last(&mut begins, walks, p, count, kinds[k].last);
+        change_last(&mut begins, walks, p, count, reached, kinds[k].last);
         let split = splits[k];
-        costs.push(least_of(&begins.costs, &rows[split.low], &rows[split.high]))?;
+        let least = least_of(
+            &begins,
+            &rows[split.low],
+            &rows[split.middle],
+            &rows[split.high],
+            reached,
+        );
+        costs.push(least)?;
     }
     Ok(())
 }
 
-/// What walks cost at the least by the time of day, by how many minutes after their first one the call sign comes.
+/// What walks cost at the least by the time of day, by how many minutes after their first one the call sign comes. Those count as
+/// one that go through fewer.
 #[derive(Clone, Copy)]
 pub struct Begins {
     /// The last minute of the local day in which they begin.
     pub last: u16,
+    /// None has the call sign in a minute before this.
+    pub first: usize,
     /// The costs.
     pub costs: ByMinute,
 }
 
 // Those of the walks from second `p` that begin in the last minutes up to this one, so many of them.
-fn begins_of(walks: &WalkTable, p: u8, count: u32, last: u16) -> Begins
+fn begins_of(walks: &WalkTable, p: u8, count: u32, reached: usize, last: u16) -> Begins
     requires second { p < SECONDS_PER_MINUTE }
     requires count { count ≤ minutes_per_day }
+    requires reached { reached < CALL_MINUTES }
     ensures last { result.last ≡ last }
-    ensures costs { AreBegins walks.now p count result }
+    ensures costs { AreBegins walks.now p count reached result }
 {
     let row = walks.row(p);
     let mut costs = [GREATEST_COST; CALL_MINUTES];
+    let mut first = reached;
     for j in 0..count {
         let u = (MINUTES_PER_DAY + last as u32 - j) % MINUTES_PER_DAY;
-        let m = minutes_to_call(u as u16) as usize;
+        let m = call_class(u as u16, reached);
         costs[m] = costs[m].min(row[u as usize]);
+        first = first.min(m);
     }
-    Begins { last, costs }
+    Begins { last, first, costs }
+}
+
+// After how many minutes the call sign is sent, where a walk goes through so many.
+fn call_class(u: u16, reached: usize) -> usize
+    ensures value { result ≡ call_class reached u }
+    ensures bound { result ≤ reached }
+{
+    (minutes_to_call(u) as usize).min(reached)
 }
 
 // Makes them those up to another minute.
-fn change_last(begins: &mut Begins, walks: &WalkTable, p: u8, count: u32, last: u16)
+fn change_last(begins: &mut Begins, walks: &WalkTable, p: u8, count: u32, reached: usize, last: u16)
     requires second { p < SECONDS_PER_MINUTE }
     requires count { count ≤ minutes_per_day }
-    requires begins { AreBegins walks.now p count begins.old }
+    requires reached { reached < CALL_MINUTES }
+    requires begins { AreBegins walks.now p count reached begins.old }
     ensures last { begins.new.last ≡ last }
-    ensures costs { AreBegins walks.now p count begins.new }
+    ensures costs { AreBegins walks.now p count reached begins.new }
 {
     if begins.last != last {
-        *begins = begins_of(walks, p, count, last);
+        *begins = begins_of(walks, p, count, reached, last);
     }
 }
 
-// The least of three costs together.
-fn least_of(begins: &ByMinute, low: &ByMinute, high: &ByMinute) -> u32
-    requires room { (m : ℕ) → m < CALL_MINUTES → slice_index begins.now m + slice_index low.now m + slice_index high.now m < 2 ^ 32 }
-    ensures { (m : ℕ) → m < CALL_MINUTES → result ≤ slice_index begins.now m + slice_index low.now m + slice_index high.now m }
+// The least of four costs together.
+fn least_of(
+    begins: &Begins,
+    low: &ByMinute,
+    middle: &ByMinute,
+    high: &ByMinute,
+    reached: usize,
+) -> u32
+    requires reached { reached < CALL_MINUTES }
+    requires room { (m : ℕ) → m < CALL_MINUTES
+        → slice_index begins.now.costs m + slice_index low.now m + slice_index middle.now m + slice_index high.now m < 2 ^ 32 }
+    ensures { (m : ℕ) → begins.now.first ≤ m → m ≤ reached
+        → result ≤ slice_index begins.now.costs m + slice_index low.now m + slice_index middle.now m + slice_index high.now m }
 {
     let mut least = u32::MAX;
-    for m in 0..CALL_MINUTES {
-        least = least.min(begins[m] + low[m] + high[m]);
+    for m in begins.first..reached + 1 {
+        least = least.min(begins.costs[m] + low[m] + middle[m] + high[m]);
     }
     least
 }

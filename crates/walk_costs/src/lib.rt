@@ -9,18 +9,20 @@ mod change;
 mod crossing;
 mod date;
 mod dut;
-mod halves;
 mod kept;
 mod kinds;
 mod least;
 mod over;
 mod set_costs;
 mod shown;
+mod span;
 #[cfg(test)]
 mod tests;
+mod thirds;
 mod walks;
 
 pub use crossing::Crossing;
 pub use over::Over;
 pub use shown::Shown;
+pub use span::SpanCosts;
 pub use walks::StationWalks;

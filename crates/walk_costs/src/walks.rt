@@ -17,6 +17,7 @@ use crate::kept::{DateTable, dates_of};
 use crate::least::LeastWalks;
 use crate::set_costs::look_at_all;
 use crate::shown::{Shown, TWO_MINUTES, differs_elsewhere, is_told_alike, some_slot_shows};
+use crate::span::{DateSpan, spans_of};
 use civil::Civil;
 use definitions::{CENTURY_MINUTES, MINUTES_PER_DAY, MINUTES_PER_HOUR};
 use minute_parts::{CALL_MINUTE, CALL_MINUTES, Part, Parts, Unions, later_minutes};
@@ -37,6 +38,7 @@ pub struct StationWalks<'a> {
     pub(crate) announced_dates: Vec<usize>,
     pub(crate) least: LeastWalks,
     pub(crate) changes: Vec<Change>,
+    pub(crate) spans: Vec<DateSpan>,
 }
 
 impl<'a> Model for StationWalks<'a> {
@@ -46,7 +48,7 @@ impl<'a> Model for StationWalks<'a> {
 
     ghost view = { λ w. record { parts = w.unions.now; grid = w.columns } };
 
-    ghost invariant = { λ w. AreKept w.unions.now w.columns w.walks w.added w.dates w.announced_dates.items w.least w.changes.items };
+    ghost invariant = { λ w. AreKept w.unions.now w.columns w.walks w.added w.dates w.announced_dates.items w.least w.changes.items w.spans.items };
 }
 
 impl<'a> StationWalks<'a> {
@@ -70,6 +72,7 @@ impl<'a> StationWalks<'a> {
         let DateTable { costs, announced } = dates_of(alloc, parts, &columns)?;
         let least = LeastWalks::make(alloc, parts, &columns, &walks)?;
         let changes = changes_of(alloc, parts, &columns)?;
+        let spans = spans_of(alloc, parts, columns.station())?;
         look_at_all(&columns);
         Ok(StationWalks {
             unions,
@@ -80,6 +83,7 @@ impl<'a> StationWalks<'a> {
             announced_dates: announced,
             least,
             changes,
+            spans,
         })
     }
 

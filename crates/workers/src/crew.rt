@@ -65,10 +65,11 @@ impl<G: Gate> Team for Crew<'_, '_, '_, G> {
         worker: u32,
         recorder: &mut K,
     ) -> Result<(), K::Fault> {
+        let mut latest = u64::MAX;
         let mut number = draw(self, seat, worker);
         while number < self.items.len() as u64 {
             let item = &self.items[number as usize];
-            self.visitor.visit_item(seat, item, recorder)?;
+            self.visitor.visit_item(seat, item, &mut latest, recorder)?;
             number = draw(self, seat, worker);
         }
         Ok(())

@@ -1,4 +1,4 @@
-//! Visits of a year's days and their hours where no steps are kept: each is passed over by its floor, with one read.
+//! Visits of a year, its days and their hours where no steps are kept: each is passed over by its floor, with one read.
 
 ghost use Rattle.std.specs.Prelude.{ℕ, ◌≡◌, ◌≢◌, ◌≤◌, IfNone, IfSome, OnOk, OnErr};
 ghost use Rattle.std.specs.Option.{ForSome};
@@ -21,29 +21,36 @@ use sequence::cost_of;
 use std::marker::Brand;
 
 impl Visitor<'_> {
-    /// Visits the children of a block that isn't a minute: the days of a year by their floors, where no step is to be kept.
-    pub(crate) fn visit_opened<K: Recorder>(
+    /// Visits a year, which is passed over by its floor where that can be. `latest` is what was read last.
+    pub(crate) fn visit_year<K: Recorder>(
         &self,
         seat: &mut Seat,
-        block: &Block,
+        year: &Block,
+        latest: &mut u64,
         recorder: &mut K,
     ) -> Result<(), K::Fault>
         requires race { seat.old.race ≡ self.now.race.now.id }
-        requires block { IsBlock self.now.tables.now.window block.now }
-        requires longer { block.now.span ≢ Minute }
+        requires block { IsBlock self.now.tables.now.window year.now }
+        requires year { year.now.span ≡ Year }
+        requires needless { NeedsNone K.told }
         ensures race { seat.new.race ≡ seat.old.race }
         ensures walked { let t = self.now.tables.now in
-            OnOk result (HaveWalked K.told (costs_of t) t.window self.now.ceiling (children block.now) seat.old.view seat.new.view recorder.old recorder.new) }
+            OnOk result (HasWalked K.told (costs_of t) t.window self.now.ceiling year.now seat.old.view seat.new.view recorder.old recorder.new) }
         ensures stopped { let t = self.now.tables.now in
-            OnErr result (HaveStopped K.told K.fails (costs_of t) t.window self.now.ceiling (children block.now) seat.old.view seat.new.view recorder.old recorder.new) }
+            OnErr result (HasStopped K.told K.fails (costs_of t) t.window self.now.ceiling year.now seat.old.view seat.new.view recorder.old recorder.new) }
     {
-        if recorder.needs_steps() {
-            return self.visit_children(seat, block, recorder);
-        }
-        if block.span == Span::Year {
-            return self.visit_days(seat, block, recorder);
-        }
-        self.visit_children(seat, block, recorder)
+        let found = Bounded {
+            block: *year,
+            bound: bound(self.tables, year),
+        };
+        let Some(seen) = self.read_or_pass_over(seat, &found, latest) else {
+            return Ok(());
+        };
+        let opened = self.take_step(&found, seen, recorder)?;
+        let Some(_key) = opened else {
+            return Ok(());
+        };
+        self.visit_days(seat, year, latest, recorder)
     }
 
     // Visits the days of a year, one after the other.
@@ -51,6 +58,7 @@ impl Visitor<'_> {
         &self,
         seat: &mut Seat,
         year: &Block,
+        latest: &mut u64,
         recorder: &mut K,
     ) -> Result<(), K::Fault>
         requires race { seat.old.race ≡ self.now.race.now.id }
@@ -65,9 +73,8 @@ impl Visitor<'_> {
     {
         children_share_the_sequences();
         let mut days = bounded_children(self.tables, year);
-        let mut latest = u64::MAX;
         while let Some(day) = days.next_block() {
-            self.visit_day(seat, &day, &mut latest, recorder)?;
+            self.visit_day(seat, &day, latest, recorder)?;
         }
         Ok(())
     }
@@ -161,6 +168,24 @@ impl Visitor<'_> {
             return Ok(());
         };
         self.visit_children(seat, hour, recorder)
+    }
+
+    // Reads the race's limit once, as `pass_over` does. The floor, which takes longer than the bound, is asked only where the bound
+    // wouldn't pass the block over by what was read last.
+    fn read_or_pass_over(&self, seat: &mut Seat, found: &Bounded, latest: &mut u64) -> Option<u64>
+        requires race { seat.old.race ≡ self.now.race.now.id }
+        requires block { IsBlock self.now.tables.now.window found.now.block }
+        requires small { ForSome found.now.bound (λ n. n ≤ GREATEST_COST) }
+        ensures race { seat.new.race ≡ seat.old.race }
+        ensures passed { let t = self.now.tables.now in
+            IfNone result (HasPassed (costs_of t) t.window self.now.ceiling found.now.block seat.old.view seat.new.view) }
+        ensures low { IfSome result (λ seen. seen ≤ seat.old.view.floor) }
+        ensures read { IfSome result (λ seen. seat.new.view ≡ after_limit seen seat.old.view) }
+    {
+        if self.is_above(&found.block, found.bound, *latest) {
+            return Some(self.race.limit(seat));
+        }
+        self.pass_over(seat, &found.block, latest)
     }
 
     // Reads the race's limit once. None where the block's floor passes it over, and else what was read, by which the

@@ -280,7 +280,8 @@ fn blocks_of(
         needs_all,
         blocks: 0,
     };
-    match visitor.visit_item(seat, item, &mut counter) {
+    let mut latest = u64::MAX;
+    match visitor.visit_item(seat, item, &mut latest, &mut counter) {
         Ok(()) => Some(counter.blocks),
     }
 }

@@ -31,8 +31,34 @@ pub(crate) struct Visitor<'a> {
 }
 
 impl Visitor<'_> {
-    /// Visits a block of the window: passes it over, or visits its children; of a minute it offers the key.
+    /// Visits a block of the window: passes it over, or visits its children; of a minute it offers the key. `latest` is what the seat
+    /// read last, and becomes that where a year is passed over by its floor or its days by theirs.
     pub(crate) fn visit_item<K: Recorder>(
+        &self,
+        seat: &mut Seat,
+        item: &Block,
+        latest: &mut u64,
+        recorder: &mut K,
+    ) -> Result<(), K::Fault>
+        requires race { seat.old.race ≡ self.now.race.now.id }
+        requires block { IsBlock self.now.tables.now.window item.now }
+        ensures race { seat.new.race ≡ seat.old.race }
+        ensures walked { let t = self.now.tables.now in
+            OnOk result (HasWalked K.told (costs_of t) t.window self.now.ceiling item.now seat.old.view seat.new.view recorder.old recorder.new) }
+        ensures stopped { let t = self.now.tables.now in
+            OnErr result (HasStopped K.told K.fails (costs_of t) t.window self.now.ceiling item.now seat.old.view seat.new.view recorder.old recorder.new) }
+    {
+        if recorder.needs_steps() {
+            return self.visit_by_steps(seat, item, recorder);
+        }
+        if item.span == Span::Year {
+            return self.visit_year(seat, item, latest, recorder);
+        }
+        self.visit_by_steps(seat, item, recorder)
+    }
+
+    // The same, and each block takes its own step.
+    fn visit_by_steps<K: Recorder>(
         &self,
         seat: &mut Seat,
         item: &Block,
@@ -57,7 +83,7 @@ impl Visitor<'_> {
         let Some(_key) = opened else {
             return Ok(());
         };
-        self.visit_opened(seat, item, recorder)
+        self.visit_children(seat, item, recorder)
     }
 
     // Visits the children of a block that isn't a minute, one after the other. A child that is passed over costs no call.

@@ -35,7 +35,8 @@ pub fn visit(race: &Race, seat: &mut Seat, tables: &Tables, item: &Block, ceilin
         tables,
         ceiling,
     };
-    match visitor.visit_item(seat, item, &mut NoRecord) {
+    let mut latest = u64::MAX;
+    match visitor.visit_item(seat, item, &mut latest, &mut NoRecord) {
         Ok(()) => {}
     }
 }
@@ -65,5 +66,6 @@ pub fn visit_with<K: Recorder>(
         tables,
         ceiling,
     };
-    visitor.visit_item(seat, item, recorder)
+    let mut latest = u64::MAX;
+    visitor.visit_item(seat, item, &mut latest, recorder)
 }

@@ -2,13 +2,14 @@
 //! Publication 432).
 #![tactic(auto)]
 
-ghost use Rattle.std.specs.Prelude.{◌≡◌, ◌<◌, ◌||◌, map};
+ghost use Rattle.std.specs.Prelude.{◌≡◌, ◌<◌, ◌||◌, map, replicate};
 ghost use Rattle.std.specs.List.{range_with_len};
-ghost use Rattle.definitions.specs.codes.Vocabulary.{is_within};
+ghost use Rattle.definitions.specs.codes.Vocabulary.{is_within, only};
 ghost use Rattle.definitions.specs.codes.Wwvb.{AreInRange, is_marked, wwvb_bit, wwvb_fields, wwvb_second};
+ghost use Rattle.telegram_fields.specs.Laying.{with_sets};
+ghost use Rattle.wwvb_code.specs.Laying.{no_field};
 
 pub use definitions::WwvbFacts;
-use std::array;
 use telegram_fields::marked::{MARKER, day_of_year_field, hour_field, minute_field};
 use telegram_fields::{FREE, Field, NO_SECOND, carried_bit, only, seconds_of};
 
@@ -24,16 +25,55 @@ const YEAR: [(u8, u8); 8] = [
     (53, 1),
 ];
 
+// The symbol of a one.
+const ONE: u8 = 1;
+
 /// The sets of symbols that the seconds of a minute may carry, as masks. The last is empty unless the minute has
 /// 61 seconds.
 pub fn telegram(facts: &WwvbFacts) -> [u8; 61]
     requires { AreInRange facts.now }
     ensures { result ≡ map (wwvb_second facts.now) (range_with_len 0 61) }
 {
-    array::from_fn(|second| set_of(facts, second as u8))
+    let mut sets = sets_of_no_field(facts);
+    let [minute, hour, day, year] = &fields(facts);
+    minute.lay(&mut sets, ONE);
+    hour.lay(&mut sets, ONE);
+    day.lay(&mut sets, ONE);
+    year.lay(&mut sets, ONE);
+    sets
+}
+
+// The sets of the seconds that no field has: most of them carry 0.
+fn sets_of_no_field(facts: &WwvbFacts) -> [u8; 61]
+    requires { AreInRange facts.now }
+    ensures { result ≡ with_sets (wwvb_second facts.now) no_field (replicate 61 (only 0)) }
+{
+    let mut sets = [only(0); 61];
+    sets[0] = set_of(facts, 0);
+    sets[9] = set_of(facts, 9);
+    sets[19] = set_of(facts, 19);
+    sets[29] = set_of(facts, 29);
+    sets[36] = set_of(facts, 36);
+    sets[37] = set_of(facts, 37);
+    sets[38] = set_of(facts, 38);
+    sets[39] = set_of(facts, 39);
+    sets[40] = set_of(facts, 40);
+    sets[41] = set_of(facts, 41);
+    sets[42] = set_of(facts, 42);
+    sets[43] = set_of(facts, 43);
+    sets[49] = set_of(facts, 49);
+    sets[55] = set_of(facts, 55);
+    sets[56] = set_of(facts, 56);
+    sets[57] = set_of(facts, 57);
+    sets[58] = set_of(facts, 58);
+    sets[59] = set_of(facts, 59);
+    sets[60] = set_of(facts, 60);
+    sets
 }
 
 /// The set of symbols that a second may carry, empty from the end of the minute on.
+// Of a second that is given as a number, what it carries is looked up as the program is built.
+#[inline(always)]
 pub fn set_of(facts: &WwvbFacts, second: u8) -> u8
     requires { AreInRange facts.now }
     ensures { result ≡ wwvb_second facts.now second }

@@ -6,8 +6,8 @@ use Rattle.minute_parts.proofs.runs.runs_of.Goals as goal
 pub add_day-requires-clause-days : goal.add_day-requires-clause-days
 add_day-requires-clause-days c = still_points _ _ _ _ c.in_ok-add_run.ensures.grown c.loop-t.invariant.days
 
-pub piece_end-requires : goal.piece_end-requires
-piece_end-requires c = (c.requires.encoded c.loop-t.t c.loop-t-test.true).0
+pub piece_end-requires-clause-century : goal.piece_end-requires-clause-century
+piece_end-requires-clause-century c = (c.requires.encoded c.loop-t.t c.loop-t-test.true).0
 
 pub loop-t-preserved : goal.loop-t-preserved
 loop-t-preserved c =

@@ -1,12 +1,12 @@
 use Rattle.std.proofs.Common.{◌≡◌, ◌*◌, ◌≤◌}
 use Rattle.signal_base.specs.declared.limits.TheConstants.{MOST_RECEIVERS}
-use Rattle.definitions.specs.heard.Costs.{sum_below}
 use Rattle.symbol_cost.specs.declared.limits.TheConstants.{RECEIVER_COST}
-use Rattle.walk_costs.specs.Changes.{cost_in_slot_over}
+use Rattle.slot_columns.specs.declared.limits.TheConstants.{SECONDS_PER_MINUTE}
+use Rattle.walk_costs.proofs.OverLaws.{minutes_before}
 use Rattle.walk_costs.proofs.change.cost_over.Given as goal
 
-abbrev pub invariant-loop-k : goal.invariant-loop-k
-invariant-loop-k l = record {
-  cost : l.cost ≡ sum_below l.k (cost_in_slot_over l.columns l.parts.times l.u l.v l.b l.p);
-  bound : l.cost ≤ MOST_RECEIVERS * RECEIVER_COST * l.k;
+abbrev pub invariant-loop-m : goal.invariant-loop-m
+invariant-loop-m l = record {
+  cost : l.cost ≡ minutes_before l.columns l.parts.times l.u l.v l.b l.p l.m;
+  bound : l.cost ≤ l.m * (SECONDS_PER_MINUTE * (MOST_RECEIVERS * RECEIVER_COST));
 }

@@ -7,7 +7,7 @@ use Rattle.walk_costs.specs.Leasts.{AreLeast}
 use Rattle.walk_costs.specs.Walks.{ArePriced, PricedParts, cost_of}
 use Rattle.walk_costs.proofs.CrossingLaws.{begun, front, front_few, two_runs}
 use Rattle.walk_costs.proofs.FloorLaws.{no_more}
-use Rattle.walk_costs.proofs.NeighbourLaws.{floor}
+use Rattle.walk_costs.proofs.NeighbourLaws.{both_dates, both_held, floor}
 use Rattle.walk_costs.proofs.RunLaws.{ends, in_century}
 use Rattle.walk_costs.proofs.WalkLaws.{most_fits}
 use Rattle.walk_costs.proofs.walks.StationWalks.least_across.Goals as goal
@@ -41,7 +41,9 @@ each c t0 ge lt =
     let u : ℕ = (t0 + shift) % 1440 in
     let before = begun w own.walks own.added (priced c) c.args.announced p t0 i (end_of_run w.parts.runs w.parts.end i) refl across in
     let few = front_few w own.walks own.added (priced c) c.args.announced p t0 i (end_of_run w.parts.runs w.parts.end i) refl across in
-    let found = floor w own.walks own.added (priced c) c.args.announced p i (i + 1) across.second is_run is_next t0 shift
+    let dates = both_dates w own.walks own.added (priced c) c.args.announced p i (i + 1) across.second is_run is_next in
+    let held = both_held w own.walks own.added (priced c) c.args.announced p i (i + 1) across.second is_run is_next in
+    let found = floor w own.walks own.added (priced c) c.args.announced p i (i + 1) across.second is_run is_next dates held t0 shift
     (run_across i (front w own.walks own.added (priced c) c.args.announced p t0 i (end_of_run w.parts.runs w.parts.end i) refl across))
     (two_runs w own.walks own.added (priced c) c.args.announced p t0 i (end_of_run w.parts.runs w.parts.end i) refl across)
     (λ m. in_either i m (nat_lt m (front w own.walks own.added (priced c) c.args.announced p t0 i (end_of_run w.parts.runs w.parts.end i) refl across)))
@@ -50,7 +52,7 @@ each c t0 ge lt =
         arith,
         c.kept_cost_of_both-dates.ensures,
         c.at-least.ensures,
-        no_more w own.walks own.added (priced c) true c.args.announced p i across.second is_run is_next own.least.across (least c) u (omega arith)
+        no_more w own.walks own.added (priced c) true c.args.announced p i across.second is_run is_next own.least.across (least c) dates u (omega arith)
             (end - 1 - t0, omega (arith, before, few), omega (arith, before, few, (priced c).short, across.second)),
         found.0,
       ),

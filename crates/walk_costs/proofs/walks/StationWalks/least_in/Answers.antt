@@ -5,7 +5,7 @@ use Rattle.minute_parts.specs.Runs.{run_at}
 use Rattle.walk_costs.specs.Leasts.{AreLeast}
 use Rattle.walk_costs.specs.Walks.{ArePriced, PricedParts, cost_of}
 use Rattle.walk_costs.proofs.FloorLaws.{no_more}
-use Rattle.walk_costs.proofs.NeighbourLaws.{floor}
+use Rattle.walk_costs.proofs.NeighbourLaws.{both_dates, both_held, floor}
 use Rattle.walk_costs.proofs.RunLaws.{ends, in_century}
 use Rattle.walk_costs.proofs.WalkLaws.{most_fits, one_run}
 use Rattle.walk_costs.proofs.walks.StationWalks.least_in.Goals as goal
@@ -30,13 +30,15 @@ each c t0 ge lt =
     let is_run = regular.begins.is_run in
     let shift : ℕ = (run_at w.parts.runs i).shift in
     let u : ℕ = (t0 + shift) % 1440 in
-    let found = floor w own.walks own.added (priced c) c.args.announced p i i regular.second is_run is_run t0 shift (λ m. i)
+    let dates = both_dates w own.walks own.added (priced c) c.args.announced p i i regular.second is_run is_run in
+    let held = both_held w own.walks own.added (priced c) c.args.announced p i i regular.second is_run is_run in
+    let found = floor w own.walks own.added (priced c) c.args.announced p i i regular.second is_run is_run dates held t0 shift (λ m. i)
     (one_run w own.walks own.added (priced c) c.args.announced p t0 i regular) (λ m. inl refl) c.added_to_all-added.result (c.added_to_all-added.ensures t0 ge lt) in (
       omega (
         arith,
         c.kept_cost_of_both-dates.ensures,
         c.at-least.ensures,
-        no_more w own.walks own.added (priced c) false c.args.announced p i regular.second is_run is_run own.least.inside (least c) u (omega arith) (1439 - u, omega arith, omega arith),
+        no_more w own.walks own.added (priced c) false c.args.announced p i regular.second is_run is_run own.least.inside (least c) dates u (omega arith) (1439 - u, omega arith, omega arith),
         found.0,
       ),
       found.1,

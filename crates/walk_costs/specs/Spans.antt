@@ -1,0 +1,25 @@
+-- What the dates of many runs tell together, where no leap second is announced.
+use Rattle.std.specs.Prelude.{ℕ, ◌≡◌, ◌<◌, ◌≤◌, true, false, length, slice_index}
+use Rattle.signal_base.specs.declared.station.Station.{Station}
+use Rattle.signal_base.specs.Mask.{has_bit}
+use Rattle.minute_parts.specs.Overlay.{is_given_up, is_time_second}
+use Rattle.minute_parts.specs.Parts.{PartTable, part_where}
+use Rattle.minute_parts.specs.Runs.{run_at}
+use Rattle.slot_columns.specs.Rows.{index_of}
+use Rattle.slot_columns.specs.declared.limits.TheConstants.{SECONDS_PER_MINUTE}
+use Rattle.walk_costs.specs.declared.kinds.TheConstants.{SETS}
+use Rattle.walk_costs.specs.declared.span.DateSpan.{DateSpan}
+
+-- each symbol of a set is in another
+abbrev pub IsHeldBy : ℕ → ℕ → Type 0
+IsHeldBy set other = (n : ℕ) → has_bit (index_of set) n ≡ true → has_bit other n ≡ true
+
+-- The sets hold what the date tells in each of the runs. They tell nothing of the seconds that the station gives up for its call
+-- sign, nor of those that the time of day tells.
+pub record HoldsDates (parts : PartTable) (station : Station) (span : DateSpan) : Type 0 where
+  pub within : span.to ≤ length parts.runs
+  pub small : (s : ℕ) → s < SECONDS_PER_MINUTE → slice_index span.dates s < SETS
+  pub given : (s : ℕ) → s < SECONDS_PER_MINUTE → is_given_up station s ≡ true → slice_index span.dates s ≡ 0
+  pub timed : (s : ℕ) → s < SECONDS_PER_MINUTE → is_given_up station s ≡ false → is_time_second station s ≡ true → slice_index span.dates s ≡ 0
+  pub each : (i s : ℕ) → span.from ≤ i → i < span.to → s < SECONDS_PER_MINUTE → is_given_up station s ≡ false
+      → IsHeldBy (slice_index (part_where false (run_at parts.runs i)) s) (slice_index span.dates s)
