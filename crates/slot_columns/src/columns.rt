@@ -129,8 +129,8 @@ impl SlotColumns {
         self.layered_cost(p, part, part)
     }
 
-    /// What a part costs at the least that carries in each second what one of two others does, where each minute of the walk carries
-    /// it.
+    /// What a part costs at the least that carries in each second what one of two others does, where each minute of the
+    /// walk carries it.
     pub fn least_of_either(&self, p: u8, one: &Part, other: &Part) -> u32
         requires { p < SECONDS_PER_MINUTE }
         ensures least { IsLeastOfEither self.now p one.now other.now result }

@@ -1,8 +1,8 @@
 //! What the dates of many runs tell together, as those of a year, and what walks among these runs cost at the least: one look at a
 //! year where its days would take one each.
 //!
-//! The year is mostly told by seconds of its own. So it costs what it does. Each other second of the date mostly has one of two symbols,
-//! and a walk that stays in one run has the same in all its minutes: it costs there what the cheaper of the two costs in all of them.
+//! The year is mostly told by seconds of its own. So it costs what it does. Each other second of the date mostly has one of two
+//! symbols, and a walk that stays in one run has the same in all its minutes: it costs there what the cheaper of the two does.
 
 ghost use Rattle.std.specs.Prelude.{◌≡◌, ◌+◌, ◌<◌, ◌≤◌, ℕ, All, IfOk, IfSome, OnOk, false, length, slice_index};
 ghost use Rattle.minute_parts.specs.Parts.{IsPartTable};
