@@ -94,7 +94,7 @@ module _ (station : Station) (costs : ℕ → ℕ → ℕ) (n : ℕ) (q : Sequen
       by_second false e = omega arith
 
   -- a sequence costs a station no less than its sets do
-  sets_cost_no_more : sum_below n in_slot ≤ station_cost station costs n q
+  pub sets_cost_no_more : sum_below n in_slot ≤ station_cost station costs n q
   sets_cost_no_more = by_station (has_dut1 station) refl (lies_in_one_day n q)
     where
       by_station : (has : Bool) → has_dut1 station ≡ has → (one : Bool)

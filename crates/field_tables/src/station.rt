@@ -116,7 +116,7 @@ impl<'a> StationSums<'a> {
         Some(sets + walks.added_from(p, first))
     }
 
-    /// Whether it shows the announcement at the station. None of the same sequences at most.
+    /// Whether such a sequence shows the announcement at the station. None of sequences that begin at another time.
     pub fn leap_shows(&self, p: u8, first: u32) -> Option<bool>
         requires second { p < SECONDS_PER_MINUTE }
         requires encoded { first + 1 + later_minutes (length self.now.grid.rows) p ≤ self.now.parts.end }

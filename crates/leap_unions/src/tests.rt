@@ -189,6 +189,20 @@ impl Known {
         let sets = asked.unions(&self.civil, &self.unions, &self.leaps);
         same(sets, asked.walked(&self.civil), self.seconds)
     }
+
+    // What the walks of some minutes carry, by each of them.
+    fn one_by_one(&self, second: u8, from: u32, to: u32) -> Option<Sets>
+        requires { second < 60 }
+    {
+        let mut sets = [0; MOST_SECONDS as usize];
+        for first in from..to {
+            let walk = self.leaps.walk(second, first)?;
+            for slot in 0..self.seconds {
+                sets[slot as usize] |= walk.sets[slot as usize];
+            }
+        }
+        Some(sets)
+    }
 }
 
 // Whether both have the same sets in so many slots.
@@ -219,6 +233,25 @@ fn end_of_2016(rt: HostRuntime) -> Result<(), Fail> {
             known.is_right(second, YEAR_2017 - 20, YEAR_2017 - 1),
             "{second}"
         );
+    }
+    Ok(())
+}
+
+// The walks of the last 21 minutes are kept, each of them and all together, and none of the minute before these.
+#[test]
+fn walks_before_2017(rt: HostRuntime) -> Result<(), Fail> {
+    let known = Known::make(&rt, Station::Dcf77, 1200)?;
+    for second in [0, 13, 59] {
+        let together = known
+            .leaps
+            .walks_together(second, YEAR_2017 - 21, YEAR_2017);
+        assert!(rt; together.is_some(), "{second}");
+        let each = known.one_by_one(second, YEAR_2017 - 21, YEAR_2017);
+        assert!(rt; same(together, each, 1200), "{second}");
+        let more = known
+            .leaps
+            .walks_together(second, YEAR_2017 - 22, YEAR_2017);
+        assert!(rt; more.is_none(), "{second}");
     }
     Ok(())
 }

@@ -2,6 +2,7 @@ pub mod ColumnLaws
 pub mod GroupLaws
 pub mod HourLaws
 pub mod LayerLaws
+pub mod LesserLaws
 pub mod MarkLaws
 pub mod MinuteLaws
 pub mod PlaceLaws

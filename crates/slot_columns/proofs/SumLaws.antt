@@ -52,3 +52,9 @@ sum_by_rows zero f = refl
 sum_by_rows (suc m) f =
     let longer : 60 * suc m ≡ 60 * m + 60 = omega arith in
     ap (λ n. sum_below n f) longer ∙ sum_in_two (60 * m) 60 f ∙ ap (λ c. c + sum_below 60 (λ s. f (60 * m + s))) (sum_by_rows m f)
+
+-- a sum of lesser terms
+pub sum_of_less : (n : ℕ) (f g : ℕ → ℕ) → ((k : ℕ) → k < n → f k ≤ g k) → sum_below n f ≤ sum_below n g
+unfolding sum_below
+sum_of_less zero f g less = omega arith
+sum_of_less (suc n) f g less = omega (arith, sum_of_less n f g (λ k h. less k (omega arith)), less n (omega arith))

@@ -2,7 +2,7 @@
 -- below 60, of its minute 0, so slot k is second (p + k) mod 60 of walk minute (p + k) div 60.
 -- What minutes carry is given in parts. A part has a set for each of the 60 seconds. The set without symbols, 0, is for
 -- a second of which the part says nothing, and costs nothing.
-use Rattle.std.specs.Prelude.{ℕ, ◌≡◌, ◌+◌, ◌*◌, ◌/◌, ◌%◌, ◌<◌, ◌≤◌, ◌==◌, nat_lt, if◌then◌else◌, List, [], length, slice_index, slice_index_or}
+use Rattle.std.specs.Prelude.{ℕ, ◌≡◌, ◌⊎◌, ◌+◌, ◌*◌, ◌/◌, ◌%◌, ◌<◌, ◌≤◌, ◌==◌, nat_lt, if◌then◌else◌, List, [], length, slice_index, slice_index_or}
 use Rattle.signal_base.specs.declared.station.Station.{Station}
 use Rattle.definitions.specs.time.Calendar.{minutes_per_day}
 use Rattle.definitions.specs.heard.Costs.{set_cost, sum_below}
@@ -23,6 +23,19 @@ layered_set p first rest k =
 -- what these sets cost a station over n slots
 abbrev pub layered_cost : Station → (ℕ → ℕ → ℕ) → ℕ → ℕ → List ℕ → List ℕ → ℕ
 layered_cost station costs n p first rest = sum_below n (λ k. set_cost station (costs k) (layered_set p first rest k))
+
+-- each second of a part carries what it does in one of two others
+abbrev pub IsOfEither : List ℕ → List ℕ → List ℕ → Type 0
+IsOfEither one other part =
+    (s : ℕ) → s < SECONDS_PER_MINUTE → (slice_index part s ≡ slice_index one s) ⊎ (slice_index part s ≡ slice_index other s)
+
+-- the least that such a part costs where each minute of the walk carries it
+pub record IsLeastOfEither (grid : Grid) (p : ℕ) (one other : List ℕ) (cost : ℕ) : Type 0 where
+  pub floor : (part : List ℕ) → IsOfEither one other part
+      → cost ≤ layered_cost grid.station (cost_at grid.rows) (length grid.rows) p part part
+  pub part : List ℕ
+  pub of_either : IsOfEither one other part
+  pub costs : cost ≡ layered_cost grid.station (cost_at grid.rows) (length grid.rows) p part part
 
 -- the set of slot k where the first b minutes of the walk carry one part, and each later minute another
 abbrev pub split_set : ℕ → ℕ → List ℕ → List ℕ → ℕ → ℕ

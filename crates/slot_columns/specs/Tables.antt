@@ -1,5 +1,5 @@
 -- The tables of a window's slots: what sets cost in walk minute 0, and in all later minutes together.
-use Rattle.std.specs.Prelude.{ℕ, ◌≡◌, ◌+◌, ◌*◌, ◌-◌, ◌/◌, ◌%◌, ◌<◌, ◌&&◌, nat_le, nat_lt, if◌then◌else◌, List, length, slice_index}
+use Rattle.std.specs.Prelude.{ℕ, ◌≡◌, ◌+◌, ◌*◌, ◌-◌, ◌/◌, ◌%◌, ◌<◌, ◌&&◌, nat_le, nat_lt, min, if◌then◌else◌, List, length, slice_index}
 use Rattle.definitions.specs.heard.Costs.{sum_below}
 use Rattle.symbol_cost.specs.Grid.{Grid}
 use Rattle.slot_columns.specs.Parts.{entry}
@@ -42,3 +42,10 @@ column_cost first later p in_first in_later s =
 -- and what those of all its seconds have
 abbrev pub columns_cost : List (List ℕ) → List (List ℕ) → ℕ → List ℕ → List ℕ → ℕ
 columns_cost first later p in_first in_later = sum_below SECONDS_PER_MINUTE (column_cost first later p in_first in_later)
+
+-- The lesser of what two parts cost there in all minutes, and that of all seconds.
+abbrev pub lesser_column : List (List ℕ) → List (List ℕ) → ℕ → List ℕ → List ℕ → ℕ → ℕ
+lesser_column first later p one other s = min (column_cost first later p one one s) (column_cost first later p other other s)
+
+abbrev pub lesser_cost : List (List ℕ) → List (List ℕ) → ℕ → List ℕ → List ℕ → ℕ
+lesser_cost first later p one other = sum_below SECONDS_PER_MINUTE (lesser_column first later p one other)

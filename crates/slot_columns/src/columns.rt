@@ -5,12 +5,12 @@ ghost use Rattle.signal_base.specs.declared.limits.TheConstants.{MOST_RECEIVERS,
 ghost use Rattle.definitions.specs.heard.Costs.{set_cost};
 ghost use Rattle.symbol_cost.specs.Grid.{HasCosts, cost_at};
 ghost use Rattle.symbol_cost.specs.declared.limits.TheConstants.{RECEIVER_COST};
-ghost use Rattle.slot_columns.specs.Parts.{layered_cost, minute_cost, most_cost, sets_cost};
+ghost use Rattle.slot_columns.specs.Parts.{IsLeastOfEither, layered_cost, minute_cost, most_cost, sets_cost};
 
 use crate::limits::SECONDS_PER_MINUTE;
 use crate::part::Part;
 use crate::slots::{Row, SlotCosts};
-use crate::tables::{first_columns, later_columns, sum_of_columns};
+use crate::tables::{first_columns, later_columns, sum_of_columns, sum_of_lesser};
 use signal_base::{MOST_RECEIVERS, MOST_SECONDS, Station};
 use std::alloc::{AllocError, Global};
 use std::marker::Model;
@@ -127,6 +127,16 @@ impl SlotColumns {
         ensures bound { result ≤ most_cost self.now }
     {
         self.layered_cost(p, part, part)
+    }
+
+    /// What a part costs at the least that carries in each second what one of two others does, where each minute of the
+    /// walk carries it.
+    pub fn least_of_either(&self, p: u8, one: &Part, other: &Part) -> u32
+        requires { p < SECONDS_PER_MINUTE }
+        ensures least { IsLeastOfEither self.now p one.now other.now result }
+        ensures bound { result ≤ most_cost self.now }
+    {
+        sum_of_lesser(&self.first, &self.later, p as usize, one, other)
     }
 
     /// What the part costs in walk minute `m` alone: in those slots of the window that lie in it. It is at most 200,000

@@ -1,10 +1,12 @@
 //! The tables: what each set costs in each second of walk minute 0, and in that second of all later minutes together.
 
-ghost use Rattle.std.specs.Prelude.{◌≡◌, ◌+◌, ◌*◌, ◌<◌, ◌≤◌, ◌^◌, ℕ, IfOk, false, length, slice_index};
+ghost use Rattle.std.specs.Prelude.{◌≡◌, ◌+◌, ◌*◌, ◌<◌, ◌≤◌, ◌^◌, ℕ, IfOk, false, length, min, slice_index};
 ghost use Rattle.signal_base.specs.declared.limits.TheConstants.{MOST_RECEIVERS};
 ghost use Rattle.symbol_cost.specs.declared.limits.TheConstants.{RECEIVER_COST};
 ghost use Rattle.slot_columns.specs.declared.limits.TheConstants.{COLUMNS};
-ghost use Rattle.slot_columns.specs.Tables.{AreColumns, at_place, columns_cost, in_first, in_later};
+ghost use Rattle.slot_columns.specs.Layered.{HaveRoom};
+ghost use Rattle.slot_columns.specs.Rows.{index_of};
+ghost use Rattle.slot_columns.specs.Tables.{AreColumns, at_place, columns_cost, in_first, in_later, lesser_cost};
 
 use crate::limits::{COLUMNS, LATER_MINUTES, SECONDS_PER_MINUTE, SETS};
 use crate::part::Part;
@@ -98,4 +100,31 @@ pub fn sum_of_columns(
         cost += first[begin + s][index_of(in_first[s])] + later[begin + s][index_of(in_later[s])];
     }
     cost
+}
+
+/// Sums the columns of first second `p`: of each second the lesser of what two parts cost there in all minutes.
+pub fn sum_of_lesser(first: &[Row], later: &[Row], p: usize, one: &Part, other: &Part) -> u32
+    requires first { length first.now ≡ COLUMNS }
+    requires later { length later.now ≡ COLUMNS }
+    requires second { p < SECONDS_PER_MINUTE }
+    requires rows { HaveRoom first.now later.now }
+    requires room { lesser_cost first.now later.now p one.now other.now < 2 ^ 32 }
+    ensures { result ≡ lesser_cost first.now later.now p one.now other.now }
+{
+    let begin = SECONDS_PER_MINUTE * p;
+    let mut cost = 0;
+    for s in 0..SECONDS_PER_MINUTE {
+        cost += lesser_of(&first[begin + s], &later[begin + s], one[s], other[s]);
+    }
+    cost
+}
+
+// What the cheaper of two sets costs in two rows together.
+fn lesser_of(first: &Row, later: &Row, one: u8, other: u8) -> u32
+    requires { (set : ℕ) → set < SETS → slice_index first.now set + slice_index later.now set < 2 ^ 32 }
+    ensures { result ≡ min (slice_index first.now (index_of one) + slice_index later.now (index_of one)) (slice_index first.now (index_of other) + slice_index later.now (index_of other)) }
+{
+    let one = index_of(one);
+    let other = index_of(other);
+    (first[one] + later[one]).min(first[other] + later[other])
 }

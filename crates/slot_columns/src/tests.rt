@@ -72,6 +72,16 @@ fn adds_up_parts(rt: HostRuntime) -> Result<(), Fail> {
     assert_eq!(rt; columns.layered_cost(59, &zeros, &fours), 110 + 3 * 150);
     assert_eq!(rt; columns.layered_cost(0, &zeros, &fours), 2 * 110 + 2 * 150);
 
+    // Second 59 carries 3 or 4 in both minutes, and each other second 0 or 4.
+    let mut one: Part = [1; 60];
+    let mut other: Part = [16; 60];
+    one[59] = 16;
+    other[59] = 8;
+    assert_eq!(rt;
+        columns.least_of_either(59, &one, &other),
+        2 * 130 + 2 * 110
+    );
+
     let mut part: Part = [0; 60];
     part[0] = 8;
     part[1] = 255;

@@ -8,3 +8,4 @@ pub mod Changes
 pub mod Overs
 pub mod Spans
 pub mod Near
+pub mod Seen

@@ -1,7 +1,8 @@
 //! What the dates of many runs tell together, as those of a year, and what walks among these runs cost at the least: one look at a
 //! year where its days would take one each.
 //!
-//! The year is mostly told by seconds of its own. So it costs what it does, and each other second of the date what costs least.
+//! The year is mostly told by seconds of its own. So it costs what it does. Each other second of the date mostly has one of two
+//! symbols, and a walk that stays in one run has the same in all its minutes: it costs there what the cheaper of the two does.
 
 ghost use Rattle.std.specs.Prelude.{◌≡◌, ◌+◌, ◌<◌, ◌≤◌, ℕ, All, IfOk, IfSome, OnOk, false, length, slice_index};
 ghost use Rattle.minute_parts.specs.Parts.{IsPartTable};
@@ -9,6 +10,7 @@ ghost use Rattle.slot_columns.specs.Layered.{together};
 ghost use Rattle.slot_columns.specs.Parts.{most_cost};
 ghost use Rattle.slot_columns.specs.Rows.{index_of};
 ghost use Rattle.walk_costs.specs.Near.{AreSpanCosts, StaysNear};
+ghost use Rattle.walk_costs.specs.Seen.{first_set, first_told, other_set, told_else};
 ghost use Rattle.walk_costs.specs.Spans.{HoldsDates};
 ghost use Rattle.walk_costs.specs.Walks.{cost_of};
 
@@ -30,6 +32,10 @@ pub struct DateSpan {
     pub to: usize,
     /// Sets that hold what each of them tells.
     pub dates: Part,
+    /// What the first of them tells, second by second.
+    pub one: Part,
+    /// Sets that hold what each of them tells else; where they tell nothing else, the same.
+    pub other: Part,
 }
 
 /// What that costs in the walks from one second.
@@ -43,6 +49,8 @@ pub struct SpanCosts {
     pub to: usize,
     /// No date of these runs costs less.
     pub cost: u32,
+    /// Nor do two of them cost less than this, one in the first minutes of a walk and the other in the later ones.
+    pub across: u32,
 }
 
 /// The runs of each year of the encoded local time.
@@ -72,11 +80,15 @@ fn year_of(run: &Run) -> u64 {
 fn none_from(run: usize) -> DateSpan
     ensures bounds { (result.from ≡ run) × (result.to ≡ run) }
     ensures dates { (s : ℕ) → slice_index result.dates s ≡ 0 }
+    ensures one { (s : ℕ) → slice_index result.one s ≡ 0 }
+    ensures other { (s : ℕ) → slice_index result.other s ≡ 0 }
 {
     DateSpan {
         from: run,
         to: run,
         dates: nothing(),
+        one: nothing(),
+        other: nothing(),
     }
 }
 
@@ -118,10 +130,54 @@ fn with_run(span: &DateSpan, parts: &Parts, station: Station, run: usize) -> Dat
     // The next run's number fits, as the count of runs does.
     parts.runs();
     let told = kept(station, parts.run(run).date_part(false));
+    let one = first_told(&span.one, &told);
     DateSpan {
         from: span.from,
         to: run + 1,
         dates: together(&span.dates, &told),
+        one,
+        other: told_else(&one, &span.other, &told),
+    }
+}
+
+// The sets that were told first: those of a date in the seconds of which nothing was told yet.
+fn first_told(one: &Part, told: &Part) -> Part
+    ensures { result ≡ first_told one.now told.now }
+{
+    let mut part = nothing();
+    for s in 0..SECONDS_PER_MINUTE {
+        part[s] = first_set(one[s], scored(told[s]));
+    }
+    part
+}
+
+fn first_set(one: u8, told: u8) -> u8
+    ensures { result ≡ first_set one told }
+{
+    if one == 0 { told } else { one }
+}
+
+// The sets that were told else, with those of a date in the seconds in which it isn't held by the first. Where nothing else was told
+// yet, these are the first.
+fn told_else(one: &Part, other: &Part, told: &Part) -> Part
+    ensures { result ≡ told_else one.now other.now told.now }
+{
+    let mut part = nothing();
+    for s in 0..SECONDS_PER_MINUTE {
+        part[s] = other_set(one[s], other[s], scored(told[s]));
+    }
+    part
+}
+
+fn other_set(one: u8, other: u8, told: u8) -> u8
+    ensures { result ≡ other_set one other told }
+{
+    if one | told == one {
+        first_set(other, one)
+    } else if other == one {
+        told
+    } else {
+        other | told
     }
 }
 
@@ -157,7 +213,8 @@ impl StationWalks<'_> {
                     second: p,
                     from: span.from,
                     to: span.to,
-                    cost: self.columns.part_cost(p, &span.dates),
+                    cost: self.columns.least_of_either(p, &span.one, &span.other),
+                    across: self.columns.part_cost(p, &span.dates),
                 });
             }
         }
@@ -177,6 +234,9 @@ impl StationWalks<'_> {
     {
         let inside = self.least.inside.at(false, costs.second, run);
         let across = self.least.across.at(false, costs.second, run);
-        costs.cost + inside.min(across)
+        // Where no walk stays, or none goes on, that sum may be too large.
+        let staying = costs.cost.saturating_add(inside);
+        let going_on = costs.across.saturating_add(across);
+        staying.min(going_on)
     }
 }

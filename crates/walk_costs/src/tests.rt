@@ -1,6 +1,6 @@
 //! Walks of which four seconds are known, whose costs were worked out by hand.
 
-ghost use Rattle.std.specs.Prelude.{◌≡◌, ◌≤◌, IfOk, false};
+ghost use Rattle.std.specs.Prelude.{◌≡◌, ◌≤◌, IfOk, false, length};
 ghost use Rattle.signal_base.specs.Limits.{IsPriced};
 ghost use Rattle.signal_base.specs.declared.limits.TheConstants.{MOST_COST};
 ghost use Rattle.walk_costs.specs.Walks.{IsRegularIn};
@@ -32,11 +32,12 @@ fn table(low: u8, high: u8) -> CostTable
 // The slots 0, 2, 60 and 61 are known, and the others cost nothing.
 const SOME_SLOTS: &[u8] = b"0 H\n1000 X\n2000 H\n3000 X\n60000 H\n62000 H\n";
 
-fn grid(alloc: Global, station: Station, table: &CostTable) -> Result<CostGrid, Fail>
-    requires { IsPriced table.now }
+fn grid(alloc: Global, station: Station, table: &CostTable, pulses: &[u8]) -> Result<CostGrid, Fail>
+    requires priced { IsPriced table.now }
+    requires short { length pulses.now ≤ 1000 }
     ensures { IfOk result (λ grid. grid.station ≡ station) }
 {
-    let log = read_log(alloc, SOME_SLOTS)?;
+    let log = read_log(alloc, pulses)?;
     let tuning = Tuning {
         delay: 0,
         weight: 1,
@@ -54,7 +55,7 @@ fn walks<'a>(
     requires priced { IsPriced table.now }
     requires station { unions.now.station ≡ station }
 {
-    let walks = StationWalks::make(alloc, unions, &grid(alloc, station, table)?)?;
+    let walks = StationWalks::make(alloc, unions, &grid(alloc, station, table, SOME_SLOTS)?)?;
     Ok(walks)
 }
 
@@ -334,6 +335,50 @@ fn floor(walks: &StationWalks, p: u8, t: u32) -> Option<u32> {
         return None;
     }
     Some(walks.least_in(false, p, run, lo, end - later))
+}
+
+// Four seconds of DCF77: the slots 0, 14 and 53 tell 1, and the slot 60 tells 0.
+const TOLD: &[u8] =
+    b"0 L\n200 H\n1000 X\n14000 L\n14200 H\n15000 X\n53000 L\n53200 H\n54000 X\n60000 L\n60100 H\n61000 X\n";
+
+// From second 36 on the slots 0 and 60 are the lowest bit of the day of the month in two minutes, the slot 53 is that of the hour in
+// the second of them, and the slot 14 is that of the year, which all dates of 2024 tell as 0: 100 milliseconds differ. A date tells
+// the bit of its day twice, so as many do, and in an odd hour no more. A walk into the next day tells the hour 0, so as many do.
+#[test]
+fn the_floor_of_a_year_is_what_its_dates_cost(rt: HostRuntime) -> Result<(), Fail> {
+    let civil = Civil::make(rt.alloc())?;
+    let unions = Unions::make(rt.alloc(), Parts::make(rt.alloc(), &civil, Station::Dcf77)?)?;
+    let grid = grid(rt.alloc(), Station::Dcf77, &CostTable::default(), TOLD)?;
+    let walks = StationWalks::make(rt.alloc(), &unions, &grid)?;
+    for day in 0..3 {
+        let minute = CALL + 1440 * day;
+        assert_eq!(rt; floor_of_year(&walks, 36, minute), Some(200), "at {minute}");
+        assert_eq!(rt;
+            cheapest(&walks, &civil, 36, minute),
+            Some(200),
+            "at {minute}"
+        );
+    }
+    Ok(())
+}
+
+// What no walk that lies in the run of the minute costs less than, by the dates of its year.
+fn floor_of_year(walks: &StationWalks, p: u8, t: u32) -> Option<u32> {
+    let parts = walks.parts();
+    if p as usize >= SECONDS_PER_MINUTE || t >= parts.end() {
+        return None;
+    }
+    let run = parts.run_of(t);
+    let lo = parts.run(run).first;
+    let end = parts.run_end(run);
+    let later = walks.later_minutes(p);
+    let costs = walks.span_costs(p, run)?;
+    // The next run's number fits, as the count of runs does.
+    parts.runs();
+    if end - lo <= later || run < costs.from || run + 1 >= costs.to {
+        return None;
+    }
+    Some(walks.least_near(&costs, run, lo, end - later))
 }
 
 // What its cheapest walk costs.

@@ -1,4 +1,4 @@
-use Rattle.std.proofs.Common.{ℕ, get_or, arith}
+use Rattle.std.proofs.Common.{arith}
 use Rattle.signal_base.proofs.Made.{made_by}
 use Rattle.slot_columns.specs.Layered.{places_together, together}
 use Rattle.walk_costs.proofs.span.together.Goals as goal

@@ -8,8 +8,8 @@ use Rattle.walk_costs.specs.Walks.{ArePriced, IsRegularIn, MayAdd, PricedParts, 
 use Rattle.walk_costs.proofs.CrossingLaws.{begun, front, front_few, two_runs}
 use Rattle.walk_costs.proofs.FloorLaws.{no_more}
 use Rattle.walk_costs.proofs.NeighbourLaws.{floor}
-use Rattle.walk_costs.proofs.SpanLaws.{hold_two}
-use Rattle.walk_costs.proofs.WalkLaws.{most_fits, one_run}
+use Rattle.walk_costs.proofs.SpanLaws.{chosen, hold_chosen, hold_two, of_either}
+use Rattle.walk_costs.proofs.WalkLaws.{one_run}
 use Rattle.walk_costs.proofs.walks.StationWalks.least_near.Goals as goal
 use Rattle.walk_costs.proofs.walks.StationWalks.least_near.Goals.{After-min}
 
@@ -32,7 +32,7 @@ in_either i m false = inr refl
 
 -- a walk that lies in the run costs no less, and no more than the slots can
 staying : (c : After-min) (t0 : ℕ) → IsRegularIn c.args.self.now false c.args.costs.now.second t0 c.args.run
-    → (c.args.costs.now.cost + c.min.result ≤ cost_of c.args.self.now false c.args.costs.now.second t0)
+    → (c.min.result ≤ cost_of c.args.self.now false c.args.costs.now.second t0)
     × (cost_of c.args.self.now false c.args.costs.now.second t0 ≤ most_cost c.args.self.now.grid)
 staying c t0 regular =
     let w = c.args.self.now in
@@ -43,17 +43,21 @@ staying c t0 regular =
     let is_run = regular.begins.is_run in
     let shift : ℕ = (run_at w.parts.runs i).shift in
     let u : ℕ = (t0 + shift) % 1440 in
-    let held = hold_two w.parts w.grid.station costs.span i i costs.holds (omega (arith, c.requires.run.0, costs.from)) (omega (arith, c.requires.run.1, costs.to))
-    (omega (arith, c.requires.run.0, costs.from)) (omega (arith, c.requires.run.1, costs.to)) in
-    let found = floor w own.walks own.added (priced c) false p i i regular.second is_run is_run costs.span.dates held t0 shift (λ m. i)
+    let from : costs.span.from ≤ i = omega (arith, c.requires.run.0, costs.from) in
+    let to : i < costs.span.to = omega (arith, c.requires.run.1, costs.to) in
+    let sets = chosen w.parts w.grid.station costs.span i costs.holds from to in
+    let found = floor w own.walks own.added (priced c) false p i i regular.second is_run is_run sets
+    (hold_chosen w.parts w.grid.station costs.span i costs.holds from to) t0 shift (λ m. i)
     (one_run w own.walks own.added (priced c) false p t0 i regular) (λ m. inl refl) 0 (none_added w p t0) in (
       omega (
         arith,
-        costs.cost,
+        costs.cost.floor sets (of_either w.parts w.grid.station costs.span i costs.holds from to),
         c.at-inside.ensures,
+        c.saturating_add-staying.ensures,
+        min-le_left (c.args.costs.now.cost + c.at-inside.result) 4_294_967_295,
         c.min.ensures,
-        min-le_left c.at-inside.result c.at-across.result,
-        no_more w own.walks own.added (priced c) false false p i regular.second is_run is_run own.least.inside (inside c) costs.span.dates u (omega arith)
+        min-le_left c.saturating_add-staying.result c.saturating_add-going_on.result,
+        no_more w own.walks own.added (priced c) false false p i regular.second is_run is_run own.least.inside (inside c) sets u (omega arith)
             (1439 - u, omega arith, omega arith),
         found.0,
       ),
@@ -62,7 +66,7 @@ staying c t0 regular =
 
 -- nor does one that goes on to the next
 leaving : (c : After-min) (t0 : ℕ) → IsAcross c.args.self.now false c.args.costs.now.second t0 c.args.run
-    → (c.args.costs.now.cost + c.min.result ≤ cost_of c.args.self.now false c.args.costs.now.second t0)
+    → (c.min.result ≤ cost_of c.args.self.now false c.args.costs.now.second t0)
     × (cost_of c.args.self.now false c.args.costs.now.second t0 ≤ most_cost c.args.self.now.grid)
 leaving c t0 goes_on =
     let w = c.args.self.now in
@@ -86,10 +90,12 @@ leaving c t0 goes_on =
     0 (none_added w p t0) in (
       omega (
         arith,
-        costs.cost,
+        costs.across,
         c.at-across.ensures,
+        c.saturating_add-going_on.ensures,
+        min-le_left (c.args.costs.now.across + c.at-across.result) 4_294_967_295,
         c.min.ensures,
-        min-le_right c.at-inside.result c.at-across.result,
+        min-le_right c.saturating_add-staying.result c.saturating_add-going_on.result,
         no_more w own.walks own.added (priced c) true false p i goes_on.second is_run is_next own.least.across (across c) costs.span.dates u (omega arith)
             (end - 1 - t0, omega (arith, before, few), omega (arith, before, few, (priced c).short, goes_on.second)),
         found.0,
@@ -99,20 +105,15 @@ leaving c t0 goes_on =
 
 -- none of the walks costs less
 each : (c : After-min) (t0 : ℕ) → c.args.lo ≤ t0 → t0 < c.args.hi
-    → (c.args.costs.now.cost + c.min.result ≤ cost_of c.args.self.now false c.args.costs.now.second t0)
+    → (c.min.result ≤ cost_of c.args.self.now false c.args.costs.now.second t0)
     × (cost_of c.args.self.now false c.args.costs.now.second t0 ≤ most_cost c.args.self.now.grid)
 each c t0 ge lt = elim (c.requires.walks t0 ge lt) [
   | inl regular ↦ staying c t0 regular
   | inr goes_on ↦ leaving c t0 goes_on
 ]
 
-fits : (c : After-min) → c.args.costs.now.cost + c.min.result ≤ most_cost c.args.self.now.grid
+fits : (c : After-min) → c.min.result ≤ most_cost c.args.self.now.grid
 fits c = let first = each c c.args.lo (omega arith) c.requires.some in omega (arith, first.0, first.1)
-
-pub overflow_add-result : goal.overflow_add-result
-overflow_add-result c =
-    let known = (goal.at.overflow_add-result c).After-min in
-    omega (arith, fits known, most_fits c.args.self.now known.self.inside.walks known.self.inside.added (priced known))
 
 pub returns-clause-floor : goal.returns-clause-floor
 returns-clause-floor c = λ t0 ge lt. (each (goal.at.returns-clause-floor c).After-min t0 ge lt).0
