@@ -1,11 +1,7 @@
 //! The program as one call over files: what is printed is what is due.
 #![tactic(auto)]
 
-#[cfg(test)]
-mod bank_tests;
 mod certificate_gate;
-#[cfg(test)]
-mod certificate_tests;
 mod certify;
 mod command;
 mod decoding;
@@ -18,11 +14,7 @@ mod job;
 mod loading;
 mod order;
 mod program;
-#[cfg(test)]
-mod station_tests;
 mod stop;
-#[cfg(test)]
-mod tests;
 mod trial;
 mod words;
 

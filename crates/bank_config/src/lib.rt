@@ -4,15 +4,11 @@
 mod config;
 mod examples;
 mod fault;
-#[cfg(test)]
-mod fault_tests;
 mod limits;
 mod lists;
 mod places;
 mod read;
 mod tables;
-#[cfg(test)]
-mod tests;
 mod values;
 
 pub use config::{Config, Receiver};

@@ -7,8 +7,6 @@ mod numbers;
 mod order;
 mod read;
 mod table;
-#[cfg(test)]
-mod tests;
 mod values;
 
 pub use formats::{Asked, OptionName, WordFault};

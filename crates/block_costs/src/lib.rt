@@ -6,8 +6,6 @@ mod blocks;
 mod kept;
 mod local_hours;
 mod sequences;
-#[cfg(test)]
-mod tests;
 mod unkept;
 mod walks;
 

@@ -4,8 +4,6 @@
 mod fault;
 mod line;
 mod read;
-#[cfg(test)]
-mod tests;
 
 pub use board_due::{MOST_QUERIES, QUERIES_LIMIT, QUERY_LIMIT};
 pub use fault::QueryFault;

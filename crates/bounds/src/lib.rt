@@ -9,8 +9,6 @@ mod least;
 mod parts;
 mod ranking;
 mod rows;
-#[cfg(test)]
-mod tests;
 mod years;
 
 pub use definitions::{Block, Span};

@@ -12,8 +12,6 @@ mod judging;
 mod kept;
 mod laws;
 mod outcome;
-#[cfg(test)]
-mod tests;
 mod text;
 mod text_fault;
 mod whole;

@@ -10,8 +10,6 @@ mod pieces;
 mod place;
 mod reader;
 mod step;
-#[cfg(test)]
-mod tests;
 
 pub use entry::told_in;
 pub use laws::whole_texts_are_certificates;

@@ -3,8 +3,6 @@
 #![tactic(auto)]
 
 mod pending;
-#[cfg(test)]
-mod tests;
 mod walk;
 mod write;
 

@@ -8,8 +8,6 @@ mod deliver;
 mod fault_line;
 mod find;
 mod reading;
-#[cfg(test)]
-mod tests;
 mod told;
 mod window;
 mod words;

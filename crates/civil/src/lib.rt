@@ -12,8 +12,6 @@ ghost use Rattle.civil.specs.declared.days.TheConstants.{TABLE_DAYS};
 mod days;
 mod parse;
 mod summer;
-#[cfg(test)]
-mod tests;
 
 use crate::days::{Entry, TABLE_DAYS, table};
 pub use crate::parse::{parse_day, parse_minute};

@@ -1,14 +1,13 @@
 //! What the sequences of many days cost a station at the least, where they announce no leap second: of a year by what its dates tell
 //! together, and day by day only where that doesn't do.
 
-ghost use Rattle.std.specs.Prelude.{ℕ, ◌≡◌, ◌+◌, ◌<◌, ◌≤◌, IfSome, false, length, true};
+ghost use Rattle.std.specs.Prelude.{◌≡◌, ◌+◌, ◌<◌, ◌≤◌, IfSome, false, length};
 ghost use Rattle.minute_parts.specs.Parts.{IsInRun};
-ghost use Rattle.minute_parts.specs.Runs.{end_of_run, run_at};
 ghost use Rattle.minute_parts.specs.Unions.{AreRegular};
 ghost use Rattle.minute_parts.specs.Walks.{later_minutes};
 ghost use Rattle.slot_columns.specs.Parts.{most_cost};
 ghost use Rattle.slot_columns.specs.declared.limits.TheConstants.{SECONDS_PER_MINUTE};
-ghost use Rattle.walk_costs.specs.Near.{AreSpanCosts, StaysNear};
+ghost use Rattle.walk_costs.specs.Near.{AreSpanCosts};
 ghost use Rattle.field_tables.specs.Floors.{CostAtLeast};
 
 use crate::station::StationSums;
@@ -29,10 +28,11 @@ impl StationSums<'_> {
     {
         let walks = self.walks();
         let mut near = None;
+        let mut closely = 0;
         let mut floor = u32::MAX;
         let mut t = block.lo;
         while t < block.hi {
-            let piece = piece_of_run(walks, block, t, &mut near, enough);
+            let piece = piece_of_run(walks, block, t, &mut near, &mut closely, enough);
             if piece.floor <= enough {
                 return 0;
             }
@@ -43,13 +43,15 @@ impl StationSums<'_> {
     }
 }
 
-// The piece from the minute `t` on: the rest of its run by what the dates around it tell together, or, where that isn't above `enough`,
-// the next piece of a day. `near` has what was asked last of these dates.
+// The piece from the minute `t` on: the rest of its run, with those that are like it, by what the dates around them tell together, or,
+// where that isn't above `enough`, the next piece of a day. `near` has what was asked last of these dates, and the runs before `closely`
+// are known to want a closer look.
 fn piece_of_run(
     walks: &StationWalks,
     block: &Block,
     t: u32,
     near: &mut Option<SpanCosts>,
+    closely: &mut usize,
     enough: u32,
 ) -> Piece
     requires second { block.now.second < SECONDS_PER_MINUTE }
@@ -66,9 +68,12 @@ fn piece_of_run(
     // What ends before it fits.
     walks.parts().end();
     let run = walks.parts().run_of(t);
+    if run < *closely {
+        return piece_from(walks, block, t, enough);
+    }
     *near = costs_near(walks, block.second, run, *near);
     if let Some(costs) = near {
-        if let Some(piece) = piece_near(walks, block, t, run, costs, enough) {
+        if let Some(piece) = piece_near(walks, block, t, run, costs, closely, enough) {
             return piece;
         }
     }
@@ -94,13 +99,15 @@ fn costs_near(
     walks.span_costs(second, run)
 }
 
-// The piece of the rest of the run, where the dates are known around it and its floor is above `enough`.
+// The piece of the rest of the run and of those that are like it, where the dates are known around them and its floor is above `enough`.
+// Else the runs are told that want a closer look: those before `closely`.
 fn piece_near(
     walks: &StationWalks,
     block: &Block,
     t: u32,
     run: usize,
     costs: &SpanCosts,
+    closely: &mut usize,
     enough: u32,
 ) -> Option<Piece>
     requires unannounced { block.now.announced ≡ false }
@@ -115,42 +122,17 @@ fn piece_near(
     ensures small { IfSome result (λ piece. piece.floor ≤ most_cost walks.now.grid) }
 {
     let parts = walks.parts();
-    // What ends before it fits.
+    // What ends before it fits, and walks go through few minutes.
     parts.end();
-    let end = block.hi.min(parts.run_end(run));
-    if !stays_near(walks, costs, run, end) {
+    walks.later_minutes(costs.second);
+    let near = walks.least_near(costs, run);
+    *closely = near.last;
+    if near.last == run || near.floor <= enough {
         return None;
     }
-    let floor = walks.least_near(costs, run, t, end);
-    if floor <= enough {
-        return None;
-    }
-    Some(Piece { end, floor })
-}
-
-// Whether the walks that begin in a run before the minute `end` end in it or in the next, which encodes the local time alike, and
-// the costs are of both.
-fn stays_near(walks: &StationWalks, costs: &SpanCosts, run: usize, end: u32) -> bool
-    requires run { run < length walks.now.parts.runs }
-    requires costs { AreSpanCosts walks.now costs.now }
-    requires end { end ≤ walks.now.parts.end }
-    ensures span { result ≡ true → (costs.now.from ≤ run) × (run + 1 < costs.now.to) }
-    ensures next { result ≡ true → run + 1 < length walks.now.parts.runs }
-    ensures alike { result ≡ true → (run_at walks.now.parts.runs (run + 1)).shift ≡ (run_at walks.now.parts.runs run).shift }
-    ensures ends { result ≡ true → end + later_minutes (length walks.now.grid.rows) costs.now.second ≤ end_of_run walks.now.parts.runs walks.now.parts.end (run + 1) }
-{
-    let parts = walks.parts();
-    // The next run's number fits, as the count of runs does, and its minutes, as the parts end in the century.
-    parts.runs();
-    parts.end();
-    if run < costs.from {
-        return false;
-    }
-    if costs.to <= run + 1 {
-        return false;
-    }
-    if parts.run(run + 1).shift != parts.run(run).shift {
-        return false;
-    }
-    end + walks.later_minutes(costs.second) <= parts.run_end(run + 1)
+    let end = block.hi.min(parts.run_end(near.last - 1));
+    Some(Piece {
+        end,
+        floor: near.floor,
+    })
 }

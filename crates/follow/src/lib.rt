@@ -5,8 +5,6 @@ mod command;
 mod deliver;
 mod find;
 mod follow_run;
-#[cfg(test)]
-mod tests;
 mod window_gate;
 mod windows;
 mod words;

@@ -6,8 +6,6 @@ mod command;
 mod deliver;
 mod find;
 mod frame_run;
-#[cfg(test)]
-mod tests;
 mod text;
 mod words;
 

@@ -14,8 +14,6 @@ mod receivers;
 mod slots;
 mod sums;
 mod symbols;
-#[cfg(test)]
-mod tests;
 mod told;
 mod values;
 mod words;

@@ -5,8 +5,6 @@ mod edge;
 mod fault;
 mod read;
 mod table;
-#[cfg(test)]
-mod tests;
 mod told;
 mod write;
 

@@ -11,10 +11,6 @@ mod judging;
 mod offsets;
 mod owed;
 mod report;
-#[cfg(test)]
-mod sweep_tests;
-#[cfg(test)]
-mod tests;
 mod words;
 
 pub use judge_run::judge;

@@ -5,8 +5,6 @@ mod keeper;
 mod lists;
 mod recorded;
 mod step;
-#[cfg(test)]
-mod tests;
 
 pub use lists::StepList;
 pub use recorded::{Recorded, decide_recorded, search_recorded, visit_recorded};

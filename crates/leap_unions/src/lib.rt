@@ -9,8 +9,6 @@ mod row_maker;
 mod rows;
 mod sets;
 mod tapes;
-#[cfg(test)]
-mod tests;
 mod together;
 mod unions;
 mod walk;

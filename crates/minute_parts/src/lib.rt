@@ -15,8 +15,6 @@ mod parts;
 mod pieces;
 mod runs;
 mod seconds;
-#[cfg(test)]
-mod tests;
 mod time_unions;
 mod times;
 mod unions;

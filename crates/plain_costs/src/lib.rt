@@ -8,8 +8,6 @@ mod grids;
 mod laws;
 mod plain;
 mod tenths;
-#[cfg(test)]
-mod tests;
 mod unions;
 mod walk;
 

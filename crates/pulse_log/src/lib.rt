@@ -8,8 +8,6 @@ mod log;
 mod look;
 mod read;
 mod tenths;
-#[cfg(test)]
-mod tests;
 
 pub use definitions::Level;
 pub use fault::LogFault;

@@ -48,7 +48,7 @@ set_in_later a b m s lt =
     ap (λ (t : Bool). if t then get_or a i 0 else get_or b (i % 60) 0) (le-ltb i 60 (omega arith)) ∙ ap (λ x. get_or b x 0) second
 
 -- the entry of first second p and second s
-column_at : (columns : List (List ℕ)) (cost : ℕ → ℕ → ℕ → ℕ) → AreColumns columns cost → (p s set : ℕ) → p < 60 → s < 60
+pub column_at : (columns : List (List ℕ)) (cost : ℕ → ℕ → ℕ → ℕ) → AreColumns columns cost → (p s set : ℕ) → p < 60 → s < 60
     → entry columns (60 * p + s) (index_of set) ≡ cost p s (index_of set)
 column_at columns cost are p s set first second =
     let i : ℕ = 60 * p + s in

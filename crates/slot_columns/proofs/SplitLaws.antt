@@ -24,7 +24,7 @@ one_layer p part k = by_test (nat_lt (p + k) 60) refl
     by_test false e = refl
 
 -- terms of two kinds, the one up to, and without, term b
-sum_of_kinds : (n b : ℕ) (f g : ℕ → ℕ) → b ≤ n → sum_below n (λ m. if nat_lt m b then f m else g m) + sum_below b g ≡ sum_below n g + sum_below b f
+pub sum_of_kinds : (n b : ℕ) (f g : ℕ → ℕ) → b ≤ n → sum_below n (λ m. if nat_lt m b then f m else g m) + sum_below b g ≡ sum_below n g + sum_below b f
 sum_of_kinds n b f g le =
     let h = λ (m : ℕ). if nat_lt m b then f m else g m in
     let whole : b + (n - b) ≡ n = omega arith in

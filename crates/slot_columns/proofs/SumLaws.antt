@@ -20,6 +20,13 @@ unfolding sum_below
 sum_after_first zero f = omega arith
 sum_after_first (suc n) f = omega (arith, sum_after_first n f, ap f (add-one n))
 
+-- the next four terms
+pub sum_of_four_more : (i : ℕ) (f : ℕ → ℕ) → sum_below (4 * (i + 1)) f ≡ sum_below (4 * i) f + (f (4 * i) + f (4 * i + 1) + f (4 * i + 2) + f (4 * i + 3))
+unfolding sum_below
+sum_of_four_more i f =
+    let more : 4 * (i + 1) ≡ 4 * i + 4 = omega arith in
+    omega (arith, ap (λ m. sum_below m f) more, sum_in_two (4 * i) 4 f, ap f (add-zero (4 * i)))
+
 -- a sum over some terms is at most one over more
 pub sum_of_fewer : (a n : ℕ) (f : ℕ → ℕ) → a ≤ n → sum_below a f ≤ sum_below n f
 sum_of_fewer a n f le =

@@ -47,6 +47,24 @@ split_set p b before after k =
 abbrev pub split_cost : Station → (ℕ → ℕ → ℕ) → ℕ → ℕ → ℕ → List ℕ → List ℕ → ℕ
 split_cost station costs n p b before after = sum_below n (λ k. set_cost station (costs k) (split_set p b before after k))
 
+-- no walk costs less whose first minutes, one or more, carry one part and whose later minutes another, each of which carries in each
+-- second what one of two others does. One of them costs that, if a minute of the window comes after the first
+pub record IsOfChange (grid : Grid) (p : ℕ) (one other : List ℕ) (cost : ℕ) : Type 0 where
+  pub minutes : ℕ
+  pub some : 1 ≤ minutes
+  pub within : SECONDS_PER_MINUTE * minutes ≤ p + length grid.rows
+  pub before : List ℕ
+  pub before_of : IsOfEither one other before
+  pub after : List ℕ
+  pub after_of : IsOfEither one other after
+  pub costs : cost ≡ split_cost grid.station (cost_at grid.rows) (length grid.rows) p minutes before after
+
+pub record IsLeastOfChange (grid : Grid) (p : ℕ) (one other : List ℕ) (cost : ℕ) : Type 0 where
+  pub floor : (b : ℕ) (before after : List ℕ) → 1 ≤ b → SECONDS_PER_MINUTE * b ≤ p + length grid.rows
+      → IsOfEither one other before → IsOfEither one other after
+      → cost ≤ split_cost grid.station (cost_at grid.rows) (length grid.rows) p b before after
+  pub least : SECONDS_PER_MINUTE ≤ p + length grid.rows → IsOfChange grid p one other cost
+
 -- what a part costs in slot k if that lies in walk minute m
 abbrev pub cost_in_minute : Station → (ℕ → ℕ → ℕ) → ℕ → ℕ → List ℕ → ℕ → ℕ
 cost_in_minute station costs p m part k =

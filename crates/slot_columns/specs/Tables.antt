@@ -5,6 +5,7 @@ use Rattle.symbol_cost.specs.Grid.{Grid}
 use Rattle.slot_columns.specs.Parts.{entry}
 use Rattle.slot_columns.specs.Rows.{IsBounded, cost_in_slot, index_of}
 use Rattle.slot_columns.specs.declared.limits.TheConstants.{COLUMNS, LATER_MINUTES, SECONDS_PER_MINUTE, SETS}
+use Rattle.slot_columns.specs.declared.split.TheConstants.{SPLITS}
 
 -- what a set costs in the slot at place i of a walk that begins in second p: second i mod 60 of walk minute i div 60.
 -- Where there is no slot it costs nothing
@@ -14,6 +15,23 @@ at_place grid p set i = if nat_le p i && nat_lt (i - p) (length grid.rows) then 
 -- what it costs in second s of the walk minutes before minute b
 abbrev pub in_front : Grid → ℕ → ℕ → ℕ → ℕ → ℕ
 in_front grid p s set b = sum_below b (λ m. at_place grid p set (SECONDS_PER_MINUTE * m + s))
+
+-- what it costs there in all minutes, and from minute b on
+abbrev pub in_all : Grid → ℕ → ℕ → ℕ → ℕ
+in_all grid p s set = in_front grid p s set SPLITS
+
+abbrev pub behind : Grid → ℕ → ℕ → ℕ → ℕ → ℕ
+behind grid p s set b = sum_below (SPLITS - b) (λ m. at_place grid p set (SECONDS_PER_MINUTE * (b + m) + s))
+
+-- the lesser of what two sets cost in second s of the minutes before minute b, and that of what they cost there from it on
+abbrev pub lesser_in_change : Grid → ℕ → ℕ → ℕ → ℕ → ℕ → ℕ
+lesser_in_change grid p s one other b =
+    min (in_front grid p s one b) (in_front grid p s other b) + min (behind grid p s one b) (behind grid p s other b)
+
+-- and that of all seconds
+abbrev pub lesser_of_change : Grid → ℕ → List ℕ → List ℕ → ℕ → ℕ
+lesser_of_change grid p one other b =
+    sum_below SECONDS_PER_MINUTE (λ s. lesser_in_change grid p s (slice_index one s) (slice_index other s) b)
 
 -- what it costs in second s of walk minute 0, and of all later minutes together
 abbrev pub in_first : Grid → ℕ → ℕ → ℕ → ℕ

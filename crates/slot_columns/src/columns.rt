@@ -7,9 +7,9 @@ ghost use Rattle.symbol_cost.specs.Grid.{HasCosts, cost_at};
 ghost use Rattle.symbol_cost.specs.declared.limits.TheConstants.{RECEIVER_COST};
 ghost use Rattle.slot_columns.specs.Parts.{IsLeastOfEither, layered_cost, minute_cost, most_cost, sets_cost};
 
-use crate::limits::SECONDS_PER_MINUTE;
+use crate::limits::{SECONDS_PER_MINUTE, SETS};
 use crate::part::Part;
-use crate::slots::{Row, SlotCosts};
+use crate::slots::{Row, SlotCosts, indexes_of};
 use crate::tables::{first_columns, later_columns, sum_of_columns, sum_of_lesser};
 use signal_base::{MOST_RECEIVERS, MOST_SECONDS, Station};
 use std::alloc::{AllocError, Global};
@@ -86,26 +86,37 @@ impl SlotColumns {
         self.slots.cost(slot as usize, set)
     }
 
-    // The same by a look-up, whichever set it is.
+    // What the set at an index costs in a slot.
     #[inline(always)]
-    fn looked_up(&self, slot: u16, set: u8) -> u32
-        requires { slot < length self.now.rows }
-        ensures cost { result ≡ set_cost self.now.station (cost_at self.now.rows slot) set }
+    fn at(&self, slot: u16, index: u8) -> u32
+        requires slot { slot < length self.now.rows }
+        requires index { index < SETS }
+        ensures cost { result ≡ set_cost self.now.station (cost_at self.now.rows slot) index }
         ensures bound { result ≤ self.now.receivers * RECEIVER_COST }
     {
-        self.slots.looked_up(slot as usize, set)
+        self.slots.at(slot as usize, index)
     }
 
-    /// What a set in each slot costs. It is at most 200,000 for each slot and receiver.
+    /// What a set in each slot costs, added up four slots at a time. It is at most 200,000 for each slot and receiver.
     pub fn sets_cost(&self, sets: &[u8; MOST_SECONDS as usize]) -> u32
         ensures cost { result ≡ sets_cost self.now.station (cost_at self.now.rows) (length self.now.rows) sets.now }
         ensures bound { result ≤ most_cost self.now }
     {
         // No columns are made of more, so that no sum is too large.
         prove!(self.receivers() as usize <= MOST_RECEIVERS);
+        let indexes = indexes_of(sets);
+        let seconds = self.seconds();
+        let fours = seconds / 4;
         let mut cost = 0;
-        for slot in 0..self.seconds() {
-            cost += self.looked_up(slot, sets[slot as usize]);
+        for i in 0..fours {
+            let slot = 4 * i;
+            cost += self.at(slot, indexes[slot as usize])
+                + self.at(slot + 1, indexes[slot as usize + 1])
+                + self.at(slot + 2, indexes[slot as usize + 2])
+                + self.at(slot + 3, indexes[slot as usize + 3]);
+        }
+        for slot in 4 * fours..seconds {
+            cost += self.at(slot, indexes[slot as usize]);
         }
         cost
     }

@@ -15,8 +15,6 @@ mod split;
 mod sums;
 mod tables;
 mod terms;
-#[cfg(test)]
-mod tests;
 mod walks;
 
 pub use columns::SlotColumns;

@@ -8,7 +8,7 @@ ghost use Rattle.slot_columns.specs.Parts.{entry};
 ghost use Rattle.slot_columns.specs.Rows.{AreRows, IsBounded, IsRow, cost_in_slot, index_of};
 
 use crate::limits::SETS;
-use signal_base::{Station, UNSCORED};
+use signal_base::{MOST_SECONDS, Station, UNSCORED};
 use std::alloc::{AllocError, Global};
 use std::marker::Model;
 use symbol_cost::CostGrid;
@@ -21,11 +21,28 @@ pub fn index_of(set: u8) -> usize
     ensures index { result ≡ index_of set }
     ensures bound { result < SETS }
 {
-    if set == UNSCORED {
-        0
-    } else {
-        set as usize % SETS
+    byte_index_of(set) as usize
+}
+
+/// The same of each slot's set. LLVM makes sixteen at a time, and copies none where they are asked for.
+#[inline(always)]
+pub fn indexes_of(sets: &[u8; MOST_SECONDS as usize]) -> [u8; MOST_SECONDS as usize]
+    ensures { (k : ℕ) → k < MOST_SECONDS → slice_index result k ≡ index_of (slice_index sets.now k) }
+{
+    let mut indexes = [0; MOST_SECONDS as usize];
+    for k in 0..MOST_SECONDS as usize {
+        indexes[k] = byte_index_of(sets[k]);
     }
+    indexes
+}
+
+// An index as a byte.
+#[inline(always)]
+fn byte_index_of(set: u8) -> u8
+    ensures index { result ≡ index_of set }
+    ensures bound { result < SETS }
+{
+    if set == UNSCORED { 0 } else { set % SETS as u8 }
 }
 
 /// A row of costs of 0.
@@ -109,17 +126,18 @@ impl SlotCosts {
         if set == 0 {
             return 0;
         }
-        self.looked_up(slot, set)
+        self.row(slot)[index_of(set)]
     }
 
-    /// The same, where few sets are 0: that isn't tested.
+    /// What the set at an index costs in a slot.
     #[inline(always)]
-    pub fn looked_up(&self, slot: usize, set: u8) -> u32
-        requires { slot < length self.now.rows }
-        ensures cost { result ≡ cost_in_slot self.now set slot }
+    pub fn at(&self, slot: usize, index: u8) -> u32
+        requires slot { slot < length self.now.rows }
+        requires index { index < SETS }
+        ensures cost { result ≡ cost_in_slot self.now index slot }
         ensures small { result ≤ MOST_RECEIVERS * RECEIVER_COST }
     {
-        self.row(slot)[index_of(set)]
+        self.row(slot)[index as usize]
     }
 }
 

@@ -4,13 +4,13 @@ ghost use Rattle.std.specs.Prelude.{◌≡◌, ◌+◌, ◌*◌, ◌<◌, ◌≤
 ghost use Rattle.signal_base.specs.declared.limits.TheConstants.{MOST_RECEIVERS};
 ghost use Rattle.symbol_cost.specs.Grid.{cost_at};
 ghost use Rattle.symbol_cost.specs.declared.limits.TheConstants.{RECEIVER_COST};
-ghost use Rattle.slot_columns.specs.Parts.{split_cost};
-ghost use Rattle.slot_columns.specs.Tables.{at_place, in_front};
+ghost use Rattle.slot_columns.specs.Parts.{IsLeastOfChange, split_cost};
+ghost use Rattle.slot_columns.specs.Tables.{at_place, in_all, in_front, lesser_in_change};
 
 use crate::columns::SlotColumns;
 use crate::limits::{LATER_MINUTES, SECONDS_PER_MINUTE};
 use crate::part::Part;
-use crate::slots::SlotCosts;
+use crate::slots::{SlotCosts, index_of};
 
 /// A walk has no first minutes that carry the one part, or up to 20 of them.
 pub const SPLITS: usize = LATER_MINUTES + 1;
@@ -32,6 +32,78 @@ impl SlotColumns {
         }
         costs
     }
+
+    /// What a walk from second `p`, below 60, costs at the least whose first minutes, one or more of them, carry one part
+    /// and whose later minutes another, where each of the two has in each second what one of two others does. It is the
+    /// greatest `u32` where no minute of the window comes after the first.
+    pub fn least_of_change(&self, p: u8, one: &Part, other: &Part) -> u32
+        requires { p < SECONDS_PER_MINUTE }
+        ensures { IsLeastOfChange self.now p one.now other.now result }
+    {
+        let p = p as usize;
+        let minutes = (p + self.slots.seconds()) / SECONDS_PER_MINUTE;
+        let mut costs = alike(0);
+        for s in 0..SECONDS_PER_MINUTE {
+            self.add_lesser(&mut costs, p, s, minutes, one[s], other[s]);
+        }
+        least_of_first(&costs, minutes)
+    }
+
+    // Adds to the costs, by how many first minutes there are, what second `s` costs at the least: the lesser of what two
+    // sets cost in these, and the lesser of what they cost in the later minutes.
+    fn add_lesser(
+        &self,
+        costs: &mut SplitCosts,
+        p: usize,
+        s: usize,
+        minutes: usize,
+        one: u8,
+        other: u8,
+    )
+        requires first { p < SECONDS_PER_MINUTE }
+        requires second { s < SECONDS_PER_MINUTE }
+        requires minutes { minutes ≤ LATER_MINUTES }
+        requires room { (b : ℕ) → 1 ≤ b → b ≤ minutes → slice_index costs.old b + lesser_in_change self.now p s one other b < 2 ^ 32 }
+        ensures { (b : ℕ) → 1 ≤ b → b ≤ minutes → slice_index costs.new b ≡ slice_index costs.old b + lesser_in_change self.now p s one other b }
+    {
+        // Dates tell nothing in most seconds.
+        if one | other == 0 {
+            return;
+        }
+        let mut front = (0, 0);
+        let mut behind = (self.in_all(p, s, one), self.in_all(p, s, other));
+        for m in 0..minutes {
+            let place = SECONDS_PER_MINUTE * m + s;
+            let cost = place_cost(&self.slots, p, place, one);
+            let other_cost = place_cost(&self.slots, p, place, other);
+            front = (front.0 + cost, front.1 + other_cost);
+            behind = (behind.0 - cost, behind.1 - other_cost);
+            costs[m + 1] += front.0.min(front.1) + behind.0.min(behind.1);
+        }
+    }
+
+    // What a set costs in second `s` of all minutes.
+    fn in_all(&self, p: usize, s: usize, set: u8) -> u32
+        requires first { p < SECONDS_PER_MINUTE }
+        requires second { s < SECONDS_PER_MINUTE }
+        ensures { result ≡ in_all self.now p s set }
+    {
+        let column = SECONDS_PER_MINUTE * p + s;
+        self.first[column][index_of(set)] + self.later[column][index_of(set)]
+    }
+}
+
+// The least of those for one first minute and for more, up to so many.
+fn least_of_first(costs: &SplitCosts, minutes: usize) -> u32
+    requires { minutes ≤ LATER_MINUTES }
+    ensures least { (b : ℕ) → 1 ≤ b → b ≤ minutes → result ≤ slice_index costs.now b }
+    ensures found { 1 ≤ minutes → (b : ℕ) × (1 ≤ b) × (b ≤ minutes) × (result ≡ slice_index costs.now b) }
+{
+    let mut least = u32::MAX;
+    for b in 1..minutes + 1 {
+        least = least.min(costs[b]);
+    }
+    least
 }
 
 fn alike(cost: u32) -> SplitCosts

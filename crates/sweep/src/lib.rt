@@ -1,8 +1,6 @@
 //! The command `sweep` as one call over files: the answer where the phase is a part of what is asked.
 #![tactic(auto)]
 
-#[cfg(test)]
-mod certificate_tests;
 mod certify;
 mod command;
 mod find;
@@ -11,8 +9,6 @@ mod kept;
 mod phase_gate;
 mod phases;
 mod sweep_run;
-#[cfg(test)]
-mod tests;
 mod turns;
 mod words;
 

@@ -5,8 +5,6 @@ mod grid;
 mod limits;
 mod receivers;
 mod rows;
-#[cfg(test)]
-mod tests;
 
 pub use grid::{CostGrid, GridFault};
 pub use limits::RECEIVER_COST;

@@ -12,8 +12,6 @@ mod page;
 mod pieces;
 mod refusal;
 mod report;
-#[cfg(test)]
-mod tests;
 mod trial;
 
 pub use feed::write_feed;

@@ -6,8 +6,6 @@ mod clean;
 mod laws;
 mod noisy;
 mod symbol;
-#[cfg(test)]
-mod tests;
 mod text;
 mod trial;
 

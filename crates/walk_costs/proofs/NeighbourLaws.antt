@@ -29,13 +29,16 @@ use Rattle.walk_costs.proofs.SplitLaws.{call_minute, calls, tells_by}
 use Rattle.walk_costs.proofs.SumLaws.{at_second, cost_in, part_by_second, sum_le, sum_of_two}
 use Rattle.walk_costs.proofs.WalkLaws.{AreRunsOf, date_in, lost, lost_here, lost_in_slot, lost_sum, part_by, total_by_runs, with_dut1}
 
--- The sets hold what two dates tell in the seconds that aren't given up, and tell nothing of the others, nor of the time of day.
-pub record HoldBoth (station : Station) (a b dates : List ℕ) : Type 0 where
-  pub small : (s : ℕ) → s < 60 → get_or dates s 0 < 32
-  pub given : (s : ℕ) → s < 60 → is_given_up station s ≡ true → get_or dates s 0 ≡ 0
-  pub timed : (s : ℕ) → s < 60 → is_given_up station s ≡ false → is_time_second station s ≡ true → get_or dates s 0 ≡ 0
-  pub one : (s : ℕ) → s < 60 → is_given_up station s ≡ false → IsWithin (index_of (get_or a s 0)) (get_or dates s 0)
-  pub other : (s : ℕ) → s < 60 → is_given_up station s ≡ false → IsWithin (index_of (get_or b s 0)) (get_or dates s 0)
+-- The sets hold what a date tells in the seconds that aren't given up, and tell nothing of the others, nor of the time of day.
+pub record HoldDate (station : Station) (date sets : List ℕ) : Type 0 where
+  pub small : (s : ℕ) → s < 60 → get_or sets s 0 < 32
+  pub given : (s : ℕ) → s < 60 → is_given_up station s ≡ true → get_or sets s 0 ≡ 0
+  pub timed : (s : ℕ) → s < 60 → is_given_up station s ≡ false → is_time_second station s ≡ true → get_or sets s 0 ≡ 0
+  pub held : (s : ℕ) → s < 60 → is_given_up station s ≡ false → IsWithin (index_of (get_or date s 0)) (get_or sets s 0)
+
+-- and what two dates tell
+abbrev pub HoldBoth : Station → List ℕ → List ℕ → List ℕ → Type 0
+HoldBoth station a b sets = HoldDate station a sets × HoldDate station b sets
 
 -- What is kept of two dates, together.
 module _ (station : Station) (a b : List ℕ) where
@@ -72,22 +75,20 @@ module _ (station : Station) (a b : List ℕ) where
       both_sets s lt keeps ∙ ap (λ x. bit_or (index_of x) (index_of (get_or b s 0))) one ∙ ap (λ x. bit_or (index_of 0) (index_of x)) other
 
   -- it holds both
-  pub hold_both : ((s : ℕ) → s < 60 → is_time_second station s ≡ true → get_or a s 0 ≡ 0)
-      → ((s : ℕ) → s < 60 → is_time_second station s ≡ true → get_or b s 0 ≡ 0) → HoldBoth station a b kept_together
-  hold_both none_of_a none_of_b = record {
-    small = kept_small;
-    given = none_given_up;
-    timed = λ s lt keeps timed. none_told s lt keeps (none_of_a s lt timed) (none_of_b s lt timed);
-    one = λ s lt keeps n has.
-        subst (λ x. has_bit x n ≡ true) (sym (both_sets s lt keeps)) (has_or (index_of (get_or a s 0)) (index_of (get_or b s 0)) n (inl has));
-    other = λ s lt keeps n has.
-        subst (λ x. has_bit x n ≡ true) (sym (both_sets s lt keeps)) (has_or (index_of (get_or a s 0)) (index_of (get_or b s 0)) n (inr has));
-  }
+  module _ (none_of_a : (s : ℕ) → s < 60 → is_time_second station s ≡ true → get_or a s 0 ≡ 0)
+      (none_of_b : (s : ℕ) → s < 60 → is_time_second station s ≡ true → get_or b s 0 ≡ 0) where
+    hold_of : (date : List ℕ) → ((s n : ℕ) → has_bit (index_of (get_or date s 0)) n ≡ true
+        → (has_bit (index_of (get_or a s 0)) n ≡ true) ⊎ (has_bit (index_of (get_or b s 0)) n ≡ true)) → HoldDate station date kept_together
+    hold_of date of_one = record {
+      small = kept_small;
+      given = none_given_up;
+      timed = λ s lt keeps timed. none_told s lt keeps (none_of_a s lt timed) (none_of_b s lt timed);
+      held = λ s lt keeps n has.
+          subst (λ x. has_bit x n ≡ true) (sym (both_sets s lt keeps)) (has_or (index_of (get_or a s 0)) (index_of (get_or b s 0)) n (of_one s n has));
+    }
 
--- a small set lies in what holds it
-within_both : (a b set x : ℕ) → x < 32 → IsWithin (index_of a) set → IsWithin (index_of b) set → (x ≡ a) ⊎ (x ≡ b) → IsWithin x set
-within_both a b set x small one other (inl is) = λ n has. one n (ap (λ m. has_bit m n) (ap index_of (sym is) ∙ index_at x small) ∙ has)
-within_both a b set x small one other (inr is) = λ n has. other n (ap (λ m. has_bit m n) (ap index_of (sym is) ∙ index_at x small) ∙ has)
+    pub hold_both : HoldBoth station a b kept_together
+    hold_both = (hold_of a (λ s n has. inl has), hold_of b (λ s n has. inr has))
 
 -- a set of either date costs no less than what is told of both
 pub either_less : (station : Station) (costs : ℕ → ℕ) (a b x : ℕ) → IsSetOf station x → (x ≡ a) ⊎ (x ≡ b) → set_cost station costs (either_set a b) ≤ set_cost station costs x
@@ -145,9 +146,9 @@ module _ (w : PricedParts) (costs : List (List ℕ)) (more : List ℕ) (priced :
   abbrev told_in : ℕ → ℕ → ℕ
   told_in m k = given_in w.grid p m told k
 
-  -- what no walk costs less than that begins at the minute u of the local day, where sets hold both dates
-  abbrev pub least_from : List ℕ → ℕ → ℕ
-  least_from dates u = walk_cost st (cost_at w.grid.rows) n p w.parts.times u + part_cost w.grid p dates + given_cost w.grid p (minutes_to_call u) told
+  -- what no walk costs less than that begins at the minute u of the local day, by what sets cost that hold its dates
+  abbrev pub least_with : ℕ → ℕ → ℕ
+  least_with dates u = walk_cost st (cost_at w.grid.rows) n p w.parts.times u + dates + given_cost w.grid p (minutes_to_call u) told
 
   -- the date tells nothing of the seconds of the time of day
   none_before : (s : ℕ) → s < 60 → is_time_second st s ≡ true → get_or before s 0 ≡ 0
@@ -215,15 +216,12 @@ module _ (w : PricedParts) (costs : List (List ℕ)) (more : List ℕ) (priced :
       let keeps_too = ap (λ (x : Station). is_given_up x s) priced.station ∙ keeps in
       small_set st set is (λ e. scored own announced t s keeps_too (carried ∙ e))
 
-  -- A walk through minutes of either run, and sets that hold both dates.
-  module _ (dates : List ℕ) (held : HoldBoth st before after dates) (t0 shift : ℕ) (run_by : ℕ → ℕ) (are : AreRunsOf w announced p t0 shift run_by)
-      (one : (m : ℕ) → (run_by m ≡ i) ⊎ (run_by m ≡ next)) where
+  -- A walk through minutes of either run, and sets for each minute that hold its date.
+  module _ (sets : ℕ → List ℕ) (t0 shift : ℕ) (run_by : ℕ → ℕ) (are : AreRunsOf w announced p t0 shift run_by)
+      (one : (m : ℕ) → (run_by m ≡ i) ⊎ (run_by m ≡ next)) (held : (m : ℕ) → HoldDate st (part_where announced (run_at w.parts.runs (run_by m))) (sets m)) where
     -- what they cost in slot k
     abbrev both_in : ℕ → ℕ
-    both_in k = cost_in w.grid k (get_or dates ((p + k) % 60) 0)
-
-    both_sum : part_cost w.grid p dates ≡ sum_below n both_in
-    both_sum = part_by_second w.grid p dates
+    both_in k = cost_in w.grid k (get_or (sets ((p + k) / 60)) ((p + k) % 60) 0)
 
     abbrev date : ℕ → ℕ
     date = date_in w costs more priced announced p t0 shift run_by are
@@ -280,15 +278,16 @@ module _ (w : PricedParts) (costs : List (List ℕ)) (more : List ℕ) (priced :
         ap (λ x. (t0 + (p + k) / 60 + x) % 1440) (are.shifts j few) ∙ omega arith in
         sent_by (run_by j) (t0 + j) s (are.each j few) short lt (ap (λ x. get_or (times_at w.parts x) s 0) time ∙ none_of_date v s day lt keeps untimed)
 
-    -- both dates together cost no more than the one of them that the slot carries
+    -- what holds the date that the slot carries costs no more than that
     both_less : (k : ℕ) → k < n → is_given_up st ((p + k) % 60) ≡ false → is_time_second st ((p + k) % 60) ≡ false → both_in k ≤ date k
     both_less k within keeps untimed =
         let s : ℕ = (p + k) % 60 in
+        let j : ℕ = (p + k) / 60 in
         let lt : s < 60 = omega arith in
         let set = set_of_date k within untimed (and_right _ _ keeps) in
         let small = small_by (t0 + (p + k) / 60) s (carried k) keeps set.0 set.1 in
-        wider_costs_no_more st (cost_at w.grid.rows k) (carried k) (get_or dates s 0) set.0 (omega (arith, held.small s lt))
-        (within_both (get_or before s 0) (get_or after s 0) (get_or dates s 0) (carried k) small (held.one s lt keeps) (held.other s lt keeps) (one_of k))
+        wider_costs_no_more st (cost_at w.grid.rows k) (carried k) (get_or (sets j) s 0) set.0 (omega (arith, (held j).small s lt))
+        (λ m has. (held j).held s lt keeps m (ap (λ x. has_bit x m) (index_at (carried k) small) ∙ has))
 
     -- so it is in a second that is given up, of a minute in which no call sign is sent
     told_less : (k : ℕ) → k < n → is_given_up st ((p + k) % 60) ≡ true → ((p + k) / 60 == minutes_to_call ((t0 + shift) % 1440)) ≡ false
@@ -311,30 +310,30 @@ module _ (w : PricedParts) (costs : List (List ℕ)) (more : List ℕ) (priced :
         → both_in k + told_in (minutes_to_call ((t0 + shift) % 1440)) k + taken (minutes_to_call ((t0 + shift) % 1440)) k ≤ date k
     in_slot k within =
         let s : ℕ = (p + k) % 60 in
+        let j : ℕ = (p + k) / 60 in
         let m : ℕ = minutes_to_call ((t0 + shift) % 1440) in
         let lt : s < 60 = omega arith in
         elim (cases_Bool (is_given_up st s)) [
           | inl gives ↦ (
-              let kept_none = free_at k (get_or dates s 0) (held.given s lt gives) in
+              let kept_none = free_at k (get_or (sets j) s 0) ((held j).given s lt gives) in
               elim (cases_Bool ((p + k) / 60 == m)) [
                 | inl here ↦ omega (arith, taken_of_date m k, kept_none, none_here m k here)
                 | inr apart ↦ omega (arith, kept_none, none_apart m k apart, told_there m k gives apart, told_less k within gives apart)
               ])
           | inr keeps ↦ elim (cases_Bool (is_time_second st s)) [
-            | inl timed ↦ omega (arith, taken_of_date m k, none_kept m k keeps, free_at k (get_or dates s 0) (held.timed s lt keeps timed))
+            | inl timed ↦ omega (arith, taken_of_date m k, none_kept m k keeps, free_at k (get_or (sets j) s 0) ((held j).timed s lt keeps timed))
             | inr untimed ↦ omega (arith, none_taken m k keeps, none_kept m k keeps, both_less k within keeps untimed)
           ]
         ]
 
     -- and no less is left of the dates where the call sign takes walk minute m
     less_than_dates : (m : ℕ) → m ≡ minutes_to_call ((t0 + shift) % 1440)
-        → part_cost w.grid p dates + given_cost w.grid p m told
+        → sum_below n both_in + given_cost w.grid p m told
         + minute_cost st (cost_at w.grid.rows) n p m (given_up st (part_by w costs more priced announced p t0 shift run_by are m))
         ≤ sum_below n date
     less_than_dates m is =
         omega (
           arith,
-          both_sum,
           given_by_slot w.grid p m told,
           lost_sum w.grid p m (part_by w costs more priced announced p t0 shift run_by are m),
           sum_of_two n both_in (told_in m),
@@ -345,7 +344,7 @@ module _ (w : PricedParts) (costs : List (List ℕ)) (more : List ℕ) (priced :
     -- with what DUT1 adds
     floor_with : (added : ℕ) → ((last_minute w p t0 / 1440 == t0 / 1440) ≡ true → IsAdded w.grid p added)
         → ((last_minute w p t0 / 1440 == t0 / 1440) ≡ false → added ≡ 0)
-        → (least_from dates ((t0 + shift) % 1440) + added ≤ cost_of w announced p t0) × (cost_of w announced p t0 ≤ most_cost w.grid)
+        → (least_with (sum_below n both_in) ((t0 + shift) % 1440) + added ≤ cost_of w announced p t0) × (cost_of w announced p t0 ≤ most_cost w.grid)
     floor_with added once twice =
         let u : ℕ = (t0 + shift) % 1440 in
         let m : ℕ = minutes_to_call u in
@@ -353,9 +352,20 @@ module _ (w : PricedParts) (costs : List (List ℕ)) (more : List ℕ) (priced :
         (minute_cost st (cost_at w.grid.rows) n p m (given_up st (part_by w costs more priced announced p t0 shift run_by are m))) added refl refl refl refl refl once twice in
         (omega (arith, all.0.cost, all.1, less_than_dates m refl), omega (arith, all.0.cost, all.0.bound))
 
-    pub floor : (added : ℕ) → MayAdd w p t0 added
-        → (least_from dates ((t0 + shift) % 1440) + added ≤ cost_of w announced p t0) × (cost_of w announced p t0 ≤ most_cost w.grid)
-    floor = with_dut1 w costs more priced p t0 (least_from dates ((t0 + shift) % 1440)) (cost_of w announced p t0) (most_cost w.grid) second floor_with
+    pub floor_by : (added : ℕ) → MayAdd w p t0 added
+        → (least_with (sum_below n both_in) ((t0 + shift) % 1440) + added ≤ cost_of w announced p t0) × (cost_of w announced p t0 ≤ most_cost w.grid)
+    floor_by = with_dut1 w costs more priced p t0 (least_with (sum_below n both_in) ((t0 + shift) % 1440)) (cost_of w announced p t0) (most_cost w.grid) second floor_with
+
+  -- where the same sets hold both dates
+  pub floor : (dates : List ℕ) → HoldBoth st before after dates → (t0 shift : ℕ) (run_by : ℕ → ℕ) → AreRunsOf w announced p t0 shift run_by
+      → ((m : ℕ) → (run_by m ≡ i) ⊎ (run_by m ≡ next)) → (added : ℕ) → MayAdd w p t0 added
+      → (least_with (part_cost w.grid p dates) ((t0 + shift) % 1440) + added ≤ cost_of w announced p t0) × (cost_of w announced p t0 ≤ most_cost w.grid)
+  floor dates both t0 shift run_by are one added may =
+      let found = floor_by (λ m. dates) t0 shift run_by are one (λ m. elim (one m) [
+        | inl is ↦ subst (λ r. HoldDate st (part_where announced (run_at w.parts.runs r)) dates) (sym is) both.0
+        | inr is ↦ subst (λ r. HoldDate st (part_where announced (run_at w.parts.runs r)) dates) (sym is) both.1
+      ]) added may in
+      (omega (arith, part_by_second w.grid p dates, found.0), found.1)
 
 -- A table of what is kept of the dates.
 pub date_costs : (w : PricedParts) (all : List (List ℕ)) (places : List ℕ) (table : LayerSums) → length places ≡ length w.parts.runs

@@ -1,5 +1,5 @@
 -- What the time of day costs in a walk over a change of the local time, walk minute by walk minute.
-use Rattle.std.proofs.Common.{◌≡◌, ℕ, ◌+◌, ◌/◌, ◌%◌, ◌<◌, ◌≤◌, inl, inr, Bool, ◌==◌, nat_lt, if◌then◌else◌, List, [], slice_index_or, length, get_or, ap, ◌∙◌, arith}
+use Rattle.std.proofs.Common.{◌≡◌, ℕ, ◌+◌, ◌/◌, ◌%◌, inl, inr, Bool, ◌==◌, nat_lt, if◌then◌else◌, List, [], slice_index_or, length, get_or, ap, arith}
 use Rattle.std.proofs.lemmas.Bool.{cases_lt, eq-eqb, le-ltb, lt-ltb, ne_eqb}
 use Rattle.definitions.specs.heard.Costs.{sum_below}
 use Rattle.definitions.proofs.CostLaws.{sum_below_bound, sum_below_same}

@@ -9,20 +9,15 @@ use Rattle.minute_parts.specs.Overlay.{is_given_up, is_time_second}
 use Rattle.minute_parts.specs.Parts.{IsPartTable, PartTable, part_where}
 use Rattle.minute_parts.specs.Runs.{run_at}
 use Rattle.minute_parts.proofs.UnionLaws.{has_or, none_has}
-use Rattle.slot_columns.specs.Layered.{places_together, together}
 use Rattle.slot_columns.specs.Parts.{IsOfEither}
 use Rattle.slot_columns.specs.Rows.{index_of}
-use Rattle.slot_columns.proofs.SetLaws.{index_at, index_bound, or_index}
+use Rattle.slot_columns.proofs.SetLaws.{index_bound, or_index}
 use Rattle.walk_costs.specs.declared.span.DateSpan.{DateSpan}
 use Rattle.walk_costs.specs.Dates.{kept, kept_set}
 use Rattle.walk_costs.specs.Seen.{first_at, first_set, first_told, other_at, other_set, told_else}
 use Rattle.walk_costs.specs.Spans.{HoldsDates, IsHeldBy, TellDates}
-use Rattle.walk_costs.proofs.NeighbourLaws.{HoldBoth}
+use Rattle.walk_costs.proofs.NeighbourLaws.{HoldDate}
 use Rattle.walk_costs.proofs.SumLaws.{at_second}
-
-together_at : (a b : List ℕ) (s : ℕ) → s < 60 → get_or (together a b) s 0 ≡ bit_or (index_of (get_or a s 0)) (index_of (get_or b s 0))
-unfolding together
-together_at a b s lt = get_or-map-range_with_len (places_together a b) 0 60 s s 0 lt (omega arith)
 
 first_told_at : (a b : List ℕ) (s : ℕ) → s < 60 → get_or (first_told a b) s 0 ≡ first_set (get_or a s 0) (index_of (get_or b s 0))
 unfolding first_told
@@ -102,14 +97,12 @@ none_told station sets tells = record {
 }
 
 -- they hold none before there is a run
-pub holds_none : (parts : PartTable) (station : Station) (span : DateSpan) → span.to ≤ length parts.runs → span.from ≡ span.to → ((s : ℕ) → get_or span.dates s 0 ≡ 0)
+pub holds_none : (parts : PartTable) (station : Station) (span : DateSpan) → span.to ≤ length parts.runs → span.from ≡ span.to
     → ((s : ℕ) → get_or span.one s 0 ≡ 0) → ((s : ℕ) → get_or span.other s 0 ≡ 0) → HoldsDates parts station span
-holds_none parts station span within none dates one other = record {
+holds_none parts station span within none one other = record {
   within = within;
-  dates = none_told station span.dates dates;
   one = none_told station span.one one;
   other = none_told station span.other other;
-  each = λ i s ge lt of_minute keeps. absurd (omega (arith, ge, lt, none));
   either = λ i s ge lt of_minute keeps. absurd (omega (arith, ge, lt, none));
 }
 
@@ -123,9 +116,6 @@ module _ (parts : PartTable) (station : Station) (table : IsPartTable parts) (ow
   abbrev set : ℕ → ℕ
   set s = index_of (kept_set station told s)
 
-  abbrev pub with_run : List ℕ
-  with_run = together old.dates (kept station told)
-
   abbrev pub with_first : List ℕ
   with_first = first_told old.one (kept station told)
 
@@ -135,9 +125,6 @@ module _ (parts : PartTable) (station : Station) (table : IsPartTable parts) (ow
   kept_there : (s : ℕ) → s < 60 → index_of (get_or (kept station told) s 0) ≡ set s
   unfolding kept
   kept_there s lt = ap index_of (at_second (kept_set station told) (kept station told) s refl lt)
-
-  dates_at : (s : ℕ) → s < 60 → get_or with_run s 0 ≡ bit_or (index_of (get_or old.dates s 0)) (set s)
-  dates_at s lt = together_at old.dates (kept station told) s lt ∙ ap (bit_or (index_of (get_or old.dates s 0))) (kept_there s lt)
 
   one_at : (s : ℕ) → s < 60 → get_or with_first s 0 ≡ first_set (get_or old.one s 0) (set s)
   one_at s lt = first_told_at old.one (kept station told) s lt ∙ ap (first_set (get_or old.one s 0)) (kept_there s lt)
@@ -164,12 +151,6 @@ module _ (parts : PartTable) (station : Station) (table : IsPartTable parts) (ow
     given = λ s lt gives. none s lt (tell.given s lt gives) (lost_told s gives);
     timed = λ s lt keeps timed. none s lt (tell.timed s lt keeps timed) (timed_told s lt keeps timed);
   }
-
-  dates_tell : TellDates station with_run
-  dates_tell =
-      more_told old.dates with_run holds.dates
-      (λ s lt. omega (arith, dates_at s lt, or_index (index_of (get_or old.dates s 0)) (set s) (index_bound (get_or old.dates s 0)) (index_bound (kept_set station told s))))
-      (λ s lt none told. dates_at s lt ∙ ap (λ x. bit_or (index_of x) (set s)) none ∙ ap (bit_or 0) told)
 
   one_tells : TellDates station with_first
   one_tells =
@@ -219,26 +200,12 @@ module _ (parts : PartTable) (station : Station) (table : IsPartTable parts) (ow
     | inr held ↦ inr (λ n has. ap (λ x. has_bit x n) (other_there s lt) ∙ held n (ap (λ x. has_bit x n) (kept_told s keeps) ∙ has))
   ]
 
-  pub one_more : (new : DateSpan) → new.from ≡ old.from → new.to ≡ run + 1 → new.dates ≡ with_run → new.one ≡ with_first → new.other ≡ with_else
+  pub one_more : (new : DateSpan) → new.from ≡ old.from → new.to ≡ run + 1 → new.one ≡ with_first → new.other ≡ with_else
       → HoldsDates parts station new
-  one_more new from to dates one other = record {
+  one_more new from to one other = record {
     within = omega (arith, to, is_run);
-    dates = subst (TellDates station) (sym dates) dates_tell;
     one = subst (TellDates station) (sym one) one_tells;
     other = subst (TellDates station) (sym other) other_tells;
-    each = λ i s ge lt of_minute keeps n has.
-        subst (λ x. has_bit x n ≡ true) (sym (ap (λ (x : List ℕ). get_or x s 0) dates ∙ dates_at s of_minute))
-        (has_or (index_of (get_or old.dates s 0)) (set s) n
-        (elim (cases_lt i run) [
-          | inl before ↦ inl
-              (subst (λ x. has_bit x n ≡ true) (sym (index_at (get_or old.dates s 0) (omega (arith, holds.dates.small s of_minute))))
-              (holds.each i s (omega (arith, ge, from)) (omega (arith, before, here)) of_minute keeps n has))
-          | inr after ↦ (
-              let is : run ≡ i = omega (arith, after, lt, to) in
-              inr
-              (subst (λ x. has_bit x n ≡ true) (sym (kept_told s keeps))
-              (subst (λ r. has_bit (index_of (of_run r s)) n ≡ true) (sym is) has)))
-        ]));
     either = λ i s ge lt of_minute keeps.
         subst (λ (x : List ℕ). IsHeldBy (of_run i s) (get_or x s 0) ⊎ IsHeldBy (of_run i s) (get_or new.other s 0)) (sym one)
         (subst (λ (x : List ℕ). IsHeldBy (of_run i s) (get_or with_first s 0) ⊎ IsHeldBy (of_run i s) (get_or x s 0)) (sym other)
@@ -252,17 +219,6 @@ module _ (parts : PartTable) (station : Station) (table : IsPartTable parts) (ow
               subst (λ r. IsHeldBy (of_run r s) (get_or with_first s 0) ⊎ IsHeldBy (of_run r s) (get_or with_else s 0)) is (date_held s of_minute keeps))
         ]));
   }
-
--- what holds the dates of two runs
-pub hold_two : (parts : PartTable) (station : Station) (span : DateSpan) (i j : ℕ) → HoldsDates parts station span → span.from ≤ i → i < span.to → span.from ≤ j
-    → j < span.to → HoldBoth station (part_where false (run_at parts.runs i)) (part_where false (run_at parts.runs j)) span.dates
-hold_two parts station span i j holds one_from one_to other_from other_to = record {
-  small = λ s lt. omega (arith, holds.dates.small s lt);
-  given = holds.dates.given;
-  timed = holds.dates.timed;
-  one = λ s lt keeps. holds.each i s one_from one_to lt keeps;
-  other = λ s lt keeps. holds.each j s other_from other_to lt keeps;
-}
 
 -- one of two numbers, by which of two facts holds
 abbrev pick : {A : Type 0} {B : Type 0} → A ⊎ B → ℕ → ℕ → ℕ
@@ -317,7 +273,7 @@ module _ (parts : PartTable) (station : Station) (span : DateSpan) (i : ℕ) (ho
       subst (λ x. (x ≡ get_or span.one s 0) ⊎ (x ≡ get_or span.other s 0)) (sym (chosen_at s lt))
       (picked (λ x. (x ≡ get_or span.one s 0) ⊎ (x ≡ get_or span.other s 0)) (which s) (get_or span.one s 0) (get_or span.other s 0) (inl refl) (inr refl))
 
-  pub hold_chosen : HoldBoth station date date chosen
+  pub hold_chosen : HoldDate station date chosen
   hold_chosen = record {
     small = λ s lt.
         subst (λ x. x < 32) (sym (chosen_at s lt))
@@ -327,6 +283,5 @@ module _ (parts : PartTable) (station : Station) (span : DateSpan) (i : ℕ) (ho
     timed = λ s lt keeps timed.
         chosen_at s lt
         ∙ picked (λ x. x ≡ 0) (which s) (get_or span.one s 0) (get_or span.other s 0) (holds.one.timed s lt keeps timed) (holds.other.timed s lt keeps timed);
-    one = held_by_chosen;
-    other = held_by_chosen;
+    held = held_by_chosen;
   }

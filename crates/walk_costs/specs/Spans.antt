@@ -20,14 +20,11 @@ pub record TellDates (station : Station) (sets : List ℕ) : Type 0 where
   pub given : (s : ℕ) → s < SECONDS_PER_MINUTE → is_given_up station s ≡ true → slice_index sets s ≡ 0
   pub timed : (s : ℕ) → s < SECONDS_PER_MINUTE → is_given_up station s ≡ false → is_time_second station s ≡ true → slice_index sets s ≡ 0
 
--- The sets of one part hold what the date tells in each of the runs. Of two others the one or the other does in each second.
+-- Of two parts the sets of the one or the other hold in each second what the date tells in a run, whichever of the runs it is.
 pub record HoldsDates (parts : PartTable) (station : Station) (span : DateSpan) : Type 0 where
   pub within : span.to ≤ length parts.runs
-  pub dates : TellDates station span.dates
   pub one : TellDates station span.one
   pub other : TellDates station span.other
-  pub each : (i s : ℕ) → span.from ≤ i → i < span.to → s < SECONDS_PER_MINUTE → is_given_up station s ≡ false
-      → IsHeldBy (slice_index (part_where false (run_at parts.runs i)) s) (slice_index span.dates s)
   pub either : (i s : ℕ) → span.from ≤ i → i < span.to → s < SECONDS_PER_MINUTE → is_given_up station s ≡ false
       → IsHeldBy (slice_index (part_where false (run_at parts.runs i)) s) (slice_index span.one s)
       ⊎ IsHeldBy (slice_index (part_where false (run_at parts.runs i)) s) (slice_index span.other s)

@@ -93,9 +93,18 @@ impl LeastTable {
         requires run { (runs : ℕ) × (run < runs) × AreLeastSums self.now runs }
         ensures { result ≡ least_at self.now announced p run }
     {
-        // The places are so many that their numbers fit.
-        let kind = self.places[place_of_run(announced, run)];
+        let kind = self.kind(announced, run);
         self.costs[p as usize * self.kinds + kind]
+    }
+
+    /// The kind of the walks which begin in a run. Walks of one kind cost the same at the least.
+    #[inline(always)]
+    pub(crate) fn kind(&self, announced: bool, run: usize) -> usize
+        requires { (runs : ℕ) × (run < runs) × AreLeastSums self.now runs }
+        ensures { result ≡ slice_index self.now.places.items (place_of_run announced run) }
+    {
+        // The places are so many that their numbers fit.
+        self.places[place_of_run(announced, run)]
     }
 }
 

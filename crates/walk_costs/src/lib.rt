@@ -16,13 +16,11 @@ mod over;
 mod set_costs;
 mod shown;
 mod span;
-#[cfg(test)]
-mod tests;
 mod thirds;
 mod walks;
 
 pub use crossing::Crossing;
 pub use over::Over;
 pub use shown::Shown;
-pub use span::SpanCosts;
+pub use span::{Near, SpanCosts};
 pub use walks::StationWalks;

@@ -2,26 +2,29 @@
 //! year where its days would take one each.
 //!
 //! The year is mostly told by seconds of its own. So it costs what it does. Each other second of the date mostly has one of two
-//! symbols, and a walk that stays in one run has the same in all its minutes: it costs there what the cheaper of the two does.
+//! symbols, and a walk that stays in one run has the same in all its minutes: it costs there what the cheaper of the two does. One that
+//! goes on to the next run has the same in its first minutes, and the same in the others.
 
 ghost use Rattle.std.specs.Prelude.{◌≡◌, ◌+◌, ◌<◌, ◌≤◌, ℕ, All, IfOk, IfSome, OnOk, false, length, slice_index};
 ghost use Rattle.minute_parts.specs.Parts.{IsPartTable};
-ghost use Rattle.slot_columns.specs.Layered.{together};
 ghost use Rattle.slot_columns.specs.Parts.{most_cost};
 ghost use Rattle.slot_columns.specs.Rows.{index_of};
-ghost use Rattle.walk_costs.specs.Near.{AreSpanCosts, StaysNear};
+ghost use Rattle.walk_costs.specs.Leasts.{AreLeastSums};
+ghost use Rattle.walk_costs.specs.Near.{AreSpanCosts, IsAlike, IsFollowed, StaysNear};
 ghost use Rattle.walk_costs.specs.Seen.{first_set, first_told, other_set, told_else};
 ghost use Rattle.walk_costs.specs.Spans.{HoldsDates};
 ghost use Rattle.walk_costs.specs.Walks.{cost_of};
 
 use crate::date::kept;
 use crate::kinds::{SETS, nothing};
+use crate::least::LeastWalks;
 use crate::walks::StationWalks;
 use definitions::MINUTES_PER_DAY;
 use minute_parts::{Parts, Run};
 use signal_base::{Station, UNSCORED};
-use slot_columns::{Part, SECONDS_PER_MINUTE};
+use slot_columns::{Part, SECONDS_PER_MINUTE, SlotColumns};
 use std::alloc::{AllocError, Global};
+use symbol_cost::RECEIVER_COST;
 
 /// What the dates of some runs tell together, where no leap second is announced, but of the seconds that the station gives up.
 #[derive(Clone, Copy, Debug)]
@@ -30,8 +33,6 @@ pub struct DateSpan {
     pub from: usize,
     /// That of the run behind the last.
     pub to: usize,
-    /// Sets that hold what each of them tells.
-    pub dates: Part,
     /// What the first of them tells, second by second.
     pub one: Part,
     /// Sets that hold what each of them tells else; where they tell nothing else, the same.
@@ -49,9 +50,22 @@ pub struct SpanCosts {
     pub to: usize,
     /// No date of these runs costs less.
     pub cost: u32,
-    /// Nor do two of them cost less than this, one in the first minutes of a walk and the other in the later ones.
+    /// Nor do two of them cost less than this, one in the first minutes of a walk and the other in the later ones. The greatest `u32`
+    /// where the walks go through one minute.
     pub across: u32,
 }
+
+/// What the walks cost at the least that begin in some runs, one behind the other.
+#[derive(Clone, Copy, Debug, PartialEq, Eq)]
+pub struct Near {
+    /// The number of the run behind the last of them. Where there are none, that from which on they were looked for.
+    pub last: usize,
+    /// None of the walks costs less. Where there are none of these runs it is 0.
+    pub floor: u32,
+}
+
+/// The most minutes of a walk after its first.
+pub(crate) const MOST_LATER: u32 = 20;
 
 /// The runs of each year of the encoded local time.
 pub fn spans_of(alloc: Global, parts: &Parts, station: Station) -> Result<Vec<DateSpan>, AllocError>
@@ -79,14 +93,12 @@ fn year_of(run: &Run) -> u64 {
 // No run yet.
 fn none_from(run: usize) -> DateSpan
     ensures bounds { (result.from ≡ run) × (result.to ≡ run) }
-    ensures dates { (s : ℕ) → slice_index result.dates s ≡ 0 }
     ensures one { (s : ℕ) → slice_index result.one s ≡ 0 }
     ensures other { (s : ℕ) → slice_index result.other s ≡ 0 }
 {
     DateSpan {
         from: run,
         to: run,
-        dates: nothing(),
         one: nothing(),
         other: nothing(),
     }
@@ -134,7 +146,6 @@ fn with_run(span: &DateSpan, parts: &Parts, station: Station, run: usize) -> Dat
     DateSpan {
         from: span.from,
         to: run + 1,
-        dates: together(&span.dates, &told),
         one,
         other: told_else(&one, &span.other, &told),
     }
@@ -181,17 +192,6 @@ fn other_set(one: u8, other: u8, told: u8) -> u8
     }
 }
 
-// Sets that hold those of both. A second that isn't scored adds none.
-fn together(one: &Part, other: &Part) -> Part
-    ensures { result ≡ together one.now other.now }
-{
-    let mut part = nothing();
-    for s in 0..SECONDS_PER_MINUTE {
-        part[s] = scored(one[s]) | scored(other[s]);
-    }
-    part
-}
-
 fn scored(set: u8) -> u8
     ensures { result ≡ index_of set }
 {
@@ -214,29 +214,80 @@ impl StationWalks<'_> {
                     from: span.from,
                     to: span.to,
                     cost: self.columns.least_of_either(p, &span.one, &span.other),
-                    across: self.columns.part_cost(p, &span.dates),
+                    across: self.columns.least_of_change(p, &span.one, &span.other),
                 });
             }
         }
         None
     }
 
-    /// What none of the unannounced sequences costs the station less than that begin in the minutes from `lo` up to, and without, `hi`,
-    /// where their walks have 60 seconds in each minute and lie in the run, or go on to the next, which encodes the local time alike.
-    /// Both are among the runs of which the costs are.
-    pub fn least_near(&self, costs: &SpanCosts, run: usize, lo: u32, hi: u32) -> u32
+    /// What none of the unannounced sequences costs the station less than whose walks begin in the second of the costs in one of some
+    /// runs, and end in it or go on to the next.
+    ///
+    /// They are the runs from `run` on up to, and without, `last` that are like the first of them: a walk costs there by the time of
+    /// day at the least what it does in that one. Each is among the runs of which the costs are and is followed by another of these,
+    /// which encodes the local time alike and has 20 minutes or more, so that a walk that goes on ends there. Where `run` itself isn't
+    /// such a run, there is none: then `last` is `run`, and the floor 0. It is at most 200,000 for each slot and receiver.
+    pub fn least_near(&self, costs: &SpanCosts, run: usize) -> Near
         requires costs { AreSpanCosts self.now costs.now }
-        requires run { (costs.now.from ≤ run) × (run + 1 < costs.now.to) }
-        requires some { lo < hi }
-        requires walks { (t0 : ℕ) → lo ≤ t0 → t0 < hi → StaysNear self.now costs.now.second t0 run }
-        ensures floor { (t0 : ℕ) → lo ≤ t0 → t0 < hi → result ≤ cost_of self.now false costs.now.second t0 }
-        ensures bound { result ≤ most_cost self.now.grid }
+        ensures begun { run ≤ result.last }
+        ensures followed { (r : ℕ) → run ≤ r → r < result.last → IsFollowed self.now.parts r }
+        ensures floor { (r t0 : ℕ) → run ≤ r → r < result.last → StaysNear self.now costs.now.second t0 r → result.floor ≤ cost_of self.now false costs.now.second t0 }
+        ensures bound { result.floor ≤ most_cost self.now.grid }
     {
+        let last = alike_until(self.unions.parts(), &self.least, run, costs);
+        if last == run {
+            return Near { last, floor: 0 };
+        }
         let inside = self.least.inside.at(false, costs.second, run);
         let across = self.least.across.at(false, costs.second, run);
         // Where no walk stays, or none goes on, that sum may be too large.
         let staying = costs.cost.saturating_add(inside);
         let going_on = costs.across.saturating_add(across);
-        staying.min(going_on)
+        let floor = staying.min(going_on).min(most_cost(&self.columns));
+        Near { last, floor }
     }
+}
+
+// The number of the first run, from this one on, that isn't like it, or that isn't followed among the runs of which the costs are by
+// one that encodes the local time alike and in which a walk ends.
+fn alike_until(parts: &Parts, least: &LeastWalks, run: usize, costs: &SpanCosts) -> usize
+    requires table { IsPartTable parts.now }
+    requires inside { AreLeastSums least.now.inside (length parts.now.runs) }
+    requires across { AreLeastSums least.now.across (length parts.now.runs) }
+    requires within { costs.now.to ≤ length parts.now.runs }
+    ensures begun { run ≤ result }
+    ensures alike { (r : ℕ) → run ≤ r → r < result → IsAlike parts.now least.now costs.now run r }
+{
+    if run < costs.from || costs.to <= run {
+        return run;
+    }
+    let shift = parts.run(run).shift;
+    let inside = least.inside.kind(false, run);
+    let across = least.across.kind(false, run);
+    let mut end = parts.run_end(run);
+    for r in run..costs.to - 1 {
+        if least.inside.kind(false, r) != inside {
+            return r;
+        }
+        if least.across.kind(false, r) != across {
+            return r;
+        }
+        if parts.run(r + 1).shift != shift {
+            return r;
+        }
+        let next_end = parts.run_end(r + 1);
+        if next_end < end + MOST_LATER {
+            return r;
+        }
+        end = next_end;
+    }
+    costs.to - 1
+}
+
+// The most that the slots can cost.
+fn most_cost(columns: &SlotColumns) -> u32
+    ensures { result ≡ most_cost columns.now }
+{
+    columns.seconds() as u32 * (columns.receivers() as u32 * RECEIVER_COST)
 }

@@ -3,16 +3,12 @@
 
 mod crew;
 mod ending;
-#[cfg(test)]
-mod floor_tests;
 mod floored;
 mod gate;
 mod laws;
 mod recorder;
 mod searches;
 mod sharing;
-#[cfg(test)]
-mod tests;
 mod visitor;
 mod visits;
 

@@ -1,4 +1,4 @@
-use Rattle.std.proofs.Common.{ℕ, ◌+◌, ◌*◌, ◌/◌, ◌%◌, ◌<◌, ap, arith}
+use Rattle.std.proofs.Common.{ℕ, ◌+◌, ◌/◌, ◌%◌, ◌<◌, ap, arith}
 use Rattle.slot_columns.specs.Parts.{entry}
 use Rattle.slot_columns.specs.Rows.{cost_in_slot}
 use Rattle.slot_columns.proofs.HourLaws.{unused}

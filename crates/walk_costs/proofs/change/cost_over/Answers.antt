@@ -1,4 +1,4 @@
-use Rattle.std.proofs.Common.{◌≡◌, ◌+◌, ℕ, List, length, sym, ap, ◌∙◌, arith}
+use Rattle.std.proofs.Common.{ℕ, List, length, sym, ap, ◌∙◌, arith}
 use Rattle.symbol_cost.specs.Grid.{cost_at}
 use Rattle.minute_parts.specs.Parts.{times_at}
 use Rattle.slot_columns.specs.Parts.{minute_cost}

@@ -1,9 +1,9 @@
-use Rattle.std.proofs.Common.{◌≡◌, ◌+◌, ◌*◌, ◌/◌, ◌%◌, ◌<◌, ◌==◌, ℕ, Bool, true, false, List, ◌++◌, ◌∷◌, [], length, get_or, refl, sym, ap, ◌∙◌, subst, arith}
+use Rattle.std.proofs.Common.{◌≡◌, ◌+◌, ◌*◌, ◌%◌, ◌<◌, ◌==◌, ℕ, Bool, true, false, List, [], length, refl, sym, ap, ◌∙◌, subst, arith}
 use Rattle.signal_base.specs.declared.station.Station.{Station}
 use Rattle.minute_parts.specs.Overlay.{is_given_up}
 use Rattle.minute_parts.specs.Parts.{PartTable}
 use Rattle.walk_costs.specs.declared.kinds.Kind.{Kind}
-use Rattle.walk_costs.specs.Kinds.{AreKindsOf, HasPlace, IsKindOf, IsPlaced, IsPlacedBy, end_in, kind_at, last_begin}
+use Rattle.walk_costs.specs.Kinds.{AreKindsOf, IsKindOf, IsPlaced, IsPlacedBy, kind_at, last_begin}
 use Rattle.walk_costs.proofs.LeastLaws.{one_more_kind, place_is}
 use Rattle.walk_costs.proofs.kinds.kinds_by_end.Goals as goal
 

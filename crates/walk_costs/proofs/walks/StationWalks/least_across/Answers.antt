@@ -3,6 +3,7 @@ use Rattle.slot_columns.specs.Parts.{most_cost}
 use Rattle.minute_parts.specs.Parts.{IsPartTable}
 use Rattle.minute_parts.specs.Runs.{end_of_run, run_at}
 use Rattle.walk_costs.specs.Crossings.{run_across}
+use Rattle.walk_costs.specs.Dates.{part_cost}
 use Rattle.walk_costs.specs.Leasts.{AreLeast}
 use Rattle.walk_costs.specs.Walks.{ArePriced, PricedParts, cost_of}
 use Rattle.walk_costs.proofs.CrossingLaws.{begun, front, front_few, two_runs}
@@ -52,7 +53,7 @@ each c t0 ge lt =
         arith,
         c.kept_cost_of_both-dates.ensures,
         c.at-least.ensures,
-        no_more w own.walks own.added (priced c) true c.args.announced p i across.second is_run is_next own.least.across (least c) dates u (omega arith)
+        no_more w own.walks own.added (priced c) true c.args.announced p i across.second is_run is_next own.least.across (least c) (part_cost w.grid p dates) u (omega arith)
             (end - 1 - t0, omega (arith, before, few), omega (arith, before, few, (priced c).short, across.second)),
         found.0,
       ),

@@ -2,6 +2,7 @@ use Rattle.std.proofs.Common.{ℕ, ◌+◌, ◌-◌, ◌%◌, ◌<◌, ◌≤◌
 use Rattle.slot_columns.specs.Parts.{most_cost}
 use Rattle.minute_parts.specs.Parts.{IsPartTable}
 use Rattle.minute_parts.specs.Runs.{run_at}
+use Rattle.walk_costs.specs.Dates.{part_cost}
 use Rattle.walk_costs.specs.Leasts.{AreLeast}
 use Rattle.walk_costs.specs.Walks.{ArePriced, PricedParts, cost_of}
 use Rattle.walk_costs.proofs.FloorLaws.{no_more}
@@ -38,7 +39,7 @@ each c t0 ge lt =
         arith,
         c.kept_cost_of_both-dates.ensures,
         c.at-least.ensures,
-        no_more w own.walks own.added (priced c) false c.args.announced p i regular.second is_run is_run own.least.inside (least c) dates u (omega arith) (1439 - u, omega arith, omega arith),
+        no_more w own.walks own.added (priced c) false c.args.announced p i regular.second is_run is_run own.least.inside (least c) (part_cost w.grid p dates) u (omega arith) (1439 - u, omega arith, omega arith),
         found.0,
       ),
       found.1,

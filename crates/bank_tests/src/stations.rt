@@ -1,0 +1,265 @@
+//! Runs over clean logs of MSF, WWVB and DCF77: values of DUT1, a cost table and a ceiling, a long window, a feed, and a write
+//! that fails once. The texts are worked out by hand from the code descriptions.
+
+use crate::made::{DCF77, files_of, printed, push_record, words};
+use bank::run;
+use bank_files::{Files, MemoryFiles};
+use std::alloc::{AllocError, Global};
+use std::test::Fail;
+use std::thread::Threads;
+use workers::NoGate;
+
+// What is low and high in the ten tenths of a second, by symbol. A symbol that isn't listed is unknown.
+const DCF77_WAVES: [(u8, &str); 3] = [
+    (b'0', "LHHHHHHHHH"),
+    (b'1', "LLHHHHHHHH"),
+    (b'-', "HHHHHHHHHH"),
+];
+
+const MSF_WAVES: [(u8, &str); 5] = [
+    (b'0', "LHHHHHHHHH"),
+    (b'1', "LHLHHHHHHH"),
+    (b'2', "LLHHHHHHHH"),
+    (b'3', "LLLHHHHHHH"),
+    (b'M', "LLLLLHHHHH"),
+];
+
+const WWVB_WAVES: [(u8, &str); 3] = [
+    (b'0', "LLHHHHHHHH"),
+    (b'1', "LLLLLHHHHH"),
+    (b'M', "LLLLLLLLHH"),
+];
+
+// A minute of which nothing is known.
+const UNKNOWN: &str = "............................................................";
+
+// How many tenths a window has at most.
+const MOST_TENTHS: u64 = 12_000;
+
+fn wave_of(waves: &[(u8, &'static str)], symbol: u8) -> &'static str {
+    for wave in waves {
+        if wave.0 == symbol {
+            return wave.1;
+        }
+    }
+    "XXXXXXXXXX"
+}
+
+fn name_of(level: u8) -> &'static str {
+    match level {
+        b'L' => "L",
+        b'H' => "H",
+        _ => "X",
+    }
+}
+
+// The log of a receiver without noise that hears these minutes from millisecond 0 on.
+fn log_of(
+    alloc: Global,
+    waves: &[(u8, &'static str)],
+    minutes: &[&str],
+) -> Result<String, AllocError> {
+    let mut text = String::new(alloc);
+    let mut tenth = 0u64;
+    let mut last = b'-';
+    for minute in minutes {
+        for symbol in minute.bytes() {
+            for level in wave_of(waves, symbol).bytes() {
+                // Never reached: it bounds the sums.
+                if tenth >= MOST_TENTHS {
+                    return Ok(text);
+                }
+                if level != last {
+                    push_record(&mut text, 100 * tenth, name_of(level))?;
+                }
+                last = level;
+                tenth += 1;
+            }
+        }
+    }
+    push_record(&mut text, 100 * tenth.min(MOST_TENTHS), "X")?;
+    Ok(text)
+}
+
+// Tells whether a run for these words ends with this status and prints this text.
+fn tells<R: Threads + Sync>(
+    rt: &R,
+    alloc: Global,
+    files: &mut MemoryFiles,
+    line: &str,
+    status: u8,
+    text: &str,
+) -> Result<bool, AllocError> {
+    let words = words(alloc, line)?;
+    let ended = run(rt, alloc, &words, files, &NoGate);
+    Ok(ended == status && printed(files, text))
+}
+
+// 2024-07-15T12:00Z as MSF sends it, which tells 13:01 in summer time, with a DUT1 of -2 tenths; and the minute behind it.
+const MSF_MINUTES: [&str; 2] = [
+    "M00000000110000000020020000222020202002020022000000202332330",
+    "M00000000110000000020020000222020202002020022000002002332330",
+];
+
+// The same minute as WWVB sends it, day 197 of a leap year, with a DUT1 of 3 tenths.
+const WWVB_MINUTE: &str = "M00000000M000100010M000101001M011100101M001100010M010001011M";
+
+// A receiver of MSF, and behind it one of WWVB.
+const MSF_AND_WWVB: &str =
+    "station = \"msf\"\n[[receiver]]\nname = \"a\"\nlog = \"a.log\"\n[[receiver]]\nname = \"b\"\nlog = \"b.log\"\nstation = \"wwvb\"\n";
+
+// A minute later costs one bit of WWVB, 300, and two of MSF, 100 each.
+#[test]
+fn msf_and_wwvb_tell_a_dut1_each(rt: HostRuntime) -> Result<(), Fail> {
+    let log = log_of(rt.alloc(), &MSF_WAVES, &[MSF_MINUTES[0]])?;
+    let other = log_of(rt.alloc(), &WWVB_WAVES, &[WWVB_MINUTE])?;
+    let mut files = files_of(rt.alloc(), MSF_AND_WWVB, &log)?;
+    files.put("b.log", other.as_bytes())?;
+    assert!(rt;
+        tells(
+            &rt,
+            rt.alloc(),
+            &mut files,
+            "decode k.toml --seconds 60 --from 2024-07-15T12:00Z --to 2024-07-15T12:59Z",
+            0,
+            "decided 0\nphase 0\nsequence 2024-07-15T12:00Z 0 no\nnext 500\ndut1 msf -2\ndut1 wwvb 3\nminute 2024-07-15T12:00Z at 0\n",
+        )?
+    );
+    Ok(())
+}
+
+// The same minute as DCF77 sends it, which tells 14:01 in summer time, but that second 16 was heard as a 1 and second 20 as
+// a 0.
+const DISTURBED: &str = "00000000000000001100010000001001010010101010011100001001001-";
+
+// A cost table by which a low millisecond costs 2 where the carrier should be high, and a high one 1 where it should be low.
+fn with_table(alloc: Global, ceiling: &str) -> Result<String, AllocError> {
+    let mut text = String::new(alloc);
+    write!(
+        text,
+        "station = \"dcf77\"\nceiling = {ceiling}\n[table]\nlow = [100"
+    )?;
+    for n in 1..101u32 {
+        write!(text, ", {}", 100 - n)?;
+    }
+    text.push_str("]\nhigh = [0")?;
+    for n in 1..101u32 {
+        write!(text, ", {}", 2 * n)?;
+    }
+    text.push_str("]\n[[receiver]]\nname = \"a\"\nlog = \"a.log\"\nweight = 3\n")?;
+    Ok(text)
+}
+
+// The two disturbed seconds cost 200 and 100, times the weight of 3. 12:06 tells 14:07 and costs two bits more, 100 each, times 3.
+#[test]
+fn counts_by_its_own_table_and_ceiling(rt: HostRuntime) -> Result<(), Fail> {
+    let log = log_of(rt.alloc(), &DCF77_WAVES, &[DISTURBED])?;
+    for (ceiling, status, text) in [
+        ("899", 2, "none\nphase 0\n"),
+        (
+            "900",
+            0,
+            "decided 900\nphase 0\nsequence 2024-07-15T12:00Z 0 no\nnext none\nminute 2024-07-15T12:00Z at 0\n",
+        ),
+        (
+            "1499",
+            0,
+            "decided 900\nphase 0\nsequence 2024-07-15T12:00Z 0 no\nnext none\nminute 2024-07-15T12:00Z at 0\n",
+        ),
+        (
+            "1500",
+            0,
+            "decided 900\nphase 0\nsequence 2024-07-15T12:00Z 0 no\nnext 1500\nminute 2024-07-15T12:00Z at 0\n",
+        ),
+    ] {
+        let config = with_table(rt.alloc(), ceiling)?;
+        let mut files = files_of(rt.alloc(), &config, &log)?;
+        assert!(rt;
+            tells(
+                &rt,
+                rt.alloc(),
+                &mut files,
+                "decode k.toml --seconds 60 --from 2024-07-15T12:00Z --to 2024-07-15T12:59Z",
+                status,
+                text,
+            )?,
+            "{ceiling}"
+        );
+    }
+    Ok(())
+}
+
+// Four minutes of DCF77: the first three from 2024-10-27T00:58Z on, which tell 02:59 in summer time, then 02:00 and 02:01 in
+// winter time, and the one that begins 19 minutes after the first and tells 02:18.
+const CHANGE: [&str; 3] = [
+    "00000000000000001100110011010010000111100111100001001001000-",
+    "00000000000000001010100000000010000111100111100001001001000-",
+    "00000000000000000010110000001010000111100111100001001001000-",
+];
+
+const LATER: &str = "00000000000000000010100011000010000111100111100001001001000-";
+
+// An hour later, at 01:58, ten bits are others: in the first two minutes the announcement of the change, in the first the two of
+// summer time, and in all but the first the hour and its parity.
+#[test]
+fn decodes_twenty_minutes(rt: HostRuntime) -> Result<(), Fail> {
+    let mut minutes = [UNKNOWN; 20];
+    minutes[..3].copy_from_slice(&CHANGE);
+    minutes[19] = LATER;
+    let log = log_of(rt.alloc(), &DCF77_WAVES, &minutes)?;
+    let mut files = files_of(rt.alloc(), DCF77, &log)?;
+    assert!(rt;
+        tells(
+            &rt,
+            rt.alloc(),
+            &mut files,
+            "decode k.toml --seconds 1200 --from 2024-10-27T00:00Z --to 2024-10-27T01:59Z",
+            0,
+            TWENTY,
+        )?
+    );
+    Ok(())
+}
+
+const TWENTY: &str =
+    "decided 0\nphase 0\nsequence 2024-10-27T00:58Z 0 no\nnext 1000\nminute 2024-10-27T00:58Z at 0\nminute 2024-10-27T00:59Z at 60000\nminute 2024-10-27T01:00Z at 120000\nminute 2024-10-27T01:01Z at 180000\nminute 2024-10-27T01:02Z at 240000\nminute 2024-10-27T01:03Z at 300000\nminute 2024-10-27T01:04Z at 360000\nminute 2024-10-27T01:05Z at 420000\nminute 2024-10-27T01:06Z at 480000\nminute 2024-10-27T01:07Z at 540000\nminute 2024-10-27T01:08Z at 600000\nminute 2024-10-27T01:09Z at 660000\nminute 2024-10-27T01:10Z at 720000\nminute 2024-10-27T01:11Z at 780000\nminute 2024-10-27T01:12Z at 840000\nminute 2024-10-27T01:13Z at 900000\nminute 2024-10-27T01:14Z at 960000\nminute 2024-10-27T01:15Z at 1020000\nminute 2024-10-27T01:16Z at 1080000\nminute 2024-10-27T01:17Z at 1140000\n";
+
+const MSF: &str = "station = \"msf\"\n[[receiver]]\nname = \"a\"\nlog = \"a.log\"\n";
+
+#[test]
+fn feeds_minutes_of_msf(rt: HostRuntime) -> Result<(), Fail> {
+    let log = log_of(rt.alloc(), &MSF_WAVES, &MSF_MINUTES)?;
+    let mut files = files_of(rt.alloc(), MSF, &log)?;
+    assert!(rt;
+        tells(
+            &rt,
+            rt.alloc(),
+            &mut files,
+            "feed k.toml --seconds 120 --from 2024-07-15T12:00Z --to 2024-07-15T12:59Z",
+            0,
+            "$GPZDA,120000.00,15,07,2024,00,00*62\r\n$GPZDA,120100.00,15,07,2024,00,00*63\r\n",
+        )?
+    );
+    Ok(())
+}
+
+// The report would be written by call 5. That call fails, and the next one would not.
+#[test]
+fn a_write_that_fails_once_ends_the_run(rt: HostRuntime) -> Result<(), Fail> {
+    let log = log_of(rt.alloc(), &MSF_WAVES, &MSF_MINUTES)?;
+    let mut files = files_of(rt.alloc(), MSF, &log)?;
+    files.fail(5)?;
+    assert!(rt;
+        tells(
+            &rt,
+            rt.alloc(),
+            &mut files,
+            "decode k.toml --seconds 120 --from 2024-07-15T12:00Z --to 2024-07-15T12:59Z",
+            6,
+            "",
+        )?
+    );
+    assert_eq!(rt; files.append("-", b"!"), Ok(1));
+    assert!(rt; printed(&files, "!"));
+    Ok(())
+}

@@ -1,0 +1,415 @@
+//! What no clause says: that workers take part beside each other, that a visit goes by what others offered, and small
+//! searches from end to end.
+
+ghost use Rattle.std.specs.Prelude.{◌≡◌, ◌≤◌};
+ghost use Rattle.definitions.specs.answers.Blocks.{items};
+
+use crate::made::{CENTURY, YEAR_2001, dcf77, item, jjy, silent_grid};
+use bounds::items;
+use civil::Civil;
+use definitions::{Block, Span};
+use field_tables::{Tables, parts_of};
+use race_words::{Race, Seat};
+use signal_base::{GREATEST_COST, Station};
+use std::alloc::Global;
+use std::convert::Infallible;
+use std::process::Abort;
+use std::sync::atomic::{AtomicBool, Ordering};
+use std::test::Fail;
+use std::thread;
+use std::thread::Threads;
+use workers::{Found, Gate, NoGate, Recorder, finish, search, search_with, visit_with};
+
+// How often a worker who is held looks for the other.
+const TURNS: u32 = 10_000_000;
+
+fn found<R: Threads + Sync>(
+    rt: &R,
+    alloc: Global,
+    tables: &Tables,
+    list: &[Block],
+    workers: u8,
+) -> Result<Found, Fail>
+    requires workers { (1 ≤ workers) × (workers ≤ 8) }
+    requires items { list.now ≡ items tables.now.window }
+{
+    let (race, mut seat) = Race::make(alloc, workers)?;
+    search(
+        rt,
+        &race,
+        &mut seat,
+        tables,
+        list,
+        GREATEST_COST,
+        workers,
+        &NoGate,
+    );
+    Ok(finish(race, seat, tables, list, GREATEST_COST))
+}
+
+// However many workers search, these are the first two keys.
+fn each_crew_finds<R: Threads + Abort + Sync>(
+    rt: &R,
+    alloc: Global,
+    tables: &Tables,
+    list: &[Block],
+    first: Option<u64>,
+    second: Option<u64>,
+) -> Result<(), Fail>
+    requires { list.now ≡ items tables.now.window }
+{
+    for workers in 1..=8 {
+        let found = found(rt, alloc, tables, list, workers)?;
+        assert_eq!(rt; (found.first, found.second), (first, second), "{workers}");
+    }
+    Ok(())
+}
+
+#[test]
+fn one_sequence_is_left_at_the_end_of_the_century(rt: HostRuntime) -> Result<(), Fail> {
+    // From 22:59Z on the year that DCF77 encodes is 2100, and a walk of 60 seconds ends there unless it begins with second 0.
+    let civil = Civil::make(rt.alloc())?;
+    let window = dcf77(CENTURY - 62, CENTURY);
+    let grids = [silent_grid(rt.alloc(), Station::Dcf77)?];
+    let parts = parts_of(rt.alloc(), &civil, &window)?;
+    let tables = Tables::make(rt.alloc(), &parts, &grids, &civil, &window)?;
+    let list = items(rt.alloc(), &civil, &window)?;
+    each_crew_finds(&rt, rt.alloc(), &tables, &list, Some(52_595_938), None)
+}
+
+#[test]
+fn a_silent_hour_ties(rt: HostRuntime) -> Result<(), Fail> {
+    let civil = Civil::make(rt.alloc())?;
+    let window = jjy(0, 60);
+    let grids = [silent_grid(rt.alloc(), Station::Jjy)?];
+    let parts = parts_of(rt.alloc(), &civil, &window)?;
+    let tables = Tables::make(rt.alloc(), &parts, &grids, &civil, &window)?;
+    let list = items(rt.alloc(), &civil, &window)?;
+    each_crew_finds(&rt, rt.alloc(), &tables, &list, Some(0), Some(1))
+}
+
+// Holds each of two workers at its first pass until both have made one.
+#[derive(Drop)]
+struct Meeting {
+    first: AtomicBool,
+    second: AtomicBool,
+    gave_up: AtomicBool,
+}
+
+impl Gate for Meeting {
+    fn pass(&self, worker: u32, _number: u64) {
+        let mine = if worker == 0 {
+            &self.first
+        } else {
+            &self.second
+        };
+        if mine.load(Ordering::SeqCst) {
+            return;
+        }
+        mine.store(true, Ordering::SeqCst);
+        for _ in 0..TURNS {
+            if self.first.load(Ordering::SeqCst) && self.second.load(Ordering::SeqCst) {
+                return;
+            }
+            thread::yield_now();
+        }
+        self.gave_up.store(true, Ordering::SeqCst);
+    }
+}
+
+#[test]
+fn two_workers_meet_at_the_gate(rt: HostRuntime) -> Result<(), Fail> {
+    let civil = Civil::make(rt.alloc())?;
+    let window = jjy(0, 60);
+    let grids = [silent_grid(rt.alloc(), Station::Jjy)?];
+    let parts = parts_of(rt.alloc(), &civil, &window)?;
+    let tables = Tables::make(rt.alloc(), &parts, &grids, &civil, &window)?;
+    let list = items(rt.alloc(), &civil, &window)?;
+    let gate = Meeting {
+        first: AtomicBool::new(false),
+        second: AtomicBool::new(false),
+        gave_up: AtomicBool::new(false),
+    };
+    let (race, mut seat) = Race::make(rt.alloc(), 2)?;
+    search(
+        &rt,
+        &race,
+        &mut seat,
+        &tables,
+        &list,
+        GREATEST_COST,
+        2,
+        &gate,
+    );
+    assert!(rt; gate.first.load(Ordering::SeqCst), "worker 0 passed");
+    assert!(rt; gate.second.load(Ordering::SeqCst), "worker 1 passed");
+    assert!(rt;
+        !gate.gave_up.load(Ordering::SeqCst),
+        "neither waited in vain"
+    );
+    Ok(())
+}
+
+// Counts the blocks of which it is told: of all that visits come to, or of those that aren't passed over by a floor.
+#[derive(Drop)]
+pub(crate) struct Counter {
+    pub needs_all: bool,
+    pub blocks: u32,
+}
+
+impl Recorder for Counter {
+    type Fault = Infallible;
+
+    ghost told = { λ before step after. Unit {0} };
+
+    ghost fails = { λ before after. Unit {0} };
+
+    ghost parts = { λ before after part. Unit {0} };
+
+    ghost joins = { λ before part after. Unit {0} };
+
+    fn needs_steps(&self) -> bool {
+        self.needs_all
+    }
+
+    fn record(
+        &mut self,
+        _block: &Block,
+        _bound: Option<u32>,
+        _seen: u64,
+    ) -> Result<(), Infallible> {
+        self.blocks = self.blocks.saturating_add(1);
+        Ok(())
+    }
+
+    fn split(&mut self) -> Result<Counter, Infallible> {
+        Ok(Counter {
+            needs_all: self.needs_all,
+            blocks: 0,
+        })
+    }
+
+    fn join(&mut self, part: Counter) -> Result<(), Infallible> {
+        self.blocks = self.blocks.saturating_add(part.blocks);
+        Ok(())
+    }
+}
+
+// Of how many blocks the visit of an item tells, where all are to be told or those that no floor passes over.
+fn blocks_of(
+    race: &Race,
+    seat: &mut Seat,
+    tables: &Tables,
+    list: &[Block],
+    number: usize,
+    needs_all: bool,
+) -> Option<u32>
+    requires race { seat.old.race ≡ race.now.id }
+    requires items { list.now ≡ items tables.now.window }
+    ensures { seat.new.race ≡ seat.old.race }
+{
+    let item = item(tables, list, number)?;
+    let mut counter = Counter {
+        needs_all,
+        blocks: 0,
+    };
+    match visit_with(race, seat, tables, &item, GREATEST_COST, &mut counter) {
+        Ok(()) => Some(counter.blocks),
+    }
+}
+
+#[test]
+fn a_visit_goes_by_what_another_seat_offered(rt: HostRuntime) -> Result<(), Fail> {
+    let civil = Civil::make(rt.alloc())?;
+    let window = jjy(YEAR_2001 - 2, YEAR_2001 + 2);
+    let grids = [silent_grid(rt.alloc(), Station::Jjy)?];
+    let parts = parts_of(rt.alloc(), &civil, &window)?;
+    let tables = Tables::make(rt.alloc(), &parts, &grids, &civil, &window)?;
+    let list = items(rt.alloc(), &civil, &window)?;
+    assert_eq!(rt;
+        list.get(1).map(|b| (b.span, b.lo, b.second, b.announced)),
+        Some((Span::Year, YEAR_2001, 0, false))
+    );
+
+    // A seat that has seen nothing comes to the year, its day, its hour and two minutes.
+    let (race, mut seat) = Race::make(rt.alloc(), 1)?;
+    let told = blocks_of(&race, &mut seat, &tables, &list, 1, true);
+    assert_eq!(rt; told, Some(5));
+
+    // Once another seat has offered two lesser keys, it comes to the year alone.
+    let (race, mut first) = Race::make(rt.alloc(), 2)?;
+    let mut other = race.split(&mut first, 1);
+    race.offer(&mut first, 0);
+    race.offer(&mut first, 1);
+    let told = blocks_of(&race, &mut other, &tables, &list, 1, true);
+    assert_eq!(rt; told, Some(1));
+    Ok(())
+}
+
+// Of how many blocks the visit of the first item tells, once another seat has offered these keys.
+fn blocks_after(
+    alloc: Global,
+    tables: &Tables,
+    list: &[Block],
+    one: u32,
+    two: u32,
+    needs_all: bool,
+) -> Result<Option<u32>, Fail>
+    requires items { list.now ≡ items tables.now.window }
+{
+    let (race, mut first) = Race::make(alloc, 2)?;
+    let mut other = race.split(&mut first, 1);
+    race.offer(&mut first, one as u64);
+    race.offer(&mut first, two as u64);
+    Ok(blocks_of(&race, &mut other, tables, list, 0, needs_all))
+}
+
+#[test]
+fn a_day_is_passed_over_by_what_another_seat_offered(rt: HostRuntime) -> Result<(), Fail> {
+    // The last minute of a day, and the first of the next. What is told of all blocks is told of their own steps.
+    let last = YEAR_2001 + 1439;
+    let civil = Civil::make(rt.alloc())?;
+    let window = jjy(last, last + 2);
+    let grids = [silent_grid(rt.alloc(), Station::Jjy)?];
+    let parts = parts_of(rt.alloc(), &civil, &window)?;
+    let tables = Tables::make(rt.alloc(), &parts, &grids, &civil, &window)?;
+    let list = items(rt.alloc(), &civil, &window)?;
+
+    // After greater keys the visit comes to the year, two days, two hours and two minutes.
+    let all = blocks_after(rt.alloc(), &tables, &list, last + 2, last + 3, true)?;
+    let some = blocks_after(rt.alloc(), &tables, &list, last + 2, last + 3, false)?;
+    assert_eq!(rt; (all, some), (Some(7), Some(7)));
+
+    // After two keys below the second day's that day is passed over: by its own step, or by its floor, and then nothing is
+    // told of it.
+    let all = blocks_after(rt.alloc(), &tables, &list, 0, last, true)?;
+    let some = blocks_after(rt.alloc(), &tables, &list, 0, last, false)?;
+    assert_eq!(rt; (all, some), (Some(5), Some(4)));
+
+    // After the very key of the second day, which is the second-least once the first day's minute is offered, it is not.
+    let all = blocks_after(rt.alloc(), &tables, &list, last + 1, last + 3, true)?;
+    let some = blocks_after(rt.alloc(), &tables, &list, last + 1, last + 3, false)?;
+    assert_eq!(rt; (all, some), (Some(7), Some(7)));
+    Ok(())
+}
+
+// How many blocks so many workers come to.
+fn blocks_of_all<R: Threads + Sync>(
+    rt: &R,
+    alloc: Global,
+    tables: &Tables,
+    list: &[Block],
+    workers: u8,
+) -> Result<u32, Fail>
+    requires workers { (1 ≤ workers) × (workers ≤ 8) }
+    requires items { list.now ≡ items tables.now.window }
+{
+    let (race, mut seat) = Race::make(alloc, workers)?;
+    let mut counter = Counter {
+        needs_all: true,
+        blocks: 0,
+    };
+    match search_with(
+        rt,
+        &race,
+        &mut seat,
+        tables,
+        list,
+        GREATEST_COST,
+        workers,
+        &NoGate,
+        &mut counter,
+    ) {
+        Ok(()) => Ok(counter.blocks),
+    }
+}
+
+// Keeps so many steps in each part, and fails at the next.
+#[derive(Drop)]
+struct FewSteps {
+    room: u32,
+}
+
+#[derive(Clone, Copy, Debug, PartialEq, Eq)]
+struct NoRoom;
+
+impl Recorder for FewSteps {
+    type Fault = NoRoom;
+
+    ghost told = { λ before step after. Unit {0} };
+
+    ghost fails = { λ before after. Unit {0} };
+
+    ghost parts = { λ before after part. Unit {0} };
+
+    ghost joins = { λ before part after. Unit {0} };
+
+    fn needs_steps(&self) -> bool {
+        true
+    }
+
+    fn record(&mut self, _block: &Block, _bound: Option<u32>, _seen: u64) -> Result<(), NoRoom> {
+        if self.room == 0 {
+            return Err(NoRoom);
+        }
+        self.room -= 1;
+        Ok(())
+    }
+
+    fn split(&mut self) -> Result<FewSteps, NoRoom> {
+        Ok(FewSteps { room: self.room })
+    }
+
+    fn join(&mut self, _part: FewSteps) -> Result<(), NoRoom> {
+        Ok(())
+    }
+}
+
+#[test]
+fn a_search_whose_steps_cannot_be_kept_ends(rt: HostRuntime) -> Result<(), Fail> {
+    // An hour of JJY has 121 items, each of which takes a step at least, and two workers keep at most 60 each.
+    let civil = Civil::make(rt.alloc())?;
+    let window = jjy(0, 60);
+    let grids = [silent_grid(rt.alloc(), Station::Jjy)?];
+    let parts = parts_of(rt.alloc(), &civil, &window)?;
+    let tables = Tables::make(rt.alloc(), &parts, &grids, &civil, &window)?;
+    let list = items(rt.alloc(), &civil, &window)?;
+    for (room, least, second) in [(0, u64::MAX, u64::MAX), (1, u64::MAX, u64::MAX), (60, 0, 1)] {
+        let (race, mut seat) = Race::make(rt.alloc(), 2)?;
+        let mut recorder = FewSteps { room };
+        let kept = search_with(
+            &rt,
+            &race,
+            &mut seat,
+            &tables,
+            &list,
+            GREATEST_COST,
+            2,
+            &NoGate,
+            &mut recorder,
+        );
+        assert_eq!(rt; kept, Err(NoRoom), "{room} steps");
+
+        // The seat has the whole share, with which alone a race is closed. A key is offered at the fourth step, behind the
+        // year, the day and the hour, and who draws the first item offers the least two.
+        let ends = race.close(seat);
+        assert_eq!(rt; (ends.least, ends.second), (least, second), "{room} steps");
+    }
+    Ok(())
+}
+
+#[test]
+fn each_workers_steps_are_told(rt: HostRuntime) -> Result<(), Fail> {
+    // An hour of JJY has 121 items, and whoever visits one comes to its year at least.
+    let civil = Civil::make(rt.alloc())?;
+    let window = jjy(0, 60);
+    let grids = [silent_grid(rt.alloc(), Station::Jjy)?];
+    let parts = parts_of(rt.alloc(), &civil, &window)?;
+    let tables = Tables::make(rt.alloc(), &parts, &grids, &civil, &window)?;
+    let list = items(rt.alloc(), &civil, &window)?;
+    for workers in 1..=8 {
+        let blocks = blocks_of_all(&rt, rt.alloc(), &tables, &list, workers)?;
+        assert!(rt; blocks >= 121, "{workers} workers: {blocks}");
+    }
+    Ok(())
+}

@@ -1,0 +1,310 @@
+//! Texts of frames that are written and read again, and what becomes of those with a fault. The elements and the lines
+//! were worked out from the published table, apart from this project.
+
+ghost use Rattle.std.specs.Prelude.{◌<◌};
+ghost use Rattle.formats.specs.declared.frame.TheConstants.{FRAME_LIMIT};
+ghost use Rattle.formats.specs.FrameTexts.{IsSecond};
+
+use bank_files::{MemoryFiles, OUTPUT};
+use civil::Civil;
+use formats::FRAMES_LIMIT;
+use irig_frames::{Frame, FrameFault, elements, read_frames, write_frame};
+use std::alloc::{AllocError, Global};
+use std::process::Abort;
+use std::test::Fail;
+
+// 2024-06-10T06:16Z.
+const MORNING: u32 = 8_927 * 1_440 + 376;
+
+fn read(
+    rt: &(impl Abort + AllocGlobal),
+    civil: &Civil,
+    text: &[u8],
+) -> Result<Vec<Frame>, FrameFault> {
+    assert!(rt; text.len() as u64 <= FRAMES_LIMIT);
+    read_frames(rt.alloc(), civil, text)
+}
+
+// The frame of the n-th second from 06:16Z on.
+#[tactic(auto, using(irig_frames::proofs::ToldLaws::first_sixty))]
+fn frame_of(n: u16) -> Frame
+    ensures start { result.at < FRAME_LIMIT }
+    ensures second { IsSecond result.minute result.second }
+{
+    Frame {
+        at: n as u64 * 1_000,
+        minute: MORNING + n as u32 / 60,
+        second: (n % 60) as u8,
+    }
+}
+
+// The text of this many of them.
+fn text_of(rt: &(impl Abort + AllocGlobal), civil: &Civil, count: u16) -> Result<Vec<u8>, Fail> {
+    let mut files = MemoryFiles::make(rt.alloc());
+    for n in 0..count {
+        write_frame(&mut files, OUTPUT, civil, &frame_of(n))?;
+    }
+    let Some(text) = files.contents(OUTPUT) else {
+        return Ok(Vec::new(rt.alloc()));
+    };
+    Ok(text.to_vec(rt.alloc())?)
+}
+
+#[test]
+fn elements_of_a_second(rt: HostRuntime) -> Result<(), Fail> {
+    let civil = Civil::make(rt.alloc())?;
+    let want =
+        b"M00000000M011001000M011000000M010000110M100000000M001000100M000000000M000000000M000001000M001101000M";
+    let found = elements(&civil, MORNING, 0);
+    for i in 0..100 {
+        let sign = match found[i] {
+            0 => b'0',
+            1 => b'1',
+            _ => b'M',
+        };
+        assert_eq!(rt; sign, want[i], "element {i}");
+    }
+    Ok(())
+}
+
+#[test]
+fn two_minutes_read_again(rt: HostRuntime) -> Result<(), Fail> {
+    let civil = Civil::make(rt.alloc())?;
+    let text = text_of(&rt, &civil, 120)?;
+    assert_eq!(rt; text.iter().filter(|byte| **byte == b'\n').count(), 24_000);
+    assert!(rt; text.as_slice().starts_with(b"0 H\n8 L\n10 H\n12 L\n"));
+    let frames = read(&rt, &civil, &text)?;
+    assert_eq!(rt; frames.len(), 120);
+    for n in 0..120 {
+        assert_eq!(rt; frames.get(n as usize), Some(&frame_of(n)));
+    }
+    Ok(())
+}
+
+#[test]
+fn refuses_the_first_bad_line(rt: HostRuntime) -> Result<(), Fail> {
+    let civil = Civil::make(rt.alloc())?;
+    let mut text = text_of(&rt, &civil, 120)?;
+    let end = text.len();
+    assert!(rt; end > 14);
+    // Line 2 is `9 L`.
+    text[4] = b'9';
+    assert_eq!(rt;
+        read(&rt, &civil, &text).err(),
+        Some(FrameFault::Timing { line: 2 })
+    );
+    text[4] = b'8';
+    // Line 4 is `15 L`.
+    text[14] = b'5';
+    assert_eq!(rt;
+        read(&rt, &civil, &text).err(),
+        Some(FrameFault::Meaning { line: 200 })
+    );
+    text[14] = b'2';
+    // The last line, `119998 L`, is missing, and then its LF alone.
+    let whole = read(&rt, &civil, &text[..end]);
+    assert!(rt; whole.is_ok());
+    assert_eq!(rt;
+        read(&rt, &civil, &text[..end - 9]).err(),
+        Some(FrameFault::Shape { line: 24_000 })
+    );
+    assert_eq!(rt;
+        read(&rt, &civil, &text[..end - 1]).err(),
+        Some(FrameFault::Shape { line: 24_000 })
+    );
+    Ok(())
+}
+
+#[test]
+fn reads_the_most_frames(rt: HostRuntime) -> Result<(), Fail> {
+    let civil = Civil::make(rt.alloc())?;
+    let text = text_of(&rt, &civil, 1_201)?;
+    assert_eq!(rt;
+        read(&rt, &civil, &text).err(),
+        Some(FrameFault::TooManyFrames { line: 240_001 })
+    );
+    let text = text_of(&rt, &civil, 1_200)?;
+    assert_eq!(rt; read(&rt, &civil, &text)?.len(), 1_200);
+    Ok(())
+}
+
+// The text of a frame at millisecond 0 with these elements.
+fn text_with(alloc: Global, elements: &[u8]) -> Result<String, AllocError> {
+    let mut text = String::new(alloc);
+    let mut ms = 0u64;
+    for element in elements {
+        // Never reached: it bounds the sums.
+        if ms > 2_000 {
+            return Ok(text);
+        }
+        let fall = match *element {
+            0 => ms + 2,
+            1 => ms + 5,
+            _ => ms + 8,
+        };
+        write!(text, "{ms} H\n{fall} L\n")?;
+        ms += 10;
+    }
+    Ok(text)
+}
+
+// The second that a text of one frame tells, or why it is refused.
+fn second_in(
+    rt: &(impl Abort + AllocGlobal),
+    civil: &Civil,
+    text: &[u8],
+) -> Result<Option<(u32, u8)>, FrameFault> {
+    match read(rt, civil, text) {
+        Ok(frames) => Ok(frames.first().map(|frame| (frame.minute, frame.second))),
+        Err(fault) => Err(fault),
+    }
+}
+
+// The elements that tell another day where they are wrong, with what they then are and the minute that is told.
+const OTHER_DAYS: [(usize, u8, u32); 14] = [
+    (30, 1, 8_928 * 1_440 + 376),
+    (31, 0, 8_925 * 1_440 + 376),
+    (32, 1, 8_931 * 1_440 + 376),
+    (35, 1, 8_937 * 1_440 + 376),
+    (36, 0, 8_907 * 1_440 + 376),
+    (37, 0, 8_887 * 1_440 + 376),
+    (40, 0, 8_827 * 1_440 + 376),
+    (41, 1, 9_127 * 1_440 + 376),
+    (50, 1, 9_293 * 1_440 + 376),
+    (51, 1, 9_658 * 1_440 + 376),
+    (52, 0, 7_466 * 1_440 + 376),
+    (55, 1, 12_580 * 1_440 + 376),
+    (56, 0, 1_622 * 1_440 + 376),
+    (57, 1, 23_537 * 1_440 + 376),
+];
+
+// A wrong element of the time of day is at odds with the straight binary seconds; one of the day or of the year tells
+// another day, where there is such a day.
+#[test]
+fn each_element_wrong_in_turn(rt: HostRuntime) -> Result<(), Fail> {
+    let civil = Civil::make(rt.alloc())?;
+    let mut found = elements(&civil, MORNING, 0);
+    for i in 0..100 {
+        let right = found[i];
+        for wrong in 0..3u8 {
+            if wrong != right {
+                found[i] = wrong;
+                let text = text_with(rt.alloc(), &found)?;
+                let other = OTHER_DAYS.iter().find(|day| day.0 == i && day.1 == wrong);
+                let want = match other {
+                    Some(day) => Ok(Some((day.2, 0))),
+                    None => Err(FrameFault::Meaning { line: 200 }),
+                };
+                assert_eq!(rt;
+                    second_in(&rt, &civil, text.as_bytes()),
+                    want,
+                    "element {i} as {wrong}"
+                );
+            }
+        }
+        found[i] = right;
+    }
+    Ok(())
+}
+
+// The elements of seconds at the ends of days, of years and of the century, and of leap seconds, after which 86,400 seconds of
+// the day are over. Two have a second 60 where there is none.
+const SECONDS: [(&[u8; 100], Option<(u32, u8)>); 11] = [
+    (
+        b"M10010101M100101010M110000100M011000110M110000000M011001000M000000000M000000000M111111101M000101010M",
+        Some((8_942_399, 59)),
+    ),
+    (
+        b"M00000011M100101010M110000100M011000110M110000000M011001000M000000000M000000000M000000011M000101010M",
+        Some((8_942_399, 60)),
+    ),
+    (
+        b"M00000000M000000000M000000000M100000000M000000000M111001000M000000000M000000000M000000000M000000000M",
+        Some((8_942_400, 0)),
+    ),
+    (
+        b"M00000011M100101010M110000100M100000001M100000000M101001000M000000000M000000000M000000011M000101010M",
+        Some((8_150_399, 60)),
+    ),
+    (
+        b"M00000000M000000000M000000000M100000000M000000000M000000000M000000000M000000000M000000000M000000000M",
+        Some((0, 0)),
+    ),
+    (
+        b"M00000110M000000000M010001000M000000110M000000000M001000100M000000000M000000000M011110110M001010100M",
+        Some((12_708_720, 30)),
+    ),
+    (
+        b"M00000000M000000000M000000000M100000110M000000000M001000100M000000000M000000000M000000000M000000000M",
+        Some((12_709_440, 0)),
+    ),
+    (
+        b"M10010101M100101010M110000100M011000110M110000000M001000100M000000000M000000000M111111101M000101010M",
+        Some((13_150_079, 59)),
+    ),
+    (
+        b"M00000011M100101010M110000100M101000110M110000000M100101001M000000000M000000000M000000011M000101010M",
+        Some((52_595_999, 60)),
+    ),
+    (
+        b"M00000011M011001000M011000000M010000110M100000000M001000100M000000000M000000000M001110100M001101000M",
+        None,
+    ),
+    (
+        b"M00000011M100101010M110000100M010000110M100000000M001000100M000000000M000000000M000000011M000101010M",
+        None,
+    ),
+];
+
+#[test]
+fn seconds_at_the_ends_of_days(rt: HostRuntime) -> Result<(), Fail> {
+    let civil = Civil::make(rt.alloc())?;
+    for (signs, second) in SECONDS {
+        let mut found = [0u8; 100];
+        for i in 0..100 {
+            found[i] = match signs[i] {
+                b'0' => 0,
+                b'1' => 1,
+                _ => 2,
+            };
+        }
+        let text = text_with(rt.alloc(), &found)?;
+        let want = match second {
+            Some(told) => Ok(Some(told)),
+            None => Err(FrameFault::Meaning { line: 200 }),
+        };
+        assert_eq!(rt; second_in(&rt, &civil, text.as_bytes()), want);
+    }
+    Ok(())
+}
+
+// Behind each of its lines, and before the end of each. Only whole frames are read.
+#[test]
+fn refuses_a_text_cut_at_every_line(rt: HostRuntime) -> Result<(), Fail> {
+    let civil = Civil::make(rt.alloc())?;
+    let text = text_of(&rt, &civil, 2)?;
+    let mut line = 1u32;
+    for end in 0..text.len() {
+        if text[end] == b'\n' {
+            let unended = read(&rt, &civil, &text[..end]);
+            assert_eq!(rt;
+                unended.err(),
+                Some(FrameFault::Shape { line }),
+                "line {line}"
+            );
+            let whole = read(&rt, &civil, &text[..end + 1]);
+            line = line.saturating_add(1);
+            if line == 201 || line == 401 {
+                assert!(rt; whole.is_ok(), "line {line}");
+            } else {
+                assert_eq!(rt;
+                    whole.err(),
+                    Some(FrameFault::Shape { line }),
+                    "line {line}"
+                );
+            }
+        }
+    }
+    assert_eq!(rt; line, 401);
+    Ok(())
+}
