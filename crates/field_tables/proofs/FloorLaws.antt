@@ -1,5 +1,5 @@
 -- Floors: of two pieces together, by costs that agree, and of the sequences of a block.
-use Rattle.std.proofs.Common.{◌≡◌, ℕ, ◌+◌, ◌<◌, ◌≤◌, min, inl, inr, Option, Some, None, refl, sym, subst, arith}
+use Rattle.std.proofs.Common.{◌≡◌, ℕ, ◌+◌, ◌<◌, ◌≤◌, min, inl, inr, List, Option, Some, None, true, refl, sym, ◌∙◌, subst, arith}
 use Rattle.std.proofs.Math.Nat.{min-le_left, min-le_right}
 use Rattle.std.proofs.lemmas.Bool.{cases_lt}
 use Rattle.signal_base.specs.declared.window.Window.{Window}
@@ -9,10 +9,15 @@ use Rattle.definitions.specs.answers.Blocks.{IsIn}
 use Rattle.definitions.specs.heard.Costs.{Costs, sequence_cost}
 use Rattle.definitions.proofs.KeyLaws.{same_sequence}
 use Rattle.plain_costs.specs.Agreement.{AgreeOn}
+use Rattle.plain_costs.specs.Grids.{grid_costs}
 use Rattle.plain_costs.proofs.AgreementLaws.{sequence_same}
+use Rattle.symbol_cost.specs.Grid.{Grid}
 use Rattle.walk_costs.specs.Walks.{PricedParts}
 use Rattle.field_tables.specs.Floors.{CostAtLeast, IsFloor, lesser, piece}
 use Rattle.field_tables.specs.Minutes.{sequence_at}
+use Rattle.field_tables.specs.Quiet.{NoneAnnounced}
+use Rattle.field_tables.specs.Scored.{Scored, costs_of}
+use Rattle.field_tables.specs.Sums.{AreTables, Sums, costs_by}
 
 -- the lesser of the floors of two neighbouring pieces is one of both together
 pub joined : (w : PricedParts) (b : Block) (lo t hi n m least : ℕ) → least ≡ min n m → CostAtLeast w b lo t n → CostAtLeast w b t hi m
@@ -89,6 +94,30 @@ whole_floor costs window b (Some n) is = λ q inside legal. is q (whole q inside
 -- any number is one of no minutes
 pub empty_floor : (costs : Costs) (window : Window) (b : Block) (t n : ℕ) → IsFloor costs window (piece b t t) (Some n)
 empty_floor costs window b t n = λ q inside legal. absurd (omega (arith, inside.not_before, inside.before_end))
+
+-- no floor is needed of no minutes
+pub none_of_none : (costs : Costs) (window : Window) (b : Block) (t : ℕ) → IsFloor costs window (piece b t t) None
+none_of_none costs window b t = λ q inside legal. absurd (omega (arith, inside.not_before, inside.before_end))
+
+-- nor of an announced block's minutes on quiet days, so that a floor of what comes before them is one with them
+pub on_to : (costs : Costs) (window : Window) (b : Block) (lo t hi : ℕ) (floor : Option ℕ) → b.announced ≡ true → IsFloor costs window (piece b lo t) floor
+    → NoneAnnounced window t hi → IsFloor costs window (piece b lo hi) floor
+on_to costs window b lo t hi floor announced front quiet =
+    subst (λ (o : Option ℕ). IsFloor costs window (piece b lo hi) o) (same floor)
+    (joined_floors costs window b lo t hi floor None front (λ q inside legal. quiet q (inside.announced ∙ announced) inside.not_before inside.before_end legal))
+  where
+    same : (floor : Option ℕ) → lesser floor None ≡ floor
+    same None = refl
+    same (Some n) = refl
+
+-- a floor by the sums of tables is one by their grids
+pub floor_of_tables : (window : Window) (grids : List Grid) (sums : Sums) (scored : Scored) → AreTables window grids sums
+    → record { window = window; grids = grids } ≡ scored → (b : Block) (floor : Option ℕ) → IsFloor (costs_by sums) sums.window b floor
+    → IsFloor (costs_of scored) scored.window b floor
+floor_of_tables window grids sums scored tables is b floor found =
+    subst (λ (s : Scored). IsFloor (costs_of s) s.window b floor) is
+    (floor_same window (costs_by sums) (grid_costs grids) b floor tables.agree
+    (subst (λ (x : Window). IsFloor (costs_by sums) x b floor) tables.same found))
 
 -- what no sequence of an announced block costs less than that begins in some minutes
 pub floor_by_minutes : (costs : Costs) (window : Window) (b : Block) (lo hi n : ℕ)

@@ -5,6 +5,8 @@ pub mod LegalLaws
 pub mod MinuteLaws
 pub mod QuietLaws
 pub mod ScopeLaws
+pub mod SeasonFloorLaws
+pub mod SeasonLaws
 pub mod StationLaws
 pub mod SetCostLaws
 pub mod SumLaws

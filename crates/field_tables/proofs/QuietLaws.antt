@@ -1,5 +1,7 @@
 -- Where nothing tells of a leap second, no announced sequence is legal.
-use Rattle.std.proofs.Common.{◌≡◌, ◌+◌, ◌-◌, ◌*◌, ◌<◌, ◌≤◌, ◌&&◌, ℕ, Bool, if◌then◌else◌, true, false, refl, get_or, sym, ap, ◌∙◌, subst, arith}
+use Rattle.std.proofs.Common.{◌≡◌, ◌+◌, ◌-◌, ◌*◌, ◌<◌, ◌≤◌, ◌&&◌, ℕ, Bool, max, min, inl, inr, if◌then◌else◌, true, false, refl, get_or, sym, ap, ◌∙◌, subst, arith}
+use Rattle.std.proofs.Math.Nat.{max-le, min-le_left}
+use Rattle.std.proofs.lemmas.Bool.{cases_lt}
 use Rattle.std.proofs.lemmas.List.{get_or_default}
 use Rattle.definitions.specs.declared.block.Block.{Block}
 use Rattle.definitions.specs.declared.block.Span.TheVariants.{Minute}
@@ -15,6 +17,13 @@ use Rattle.field_tables.specs.Sums.{AreSums, Sums}
 use Rattle.field_tables.proofs.FloorLaws.{at_first}
 use Rattle.field_tables.proofs.MinuteLaws.{legal_where_shown, regular_walks, some_shows}
 use Rattle.field_tables.proofs.SumLaws.{regular, slots}
+
+-- what lies from t on and before the later of t and the lesser of two minutes is before the first of these
+pub below_limit : (n hi t x : ℕ) → t ≤ x → x < max (min n hi) t → x < n
+below_limit n hi t x ge lt = elim (cases_lt x n) [
+  | inl less ↦ less
+  | inr le ↦ (let most : max (min n hi) t ≤ x = max-le (omega (arith, min-le_left n hi, le)) ge in absurd (omega (arith, most, lt)))
+]
 
 -- a minute after which no leap second may come has 60 seconds
 sixty : (t : ℕ) → is_leap_end t ≡ false → minute_length true t ≡ 60

@@ -7,6 +7,8 @@ use Rattle.definitions.specs.sequences.Walks.{IsLegal}
 use Rattle.definitions.specs.heard.Costs.{Costs, sequence_cost}
 use Rattle.definitions.specs.answers.Blocks.{IsIn}
 use Rattle.walk_costs.specs.Walks.{PricedParts, cost_of}
+use Rattle.field_tables.specs.Minutes.{sequence_at}
+use Rattle.field_tables.specs.Sums.{Sums, costs_by}
 
 -- No legal sequence of the block costs less. Where there is no floor, no sequence of the block is legal.
 abbrev pub IsFloor : Costs → Window → Block → Option ℕ → Type 0
@@ -16,6 +18,10 @@ IsFloor costs window b (Some n) = (q : Sequence) → IsIn b q → IsLegal window
 -- no sequence of the block costs a station less that begins in the minutes from `from` up to, and without, `to`
 abbrev pub CostAtLeast : PricedParts → Block → ℕ → ℕ → ℕ → Type 0
 CostAtLeast w b from to n = (t0 : ℕ) → from ≤ t0 → t0 < to → n ≤ cost_of w b.announced b.second t0
+
+-- nor all stations together
+abbrev pub AllCostAtLeast : Sums → Block → ℕ → ℕ → ℕ → Type 0
+AllCostAtLeast sums b from to n = (t0 : ℕ) → from ≤ t0 → t0 < to → n ≤ sequence_cost (costs_by sums) sums.window (sequence_at b t0)
 
 -- the sequences of a block that begin in the minutes from lo up to, and without, hi
 abbrev pub piece : Block → ℕ → ℕ → Block

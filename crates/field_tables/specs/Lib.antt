@@ -7,3 +7,4 @@ pub mod Minutes
 pub mod Floors
 pub mod Quiet
 pub mod Scopes
+pub mod Seasons

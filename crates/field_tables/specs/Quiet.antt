@@ -1,5 +1,5 @@
--- Days on which no announced sequence is legal that begins there, and minutes in which nothing tells of a leap second.
-use Rattle.std.specs.Prelude.{ℕ, ◌≡◌, ◌+◌, ◌*◌, ◌<◌, ◌≤◌, Bool, true, false, List, length, slice_index_or}
+-- Minutes and days on which no announced sequence is legal that begins there, and minutes in which nothing tells of a leap second.
+use Rattle.std.specs.Prelude.{ℕ, ◌≡◌, ◌+◌, ◌*◌, ◌<◌, ◌≤◌, true, List, length, slice_index_or}
 use Rattle.signal_base.specs.declared.window.Window.{Window}
 use Rattle.definitions.specs.declared.sequence.Sequence.{Sequence}
 use Rattle.definitions.specs.sequences.Walks.{IsLegal}
@@ -8,14 +8,17 @@ use Rattle.walk_costs.specs.Walks.{IsRegularWalk, ShowsAnnouncement, last_minute
 use Rattle.field_tables.specs.Minutes.{no_walks}
 use Rattle.field_tables.specs.Sums.{Sums}
 
--- no announced sequence is legal that begins on the day
-abbrev pub IsQuiet : Window → ℕ → Type 0
-IsQuiet window day =
-    (q : Sequence) → q.announced ≡ true → day * minutes_per_day ≤ q.first → q.first < (day + 1) * minutes_per_day → ¬ (IsLegal window q)
+-- no announced sequence is legal that begins in the minutes from lo up to, and without, hi
+abbrev pub NoneAnnounced : Window → ℕ → ℕ → Type 0
+NoneAnnounced window lo hi = (q : Sequence) → q.announced ≡ true → lo ≤ q.first → q.first < hi → ¬ (IsLegal window q)
 
--- so it is on the days of which that is known
-abbrev pub AreQuiet : Window → List Bool → Type 0
-AreQuiet window days = (day : ℕ) → day < length days → slice_index_or days day false ≡ true → IsQuiet window day
+-- none that begins on the day
+abbrev pub IsQuiet : Window → ℕ → Type 0
+IsQuiet window day = NoneAnnounced window (day * minutes_per_day) ((day + 1) * minutes_per_day)
+
+-- none that begins from a day on before the minute that is kept for it
+abbrev pub AreQuiet : Window → List ℕ → Type 0
+AreQuiet window loud = (day : ℕ) → NoneAnnounced window (day * minutes_per_day) (slice_index_or loud day 0)
 
 -- no station shows the announcement in a walk from the minute lo on up to `last`
 abbrev pub NeverTell : Sums → ℕ → ℕ → Type 0

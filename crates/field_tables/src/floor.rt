@@ -1,17 +1,16 @@
 //! Floors of blocks: what no legal sequence of a block costs less than.
 
-ghost use Rattle.std.specs.Prelude.{ℕ, ◌≡◌, ◌+◌, ◌<◌, ◌≤◌, IfSome, Some, true};
+ghost use Rattle.std.specs.Prelude.{ℕ, ◌≡◌, ◌+◌, ◌*◌, ◌/◌, ◌<◌, ◌≤◌, IfSome, Some, true};
 ghost use Rattle.signal_base.specs.declared.limits.TheConstants.{GREATEST_COST};
 ghost use Rattle.slot_columns.specs.declared.limits.TheConstants.{SECONDS_PER_MINUTE};
 ghost use Rattle.definitions.specs.answers.Blocks.{IsBlock};
-ghost use Rattle.definitions.specs.declared.sequence.Sequence.{Sequence};
 ghost use Rattle.definitions.specs.heard.Costs.{sequence_cost};
-ghost use Rattle.definitions.specs.sequences.Walks.{IsLegal, ShowsLeap};
+ghost use Rattle.definitions.specs.sequences.Walks.{ShowsLeap};
 ghost use Rattle.definitions.specs.time.Calendar.{minute_length};
 ghost use Rattle.minute_parts.specs.Walks.{reach};
 ghost use Rattle.field_tables.specs.Blocks.{AreMinutesOf, HasShortWalks};
 ghost use Rattle.field_tables.specs.Floors.{IsFloor, lesser, piece};
-ghost use Rattle.field_tables.specs.Quiet.{IsQuiet};
+ghost use Rattle.field_tables.specs.Quiet.{NoneAnnounced};
 ghost use Rattle.field_tables.specs.Minutes.{sequence_at};
 ghost use Rattle.field_tables.specs.Scored.{costs_of};
 ghost use Rattle.field_tables.specs.Sums.{costs_by};
@@ -37,31 +36,80 @@ impl<'a> Tables<'a> {
         ensures floor { IsFloor (costs_of self.now) self.now.window block.now result }
         ensures small { IfSome result (λ n. n ≤ GREATEST_COST) }
     {
-        if block.announced && self.is_in_quiet_day(block) {
+        if block.announced && block.hi - block.lo > MINUTES_PER_DAY {
+            return self.floor_of_announced_days(block, enough);
+        }
+        if block.announced && self.is_in_quiet_days(block) {
             return None;
         }
         self.sums.floor(self.civil, block, enough)
     }
 
-    // Whether all sequences of the block begin on one day, of which it is known that no announced one is legal.
-    #[inline(always)]
-    fn is_in_quiet_day(&self, block: &Block) -> bool
-        requires { block.now.lo < block.now.hi }
-        ensures { result ≡ true → (q : Sequence) → q.announced ≡ true → block.now.lo ≤ q.first → q.first < block.now.hi → ¬ (IsLegal self.now.window q) }
+    // That of many announced days: the least of those of the days on which something may tell of a leap second. It is 0 where that of
+    // one of these isn't above `enough`.
+    fn floor_of_announced_days(&self, block: &Block, enough: u32) -> Option<u32>
+        requires block { AreMinutesOf self.now.window block.now }
+        requires announced { block.now.announced ≡ true }
+        ensures floor { IsFloor (costs_of self.now) self.now.window block.now result }
+        ensures small { IfSome result (λ n. n ≤ GREATEST_COST) }
     {
-        let day = block.lo / MINUTES_PER_DAY;
-        if (block.hi - 1) / MINUTES_PER_DAY != day {
-            return false;
+        // The range of a window ends with the century.
+        self.window();
+        let mut floor = None;
+        let mut t = self.behind_quiet_days(block.lo, block.hi);
+        while t < block.hi {
+            let end = block.hi.min((t / MINUTES_PER_DAY + 1) * MINUTES_PER_DAY);
+            let least = self.floor_of_minutes(block, t, end, enough);
+            if !is_above(least, enough) {
+                return Some(0);
+            }
+            floor = lesser(floor, least);
+            t = self.behind_quiet_days(end, block.hi);
         }
-        self.is_quiet(day as usize)
+        floor
     }
 
-    // Whether it is known that no announced sequence is legal that begins on the day.
-    #[inline(always)]
-    fn is_quiet(&self, day: usize) -> bool
-        ensures { result ≡ true → IsQuiet self.now.window day }
+    // That of the sequences of a block that begin in some of its minutes.
+    fn floor_of_minutes(&self, block: &Block, lo: u32, hi: u32, enough: u32) -> Option<u32>
+        requires block { AreMinutesOf self.now.window block.now }
+        requires begun { block.now.lo ≤ lo }
+        requires some { lo < hi }
+        requires within { hi ≤ block.now.hi }
+        ensures floor { IsFloor (costs_of self.now) self.now.window (piece block.now lo hi) result }
+        ensures small { IfSome result (λ n. n ≤ GREATEST_COST) }
     {
-        day < self.quiet.len() && self.quiet[day]
+        let minutes = Block {
+            announced: block.announced,
+            second: block.second,
+            span: block.span,
+            lo,
+            hi,
+        };
+        self.sums.floor(self.civil, &minutes, enough)
+    }
+
+    // Whether all sequences of the block begin on days of which it is known that no announced one is legal.
+    #[inline(always)]
+    fn is_in_quiet_days(&self, block: &Block) -> bool
+        requires { block.now.lo < block.now.hi }
+        ensures { result ≡ true → NoneAnnounced self.now.window block.now.lo block.now.hi }
+    {
+        self.behind_quiet_days(block.lo, block.hi) == block.hi
+    }
+
+    // The first minute from `t` on, and `hi` at the latest, of a day of which it isn't known that no announced sequence is legal.
+    #[inline(always)]
+    fn behind_quiet_days(&self, t: u32, hi: u32) -> u32
+        requires { t ≤ hi }
+        ensures begun { t ≤ result }
+        ensures within { result ≤ hi }
+        ensures quiet { NoneAnnounced self.now.window t result }
+    {
+        let day = (t / MINUTES_PER_DAY) as usize;
+        if day >= self.loud.len() {
+            return t;
+        }
+        self.loud[day].min(hi).max(t)
     }
 }
 
@@ -265,7 +313,8 @@ impl WindowSums<'_> {
         true
     }
 
-    // What none of the block's sequences costs less than: the sum of the stations' floors.
+    // What none of the block's sequences costs less than: what the times of day cost all stations together, with each station's dates, or
+    // where that isn't known the sum of the stations' floors.
     fn least_cost(&self, block: &Block, enough: u32) -> u32
         requires order { block.now.lo < block.now.hi }
         requires walks { HasShortWalks self.now.window block.now }
@@ -274,6 +323,9 @@ impl WindowSums<'_> {
             → result ≤ sequence_cost (costs_by self.now) self.now.window (sequence_at block.now t0) }
         ensures small { result ≤ GREATEST_COST }
     {
+        if let Some(floor) = self.floor_by_season(block, enough) {
+            return floor;
+        }
         let enough = self.enough_for_each(block, enough);
         let mut total = 0;
         for station in &self.stations {

@@ -8,6 +8,8 @@ mod leaps;
 mod minute;
 mod parts;
 mod quiet;
+mod season_floor;
+mod seasons;
 mod station;
 mod station_floor;
 mod stations;

@@ -1,29 +1,54 @@
 //! Days on which nothing tells of a leap second, so that no announced sequence of theirs is legal. In most months so are all
-//! days, which a search passes over by a look at this.
+//! days, which a search passes over together by a look at this.
 
-ghost use Rattle.std.specs.Prelude.{ℕ, ◌≡◌, ◌<◌, ◌≤◌, IfOk, true};
-ghost use Rattle.definitions.specs.time.Calendar.{century_days};
-ghost use Rattle.field_tables.specs.Quiet.{AreQuiet, IsQuiet, NeverTell};
+ghost use Rattle.std.specs.Prelude.{ℕ, ◌≡◌, ◌+◌, ◌*◌, ◌<◌, ◌≤◌, IfOk, length, true};
+ghost use Rattle.definitions.specs.time.Calendar.{century_days, minutes_per_day};
+ghost use Rattle.field_tables.specs.Quiet.{AreQuiet, IsQuiet, NeverTell, NoneAnnounced};
 
 use crate::leaps::meets_leap_end;
 use crate::sums::WindowSums;
 use civil::Civil;
-use definitions::{CENTURY_DAYS, MINUTES_PER_DAY};
+use definitions::{CENTURY_DAYS, CENTURY_MINUTES, MINUTES_PER_DAY};
 use std::alloc::{AllocError, Global};
 
 /// The walks that begin in it reach furthest.
 pub const LAST_SECOND: u8 = 59;
 
 impl WindowSums<'_> {
-    /// For each day of the century whether it is known that no announced sequence is legal that begins on it.
-    pub fn quiet_days(&self, alloc: Global, civil: &Civil) -> Result<Vec<bool>, AllocError>
-        ensures { IfOk result (λ days. AreQuiet self.now.window days.items) }
+    /// For each day of the century the minute in which the first day from it on begins of which it isn't known that no announced
+    /// sequence is legal that begins on it, and the end of the century where there is none.
+    pub fn quiet_days(&self, alloc: Global, civil: &Civil) -> Result<Vec<u32>, AllocError>
+        ensures { IfOk result (λ loud. AreQuiet self.now.window loud.items) }
     {
-        let mut days = Vec::with_capacity(alloc, CENTURY_DAYS as usize)?;
-        for day in 0..CENTURY_DAYS {
-            days.push(self.is_quiet(civil, day))?;
+        let mut loud = vec![in alloc; 0u32; CENTURY_DAYS as usize]?;
+        self.fill(civil, loud.as_mut_slice());
+        Ok(loud)
+    }
+
+    // Fills these minutes in, from the last day back.
+    fn fill(&self, civil: &Civil, loud: &mut [u32])
+        requires { length loud.old ≡ century_days }
+        ensures count { length loud.new ≡ length loud.old }
+        ensures quiet { AreQuiet self.now.window loud.new }
+    {
+        let mut next = CENTURY_MINUTES;
+        let mut day = CENTURY_DAYS;
+        while day > 0 {
+            day -= 1;
+            next = self.loud_from(civil, day, next);
+            loud[day as usize] = next;
         }
-        Ok(days)
+    }
+
+    // That minute of a day, where `next` is that of the next day.
+    fn loud_from(&self, civil: &Civil, day: u32, next: u32) -> u32
+        requires { day < century_days }
+        ensures { NoneAnnounced self.now.window ((day + 1) * minutes_per_day) next → NoneAnnounced self.now.window (day * minutes_per_day) result }
+    {
+        if !self.is_quiet(civil, day) {
+            return day * MINUTES_PER_DAY;
+        }
+        next
     }
 
     // Whether it is known of a day: none of its minutes has 61 seconds, nor has one in which a walk ends that begins on it, and

@@ -13,6 +13,7 @@ ghost use Rattle.minute_parts.specs.Walks.{later_minutes};
 
 use crate::leaps::meets_leap_end;
 use crate::parts::StationParts;
+use crate::seasons::{Season, seasons_of};
 use crate::station::StationSums;
 use crate::stations::{end_of, stations_of};
 use civil::Civil;
@@ -31,16 +32,20 @@ pub struct WindowSums<'a> {
     pub(crate) window: Window,
     pub(crate) stations: Vec<StationSums<'a>>,
     pub(crate) end: u32,
+    pub(crate) seasons: Vec<Season>,
 }
 
 impl<'a> Model for WindowSums<'a> {
+    ghost use Rattle.std.specs.Prelude.{All};
+    ghost use Rattle.field_tables.specs.Seasons.{IsSeason};
     ghost use Rattle.field_tables.specs.Sums.{AreSums, Sums};
 
     ghost Value = { Sums };
 
     ghost view = { λ s. record { window = s.window; stations = s.stations.items; end = s.end } };
 
-    ghost invariant = { λ s. AreSums (record { window = s.window; stations = s.stations.items; end = s.end }) };
+    ghost invariant = { λ s. AreSums (record { window = s.window; stations = s.stations.items; end = s.end })
+        × All (IsSeason s.stations.items s.window.seconds) s.seasons.items };
 }
 
 impl<'a> WindowSums<'a> {
@@ -60,10 +65,12 @@ impl<'a> WindowSums<'a> {
     {
         let stations = stations_of(alloc, parts, grids, window, keep_days)?;
         let end = end_of(&stations);
+        let seasons = seasons_of(alloc, &stations, window.seconds)?;
         Ok(WindowSums {
             window: *window,
             stations,
             end,
+            seasons,
         })
     }
 

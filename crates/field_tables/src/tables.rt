@@ -42,8 +42,8 @@ pub struct Tables<'a> {
     pub(crate) civil: &'a Civil,
     window: Window,
     pub(crate) sums: WindowSums<'a>,
-    // The days on which no announced sequence is legal.
-    pub(crate) quiet: Vec<bool>,
+    // For each day the minute in which the first day from it on begins on which an announced sequence may be legal.
+    pub(crate) loud: Vec<u32>,
 }
 
 impl<'a> Model for Tables<'a> {
@@ -55,7 +55,7 @@ impl<'a> Model for Tables<'a> {
 
     ghost view = { λ t. record { window = t.window; grids = t.grids.now } };
 
-    ghost invariant = { λ t. AreTables t.window t.grids.now t.sums × AreQuiet t.window t.quiet.items };
+    ghost invariant = { λ t. AreTables t.window t.grids.now t.sums × AreQuiet t.window t.loud.items };
 }
 
 impl<'a> Tables<'a> {
@@ -110,13 +110,13 @@ impl<'a> Tables<'a> {
         ensures grids { IfOk result (λ tables. tables.grids ≡ grids.now) }
     {
         let sums = WindowSums::make(alloc, parts, grids, window, keep_days)?;
-        let quiet = sums.quiet_days(alloc, civil)?;
+        let loud = sums.quiet_days(alloc, civil)?;
         Ok(Tables {
             grids,
             civil,
             window: *window,
             sums,
-            quiet,
+            loud,
         })
     }
 

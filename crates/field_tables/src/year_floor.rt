@@ -43,8 +43,8 @@ impl StationSums<'_> {
     }
 }
 
-// The piece from the minute `t` on: the rest of its run, with those that are like it, by what the dates around them tell together, or,
-// where that isn't above `enough`, the next piece of a day. `near` has what was asked last of these dates, and the runs before `closely`
+// The piece from the minute `t` on: the rest of its run, with those behind it, by what the dates around them tell together, or, where that
+// isn't above `enough`, the next piece of a day. `near` has what was asked last of these dates, and the runs before `closely`
 // are known to want a closer look.
 fn piece_of_run(
     walks: &StationWalks,
@@ -99,8 +99,8 @@ fn costs_near(
     walks.span_costs(second, run)
 }
 
-// The piece of the rest of the run and of those that are like it, where the dates are known around them and its floor is above `enough`.
-// Else the runs are told that want a closer look: those before `closely`.
+// The piece of the rest of the run and of those behind it of which it is known that their floors are above `enough`, where the dates are
+// known around them. Behind these, or in their place, may be runs that want a closer look: those before `closely`.
 fn piece_near(
     walks: &StationWalks,
     block: &Block,
@@ -125,9 +125,9 @@ fn piece_near(
     // What ends before it fits, and walks go through few minutes.
     parts.end();
     walks.later_minutes(costs.second);
-    let near = walks.least_near(costs, run);
-    *closely = near.last;
-    if near.last == run || near.floor <= enough {
+    let near = walks.least_near(costs, run, enough);
+    *closely = near.closely;
+    if near.last == run {
         return None;
     }
     let end = block.hi.min(parts.run_end(near.last - 1));

@@ -328,7 +328,8 @@ fn the_floor_of_a_year_is_what_its_dates_cost(rt: HostRuntime) -> Result<(), Fai
     Ok(())
 }
 
-// What no walk that begins in the run of the minute costs less than, by the dates of its year.
+// What no walk that begins in the run of the minute costs less than, by the dates of its year, or in those behind it in which that is more
+// than 100.
 fn floor_of_year(walks: &StationWalks, p: u8, t: u32) -> Option<u32> {
     let parts = walks.parts();
     if p as usize >= SECONDS_PER_MINUTE || t >= parts.end() {
@@ -336,7 +337,7 @@ fn floor_of_year(walks: &StationWalks, p: u8, t: u32) -> Option<u32> {
     }
     let run = parts.run_of(t);
     let costs = walks.span_costs(p, run)?;
-    let near = walks.least_near(&costs, run);
+    let near = walks.least_near(&costs, run, 100);
     if near.last == run {
         return None;
     }

@@ -21,7 +21,7 @@ use Rattle.walk_costs.specs.declared.least.Begins.{Begins}
 use Rattle.walk_costs.specs.declared.least.LeastTable.{LeastTable}
 use Rattle.walk_costs.specs.Dates.{given_cost, given_up_set, minutes_to_call}
 use Rattle.walk_costs.specs.Kinds.{AreKindsOf, AreSame, HasPlace, IsBegin, IsKindOf, IsToldAlike, either_part, either_set, end_in, kind_at, no_kind, told_of}
-use Rattle.walk_costs.specs.Leasts.{AreBegins, AreLeast, AreThirdCosts, AreThirds, IsLeastBy, IsLeastOf, IsOneOf, IsSplit, IsSplitIn, IsSplitOf, IsSplitTo, begin_count, call_class, no_split, place_of_run, split_at}
+use Rattle.walk_costs.specs.Leasts.{AreBegins, AreLeast, AreThirdCosts, AreThirds, IsLeastBy, IsLeastOf, IsOneOf, IsRowAt, IsSplit, IsSplitIn, IsSplitOf, IsSplitTo, IsThirdRow, begin_count, call_class, no_split, place_of_run, split_at, third_at}
 use Rattle.walk_costs.proofs.CallLaws.{in_call}
 use Rattle.walk_costs.proofs.DateLaws.{given, given_sum, none_later}
 use Rattle.walk_costs.proofs.SumLaws.{cost_in, sum_of_two}
@@ -249,6 +249,17 @@ by_thirds grid walks kinds all splits rows across p n reached old new thirds cos
     minutes_below : (u : ℕ) → minutes_to_call u < 30
     minutes_below u = omega arith
 
+-- copies of what all thirds cost are their rows
+pub thirds_added : (grid : Grid) (all : List Kind) (rows old new : List (List ℕ)) (p : ℕ) → AreThirdCosts grid p all rows (length all)
+    → AreAdded [] (IsRowAt rows) old new (length rows) → AreAdded [] (IsThirdRow grid all p) old new (length all)
+thirds_added grid all rows old new p costs added = record {
+  count = omega (arith, added.count, costs.count);
+  kept = added.kept;
+  each = λ h lt.
+      subst (IsThirdRow grid all p h) (sym (added.each h (omega (arith, lt, costs.count))))
+      (record { each = λ m few. costs.each h m lt few; small = λ m few. costs.small h m lt few });
+}
+
 -- the places of a run
 pub place_is : (announced : Bool) (i : ℕ) → ((place_of_run announced i % 2 == 1) ≡ announced) × (place_of_run announced i / 2 ≡ i)
 place_is true i = (eq-eqb ((2 * i + 1) % 2) 1 (omega arith), omega arith)
@@ -263,29 +274,65 @@ begins_before true i n lt = omega (arith, lt)
 begins_before false i n lt = lt
 
 -- the least of all walks, by kinds
-pub are_least : (grid : Grid) (parts : PartTable) (walks : List (List ℕ)) (across : Bool) (kinds : List Kind) (table : LeastTable) → AreWalkCosts walks grid parts.times
-    → AreKindsOf parts grid.station across kinds table.places.items (2 * length parts.runs)
-    → AreGroups 0 (IsLeastOf grid walks kinds across) (length kinds) table.costs.items 60 → table.kinds ≡ length kinds → AreLeast parts grid across table
-are_least grid parts walks across kinds table priced of are count = record {
+pub are_least : (grid : Grid) (parts : PartTable) (walks : List (List ℕ)) (across : Bool) (kinds all : List Kind) (table : LeastTable) → AreWalkCosts walks grid parts.times
+    → AreKindsOf parts grid.station across kinds table.places.items (2 * length parts.runs) → AreThirds kinds all table.splits.items (length kinds)
+    → AreGroups 0 (IsLeastOf grid walks kinds across) (length kinds) table.costs.items 60 → AreGroups [] (IsThirdRow grid all) (length all) table.given.items 60
+    → table.kinds ≡ length kinds → table.thirds ≡ length all → AreLeast parts grid across table
+are_least grid parts walks across kinds all table priced of split are rows count thirds = record {
   sums = record {
     costs = omega (arith, are.count, ap (λ n. 60 * n) count);
     places = of.count;
     within = λ q lt. omega (arith, of.within q lt, count);
+    splits = omega (arith, split.count, count);
+    thirds = λ k lt. subst (IsSplitIn (split_at table.splits.items k)) (sym thirds) (split.within k (omega (arith, lt, count)));
+    given = omega (arith, rows.count, ap (λ n. 60 * n) thirds);
+    small = λ p h m second lt few. omega (arith, row p h m, (rows.each p h second (omega (arith, lt, thirds))).small m few);
   };
   each = λ announced i p u is_end second day begin.
-      let q : ℕ = place_of_run announced i in
-      let lt = place_lt announced i (length parts.runs) (begins_before across i (length parts.runs) is_end) in
       let place : ℕ = get_or table.places.items (place_of_run announced i) 0 in
-      let kind = kind_at kinds place in
-      let is_place = place_is announced i in
-      let is = subst (λ (j : ℕ). IsKindOf parts grid.station across announced j (kind_at kinds place)) is_place.1
-      (subst (λ (b : Bool). IsKindOf parts grid.station across b (place_of_run announced i / 2) (kind_at kinds place)) is_place.0 (of.each (place_of_run announced i) lt)) in
-      let begin_too = subst (λ (last : ℕ). IsBegin (begin_count (length grid.rows) across p) last u) (sym (is.last is_end)) begin in
+      let lt = place_lt announced i (length parts.runs) (begins_before across i (length parts.runs) is_end) in
+      let begin_too = subst (λ (last : ℕ). IsBegin (begin_count (length grid.rows) across p) last u) (sym ((kind announced i is_end).last is_end)) begin in
       omega (
         arith,
         ap (λ n. get_or table.costs.items (p * n + place) 0) count,
         are.each p place second (of.within (place_of_run announced i) lt) u begin_too,
-        same_given grid p (minutes_to_call u) kind.told (told_of parts across announced i) (λ s of_minute gives. is.told s is_end of_minute gives),
+        told announced i p (minutes_to_call u) is_end,
         priced.each p u second day,
       );
+  given = λ announced i p m is_end second few.
+      let lt = place_lt announced i (length parts.runs) (begins_before across i (length parts.runs) is_end) in
+      let place : ℕ = get_or table.places.items (place_of_run announced i) 0 in
+      let x = split_at table.splits.items place in
+      let inside = split.within place (of.within (place_of_run announced i) lt) in
+      omega (
+        arith,
+        third p x.low m second inside.low few,
+        third p x.middle m second inside.middle few,
+        third p x.high m second inside.high few,
+        thirds_together grid p m (kind_at kinds place).told (kind_at all x.low).told (kind_at all x.middle).told (kind_at all x.high).told
+            (split.each place (of.within (place_of_run announced i) lt)),
+        told announced i p m is_end,
+      );
 }
+  where
+    kind : (announced : Bool) (i : ℕ) → end_in across i < length parts.runs
+        → IsKindOf parts grid.station across announced i (kind_at kinds (get_or table.places.items (place_of_run announced i) 0))
+    kind announced i is_end =
+        let lt = place_lt announced i (length parts.runs) (begins_before across i (length parts.runs) is_end) in
+        let place : ℕ = get_or table.places.items (place_of_run announced i) 0 in
+        let is_place = place_is announced i in
+        subst (λ (j : ℕ). IsKindOf parts grid.station across announced j (kind_at kinds place)) is_place.1
+        (subst (λ (b : Bool). IsKindOf parts grid.station across b (place_of_run announced i / 2) (kind_at kinds place)) is_place.0 (of.each (place_of_run announced i) lt))
+
+    -- the kind costs what its dates do in the seconds that are given up
+    told : (announced : Bool) (i p m : ℕ) → end_in across i < length parts.runs
+        → given_cost grid p m (kind_at kinds (get_or table.places.items (place_of_run announced i) 0)).told ≡ given_cost grid p m (told_of parts across announced i)
+    told announced i p m is_end =
+        same_given grid p m (kind_at kinds (get_or table.places.items (place_of_run announced i) 0)).told (told_of parts across announced i)
+        (λ s of_minute gives. (kind announced i is_end).told s is_end of_minute gives)
+
+    row : (p h m : ℕ) → third_at table p h m ≡ entry table.given.items (p * length all + h) m
+    row p h m = ap (λ n. entry table.given.items (p * n + h) m) thirds
+
+    third : (p h m : ℕ) → p < 60 → h < length all → m < 30 → third_at table p h m ≡ given_cost grid p m (kind_at all h).told
+    third p h m second lt few = row p h m ∙ (rows.each p h second lt).each m few

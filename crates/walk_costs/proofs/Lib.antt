@@ -19,3 +19,4 @@ pub mod OverLaws
 pub mod LeastLaws
 pub mod FloorLaws
 pub mod SpanLaws
+pub mod ApartLaws

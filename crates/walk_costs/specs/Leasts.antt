@@ -1,5 +1,5 @@
 -- What walks cost at the least, at any time of day at which they may begin.
-use Rattle.std.specs.Prelude.{ℕ, ◌≡◌, ◌⊎◌, ◌+◌, ◌*◌, ◌<◌, ◌≤◌, Bool, if◌then◌else◌, List, length, max, min, slice_index, slice_index_or}
+use Rattle.std.specs.Prelude.{ℕ, ◌≡◌, ◌⊎◌, ◌+◌, ◌*◌, ◌<◌, ◌≤◌, Bool, if◌then◌else◌, List, [], length, max, min, slice_index, slice_index_or}
 use Rattle.signal_base.specs.declared.limits.TheConstants.{GREATEST_COST}
 use Rattle.definitions.specs.time.Calendar.{minutes_per_day}
 use Rattle.symbol_cost.specs.Grid.{Grid, cost_at}
@@ -63,6 +63,15 @@ pub record AreThirdCosts (grid : Grid) (p : ℕ) (thirds : List Kind) (rows : Li
   pub each : (h m : ℕ) → h < n → m < CALL_MINUTES → entry rows h m ≡ given_cost grid p m (kind_at thirds h).told
   pub small : (h m : ℕ) → h < n → m < CALL_MINUTES → entry rows h m ≤ most_given
 
+-- the row of third h for second p: what it costs in the seconds that are given up
+pub record IsThirdRow (grid : Grid) (thirds : List Kind) (p h : ℕ) (row : List ℕ) : Type 0 where
+  pub each : (m : ℕ) → m < CALL_MINUTES → slice_index row m ≡ given_cost grid p m (kind_at thirds h).told
+  pub small : (m : ℕ) → m < CALL_MINUTES → slice_index row m ≤ most_given
+
+-- a copy of a row
+abbrev pub IsRowAt : List (List ℕ) → ℕ → List ℕ → Type 0
+IsRowAt rows h row = row ≡ slice_index_or rows h []
+
 -- after how many minutes the call sign is sent, where walks go through so many: of those that go through fewer each counts alike
 abbrev pub call_class : ℕ → ℕ → ℕ
 call_class reached u = min (minutes_to_call u) reached
@@ -87,11 +96,19 @@ IsLeastOf grid walks kinds across p k least =
     (u : ℕ) → IsBegin (begin_count (length grid.rows) across p) (kind_at kinds k).last u
     → least ≤ entry walks p u + given_cost grid p (minutes_to_call u) (kind_at kinds k).told
 
+-- what third h costs in the seconds that are given up
+abbrev pub third_at : LeastTable → ℕ → ℕ → ℕ → ℕ
+third_at table p h m = entry table.given.items (p * table.thirds + h) m
+
 -- there is a cost for each run
 pub record AreLeastSums (table : LeastTable) (runs : ℕ) : Type 0 where
   pub costs : length table.costs.items ≡ SECONDS_PER_MINUTE * table.kinds
   pub places : length table.places.items ≡ 2 * runs
   pub within : (q : ℕ) → q < 2 * runs → slice_index table.places.items q < table.kinds
+  pub splits : length table.splits.items ≡ table.kinds
+  pub thirds : (k : ℕ) → k < table.kinds → IsSplitIn (split_at table.splits.items k) table.thirds
+  pub given : length table.given.items ≡ SECONDS_PER_MINUTE * table.thirds
+  pub small : (p h m : ℕ) → p < SECONDS_PER_MINUTE → h < table.thirds → m < CALL_MINUTES → third_at table p h m ≤ most_given
 
 -- that of the run i
 abbrev pub place_of_run : Bool → ℕ → ℕ
@@ -100,6 +117,16 @@ place_of_run announced i = if announced then 2 * i + 1 else 2 * i
 abbrev pub least_at : LeastTable → Bool → ℕ → ℕ → ℕ
 least_at table announced p i = slice_index table.costs.items (p * table.kinds + slice_index table.places.items (place_of_run announced i))
 
+-- what its dates cost in the seconds that are given up
+abbrev pub split_of_run : LeastTable → Bool → ℕ → Split
+split_of_run table announced i = split_at table.splits.items (slice_index table.places.items (place_of_run announced i))
+
+abbrev pub given_at : LeastTable → Bool → ℕ → ℕ → ℕ → ℕ
+given_at table announced p i m =
+    third_at table p (split_of_run table announced i).low m
+    + third_at table p (split_of_run table announced i).middle m
+    + third_at table p (split_of_run table announced i).high m
+
 -- no walk from second p costs less that begins in the run, with what its dates tell in the seconds that are given up
 pub record AreLeast (parts : PartTable) (grid : Grid) (across : Bool) (table : LeastTable) : Type 0 where
   pub sums : AreLeastSums table (length parts.runs)
@@ -107,3 +134,5 @@ pub record AreLeast (parts : PartTable) (grid : Grid) (across : Bool) (table : L
       → IsBegin (begin_count (length grid.rows) across p) (last_begin parts across i) u
       → least_at table announced p i
       ≤ walk_cost grid.station (cost_at grid.rows) (length grid.rows) p parts.times u + given_cost grid p (minutes_to_call u) (told_of parts across announced i)
+  pub given : (announced : Bool) (i p m : ℕ) → end_in across i < length parts.runs → p < SECONDS_PER_MINUTE → m < CALL_MINUTES
+      → given_at table announced p i m ≡ given_cost grid p m (told_of parts across announced i)

@@ -9,3 +9,4 @@ pub mod Overs
 pub mod Spans
 pub mod Near
 pub mod Seen
+pub mod Apart

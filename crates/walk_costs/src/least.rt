@@ -4,19 +4,19 @@
 //! the date, and which minute of a walk that is depends on the time of day. So what dates tell in those seconds is counted
 //! with the time of day.
 
-ghost use Rattle.std.specs.Prelude.{◌≡◌, ◌+◌, ◌*◌, ◌^◌, ◌<◌, ◌≤◌, ℕ, IfOk, OnOk, false, length, slice_index, true};
+ghost use Rattle.std.specs.Prelude.{◌≡◌, ◌+◌, ◌*◌, ◌^◌, ◌<◌, ◌≤◌, ℕ, IfOk, OnOk, [], false, length, slice_index, true};
 ghost use Rattle.definitions.specs.time.Calendar.{minutes_per_day};
 ghost use Rattle.minute_parts.specs.Parts.{IsPartTable};
 ghost use Rattle.slot_columns.specs.Layered.{AreAdded, AreGroups};
 ghost use Rattle.slot_columns.specs.Parts.{AreWalkCosts, entry, most_cost};
 ghost use Rattle.walk_costs.specs.Crossings.{IsAcross};
 ghost use Rattle.walk_costs.specs.Dates.{most_given};
-ghost use Rattle.walk_costs.specs.Leasts.{AreBegins, AreLeast, AreLeastSums, AreThirdCosts, IsLeastBy, IsLeastOf, IsSplitIn, begin_count, call_class, least_at, place_of_run, split_at};
+ghost use Rattle.walk_costs.specs.Leasts.{AreBegins, AreLeast, AreLeastSums, AreThirdCosts, AreThirds, IsLeastBy, IsLeastOf, IsRowAt, IsSplitIn, IsThirdRow, begin_count, call_class, given_at, least_at, place_of_run, split_at, third_at};
 ghost use Rattle.walk_costs.specs.Walks.{IsRegularIn, cost_of};
 
 use crate::date::{ByMinute, given_costs, walk_minutes};
 use crate::kinds::{Kind, kinds_of};
-use crate::thirds::{Split, thirds_of};
+use crate::thirds::{Split, Thirds, thirds_of};
 use crate::walks::{StationWalks, minutes_to_call};
 use definitions::MINUTES_PER_DAY;
 use minute_parts::{CALL_MINUTES, Parts, later_minutes};
@@ -62,6 +62,12 @@ pub struct LeastTable {
     pub costs: Vec<u32>,
     /// Two kinds for each run: where no leap second is announced, and where one is.
     pub places: Vec<usize>,
+    /// Where the thirds of each kind stand.
+    pub splits: Vec<Split>,
+    /// How many thirds there are.
+    pub thirds: usize,
+    /// For each second in which a walk may begin a row for each third: what it costs in the seconds that are given up.
+    pub given: Vec<ByMinute>,
 }
 
 impl LeastTable {
@@ -79,11 +85,15 @@ impl LeastTable {
         // The slots are few.
         columns.seconds();
         let kinds = kinds_of(alloc, parts, columns.station(), across)?;
-        let costs = least_costs(alloc, columns, walks, &kinds.all, across)?;
+        let thirds = thirds_of(alloc, &kinds.all)?;
+        let costs = least_costs(alloc, columns, walks, &kinds.all, &thirds, across)?;
         Ok(LeastTable {
             kinds: kinds.all.len(),
-            costs,
+            costs: costs.least,
             places: kinds.places,
+            thirds: thirds.all.len(),
+            splits: thirds.splits,
+            given: costs.given,
         })
     }
 
@@ -95,6 +105,30 @@ impl LeastTable {
     {
         let kind = self.kind(announced, run);
         self.costs[p as usize * self.kinds + kind]
+    }
+
+    /// What their dates cost in the seconds that are given up, by how many minutes after a walk's first one the call sign comes.
+    pub fn given(&self, announced: bool, p: u8, run: usize) -> ByMinute
+        requires second { p < SECONDS_PER_MINUTE }
+        requires run { (runs : ℕ) × (run < runs) × AreLeastSums self.now runs }
+        ensures { (m : ℕ) → m < CALL_MINUTES → slice_index result m ≡ given_at self.now announced p run m }
+    {
+        let split = self.splits[self.kind(announced, run)];
+        let low = self.third(p, split.low);
+        let middle = self.third(p, split.middle);
+        let high = self.third(p, split.high);
+        sum_of(low, middle, high)
+    }
+
+    // The row of a third.
+    fn third(&self, p: u8, third: usize) -> &ByMinute
+        requires second { p < SECONDS_PER_MINUTE }
+        requires third { third < self.now.thirds }
+        requires sums { (runs : ℕ) × AreLeastSums self.now runs }
+        ensures costs { (m : ℕ) → m < CALL_MINUTES → slice_index result.now m ≡ third_at self.now p third m }
+        ensures small { (m : ℕ) → m < CALL_MINUTES → slice_index result.now m ≤ most_given }
+    {
+        &self.given[p as usize * self.thirds + third]
     }
 
     /// The kind of the walks which begin in a run. Walks of one kind cost the same at the least.
@@ -151,24 +185,36 @@ impl StationWalks<'_> {
     }
 }
 
-// For each second in which a walk may begin the least of each kind.
+/// What kinds of walks and their thirds cost, for each second in which a walk may begin.
+#[derive(Drop)]
+pub struct KindCosts {
+    /// A cost for each kind: the least of its walks.
+    pub least: Vec<u32>,
+    /// A row for each third: what it costs in the seconds that are given up.
+    pub given: Vec<ByMinute>,
+}
+
+// Those of some kinds and their thirds.
 fn least_costs(
     alloc: Global,
     columns: &SlotColumns,
     walks: &WalkTable,
     kinds: &[Kind],
+    thirds: &Thirds,
     across: bool,
-) -> Result<Vec<u32>, AllocError>
-    ensures { IfOk result (λ costs. AreGroups 0 (IsLeastOf columns.now walks.now kinds.now across) (length kinds.now) costs.items SECONDS_PER_MINUTE) }
+) -> Result<KindCosts, AllocError>
+    requires { AreThirds kinds.now thirds.now.all.items thirds.now.splits.items (length kinds.now) }
+    ensures least { IfOk result (λ costs. AreGroups 0 (IsLeastOf columns.now walks.now kinds.now across) (length kinds.now) costs.least.items SECONDS_PER_MINUTE) }
+    ensures given { IfOk result (λ costs. AreGroups [] (IsThirdRow columns.now thirds.now.all.items) (length thirds.now.all.items) costs.given.items SECONDS_PER_MINUTE) }
 {
-    let thirds = thirds_of(alloc, kinds)?;
-    let mut costs = Vec::new(alloc);
+    let mut least = Vec::new(alloc);
+    let mut given = Vec::new(alloc);
     for p in 0..SECONDS_PER_MINUTE {
         let rows = third_costs(alloc, columns, &thirds.all, p as u8)?;
         let count = begin_count(columns, p as u8, across);
         let reached = walk_minutes(columns, p as u8);
         push_costs(
-            &mut costs,
+            &mut least,
             walks,
             kinds,
             &thirds.splits,
@@ -177,8 +223,19 @@ fn least_costs(
             count,
             reached,
         )?;
+        add_rows(&mut given, &rows)?;
     }
-    Ok(costs)
+    Ok(KindCosts { least, given })
+}
+
+// Adds copies of some rows.
+fn add_rows(given: &mut Vec<ByMinute>, rows: &[ByMinute]) -> Result<(), AllocError>
+    ensures { OnOk result (AreAdded [] (IsRowAt rows.now) given.old.items given.new.items (length rows.now)) }
+{
+    for h in 0..rows.len() {
+        given.push(rows[h])?;
+    }
+    Ok(())
 }
 
 // What each third costs in the seconds that are given up.
@@ -319,4 +376,16 @@ fn least_of(
         least = least.min(begins.costs[m] + low[m] + middle[m] + high[m]);
     }
     least
+}
+
+// What three rows cost together, minute by minute.
+fn sum_of(low: &ByMinute, middle: &ByMinute, high: &ByMinute) -> ByMinute
+    requires { (m : ℕ) → m < CALL_MINUTES → slice_index low.now m + slice_index middle.now m + slice_index high.now m < 2 ^ 32 }
+    ensures { (m : ℕ) → m < CALL_MINUTES → slice_index result m ≡ slice_index low.now m + slice_index middle.now m + slice_index high.now m }
+{
+    let mut costs = *low;
+    for m in 0..CALL_MINUTES {
+        costs[m] = low[m] + middle[m] + high[m];
+    }
+    costs
 }

@@ -4,6 +4,7 @@
 #![tactic(auto)]
 
 mod announced;
+mod apart;
 mod call;
 mod change;
 mod crossing;
@@ -19,8 +20,10 @@ mod span;
 mod thirds;
 mod walks;
 
+pub use apart::DateFloor;
 pub use crossing::Crossing;
+pub use date::ByMinute;
 pub use over::Over;
 pub use shown::Shown;
 pub use span::{Near, SpanCosts};
-pub use walks::StationWalks;
+pub use walks::{StationWalks, minutes_to_call};

@@ -60,8 +60,17 @@ pub struct SpanCosts {
 pub struct Near {
     /// The number of the run behind the last of them. Where there are none, that from which on they were looked for.
     pub last: usize,
-    /// None of the walks costs less. Where there are none of these runs it is 0.
+    /// None of the walks costs less.
     pub floor: u32,
+    /// The number of the run behind those in which a look at walks one by one is worth while, from `last` on.
+    pub closely: usize,
+}
+
+// The same of runs that are alike.
+#[derive(Clone, Copy, Debug)]
+struct Alike {
+    last: usize,
+    floor: u32,
 }
 
 /// The most minutes of a walk after its first.
@@ -224,11 +233,38 @@ impl StationWalks<'_> {
     /// What none of the unannounced sequences costs the station less than whose walks begin in the second of the costs in one of some
     /// runs, and end in it or go on to the next.
     ///
-    /// They are the runs from `run` on up to, and without, `last` that are like the first of them: a walk costs there by the time of
-    /// day at the least what it does in that one. Each is among the runs of which the costs are and is followed by another of these,
-    /// which encodes the local time alike and has 20 minutes or more, so that a walk that goes on ends there. Where `run` itself isn't
-    /// such a run, there is none: then `last` is `run`, and the floor 0. It is at most 200,000 for each slot and receiver.
-    pub fn least_near(&self, costs: &SpanCosts, run: usize) -> Near
+    /// They are the runs from `run` on up to, and without, `last`. Each is among the runs of which the costs are and is followed by
+    /// another of these, which encodes the local time alike and has 20 minutes or more, so that a walk that goes on ends there. They
+    /// end where it isn't known that each of the walks costs more than `enough`: where that is so of `run`, there is none, and `last`
+    /// is `run`. The floor is at most 200,000 for each slot and receiver.
+    pub fn least_near(&self, costs: &SpanCosts, run: usize, enough: u32) -> Near
+        requires costs { AreSpanCosts self.now costs.now }
+        ensures begun { run ≤ result.last }
+        ensures followed { (r : ℕ) → run ≤ r → r < result.last → IsFollowed self.now.parts r }
+        ensures floor { (r t0 : ℕ) → run ≤ r → r < result.last → StaysNear self.now costs.now.second t0 r → result.floor ≤ cost_of self.now false costs.now.second t0 }
+        ensures above { run < result.last → enough < result.floor }
+        ensures bound { result.floor ≤ most_cost self.now.grid }
+    {
+        let mut near = Near {
+            last: run,
+            floor: most_cost(&self.columns),
+            closely: run,
+        };
+        while near.last < costs.to {
+            let alike = self.least_alike(costs, near.last);
+            near.closely = alike.last;
+            if alike.last == near.last || alike.floor <= enough {
+                return near;
+            }
+            near.last = alike.last;
+            near.floor = near.floor.min(alike.floor);
+        }
+        near
+    }
+
+    // The same of the runs that are like `run`: a walk costs there by the time of day at the least what it does in that one. Where `run`
+    // itself isn't followed so, there is none.
+    fn least_alike(&self, costs: &SpanCosts, run: usize) -> Alike
         requires costs { AreSpanCosts self.now costs.now }
         ensures begun { run ≤ result.last }
         ensures followed { (r : ℕ) → run ≤ r → r < result.last → IsFollowed self.now.parts r }
@@ -237,7 +273,7 @@ impl StationWalks<'_> {
     {
         let last = alike_until(self.unions.parts(), &self.least, run, costs);
         if last == run {
-            return Near { last, floor: 0 };
+            return Alike { last, floor: 0 };
         }
         let inside = self.least.inside.at(false, costs.second, run);
         let across = self.least.across.at(false, costs.second, run);
@@ -245,7 +281,7 @@ impl StationWalks<'_> {
         let staying = costs.cost.saturating_add(inside);
         let going_on = costs.across.saturating_add(across);
         let floor = staying.min(going_on).min(most_cost(&self.columns));
-        Near { last, floor }
+        Alike { last, floor }
     }
 }
 

@@ -9,7 +9,7 @@ use Rattle.field_tables.proofs.sums.WindowSums.cost.Goals as goal
 
 pub overflow_add-total : goal.overflow_add-total
 overflow_add-total c =
-    let are = subst AreSums c.self.view_is c.self.invariant in
+    let are = subst AreSums c.self.view_is c.self.invariant.0 in
     let all = c.deref-station-items.ensures.value ∙ ap (λ (s : Sums). s.stations) c.self.view_is in
     let i = c.loop-station.station-index in
     let w = c.station-item.result in
@@ -19,7 +19,7 @@ overflow_add-total c =
 
 pub loop-station-preserved : goal.loop-station-preserved
 loop-station-preserved c =
-    let are = subst AreSums c.self.view_is c.self.invariant in
+    let are = subst AreSums c.self.view_is c.self.invariant.0 in
     let all = c.deref-station-items.ensures.value ∙ ap (λ (s : Sums). s.stations) c.self.view_is in
     let q = c.args.q.now in
     let i = c.loop-station.station-index in
@@ -34,7 +34,7 @@ loop-station-preserved c =
 
 pub returns-clause-cost : goal.returns-clause-cost
 returns-clause-cost c =
-    let are = subst AreSums c.self.view_is c.self.invariant in
+    let are = subst AreSums c.self.view_is c.self.invariant.0 in
     let all = c.deref-station-items.ensures.value ∙ ap (λ (s : Sums). s.stations) c.self.view_is in
     let past = subst (λ (ws : List PricedParts). length ws ≤ c.loop-station.station-index) all c.loop-station-test.false in
     whole c.args.self.now are (λ station costs. station_cost station costs c.args.self.now.window.seconds c.args.q.now) _ _ past c.loop-station.invariant.cost

@@ -12,7 +12,7 @@ use Rattle.field_tables.proofs.sums.WindowSums.cost_of_unions.Goals as goal
 
 pub invariant_of-all-clause-regular : goal.invariant_of-all-clause-regular
 invariant_of-all-clause-regular c =
-    let are = subst AreSums c.self.view_is c.self.invariant in
+    let are = subst AreSums c.self.view_is c.self.invariant.0 in
     let all = c.deref-station-items.ensures.value ∙ ap (λ (s : Sums). s.stations) c.self.view_is in
     let b = c.args.block.now in
     let i = c.loop-station.station-index in
@@ -24,7 +24,7 @@ invariant_of-all-clause-regular c =
 
 pub overflow_add-total : goal.overflow_add-total
 overflow_add-total c =
-    let are = subst AreSums c.self.view_is c.self.invariant in
+    let are = subst AreSums c.self.view_is c.self.invariant.0 in
     let all = c.deref-station-items.ensures.value ∙ ap (λ (s : Sums). s.stations) c.self.view_is in
     let i = c.loop-station.station-index in
     let w = c.station-item.result in
@@ -35,7 +35,7 @@ overflow_add-total c =
 
 pub loop-station-preserved : goal.loop-station-preserved
 loop-station-preserved c =
-    let are = subst AreSums c.self.view_is c.self.invariant in
+    let are = subst AreSums c.self.view_is c.self.invariant.0 in
     let all = c.deref-station-items.ensures.value ∙ ap (λ (s : Sums). s.stations) c.self.view_is in
     let b = c.args.block.now in
     let n = c.args.self.now.window.seconds in
@@ -56,7 +56,7 @@ loop-station-preserved c =
 
 pub returns-clause-cost : goal.returns-clause-cost
 returns-clause-cost c = λ unions over.
-    let are = subst AreSums c.self.view_is c.self.invariant in
+    let are = subst AreSums c.self.view_is c.self.invariant.0 in
     let all = c.deref-station-items.ensures.value ∙ ap (λ (s : Sums). s.stations) c.self.view_is in
     let n = c.args.self.now.window.seconds in
     let past = subst (λ (ws : List PricedParts). length ws ≤ c.loop-station.station-index) all c.loop-station-test.false in

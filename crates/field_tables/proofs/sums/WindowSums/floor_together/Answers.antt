@@ -12,7 +12,7 @@ use Rattle.field_tables.proofs.sums.WindowSums.floor_together.Goals as goal
 pub overflow_add-all : goal.overflow_add-all
 overflow_add-all c =
     let sums = c.args.self.now in
-    let are = subst AreSums c.self.view_is c.self.invariant in
+    let are = subst AreSums c.self.view_is c.self.invariant.0 in
     let them = c.deref-station-items.ensures.value ∙ ap (λ (s : Sums). s.stations) c.self.view_is in
     let i = c.loop-station.station-index in
     let w = c.station-item.result in
@@ -23,7 +23,7 @@ overflow_add-all c =
 pub loop-station-preserved : goal.loop-station-preserved
 loop-station-preserved c =
     let sums = c.args.self.now in
-    let are = subst AreSums c.self.view_is c.self.invariant in
+    let are = subst AreSums c.self.view_is c.self.invariant.0 in
     let them = c.deref-station-items.ensures.value ∙ ap (λ (s : Sums). s.stations) c.self.view_is in
     let i = c.loop-station.station-index in
     let w = c.station-item.result in
@@ -43,7 +43,7 @@ loop-station-preserved c =
 pub returns-clause-floor : goal.returns-clause-floor
 returns-clause-floor c =
     let sums = c.args.self.now in
-    let are = subst AreSums c.self.view_is c.self.invariant in
+    let are = subst AreSums c.self.view_is c.self.invariant.0 in
     let them = c.deref-station-items.ensures.value ∙ ap (λ (s : Sums). s.stations) c.self.view_is in
     let i = c.loop-station.station-index in
     let b = c.args.block.now in
@@ -55,4 +55,4 @@ returns-clause-floor c =
     subst (λ n. c.loop-station.all ≤ n) sum (c.loop-station.invariant.none_less t0 ge lt))
 
 pub returns-clause-small : goal.returns-clause-small
-returns-clause-small c = small c.args.self.now (subst AreSums c.self.view_is c.self.invariant) _ _ c.loop-station.invariant.bound
+returns-clause-small c = small c.args.self.now (subst AreSums c.self.view_is c.self.invariant.0) _ _ c.loop-station.invariant.bound

@@ -17,7 +17,7 @@ use Rattle.field_tables.proofs.sums.WindowSums.leap_bound.Goals as goal
 pub leap_unions-requires-clause-station : goal.leap_unions-requires-clause-station
 leap_unions-requires-clause-station c =
     let sums = c.args.self.now in
-    let are = subst AreSums c.self.view_is c.self.invariant in
+    let are = subst AreSums c.self.view_is c.self.invariant.0 in
     let all = c.deref-station-items.ensures.value ∙ ap (λ (s : Sums). s.stations) c.self.view_is in
     let i = c.loop-station.station-index in
     let w = c.station-item.result in
@@ -28,7 +28,7 @@ leap_unions-requires-clause-station c =
 
 pub leap_unions-requires-clause-seconds : goal.leap_unions-requires-clause-seconds
 leap_unions-requires-clause-seconds c =
-    let are = subst AreSums c.self.view_is c.self.invariant in
+    let are = subst AreSums c.self.view_is c.self.invariant.0 in
     let all = c.deref-station-items.ensures.value ∙ ap (λ (s : Sums). s.stations) c.self.view_is in
     let i = c.loop-station.station-index in
     let w = c.station-item.result in
@@ -38,7 +38,7 @@ leap_unions-requires-clause-seconds c =
 
 pub overflow_add-total : goal.overflow_add-total
 overflow_add-total c =
-    let are = subst AreSums c.self.view_is c.self.invariant in
+    let are = subst AreSums c.self.view_is c.self.invariant.0 in
     let all = c.deref-station-items.ensures.value ∙ ap (λ (s : Sums). s.stations) c.self.view_is in
     let i = c.loop-station.station-index in
     let w = c.station-item.result in
@@ -51,7 +51,7 @@ overflow_add-total c =
 pub loop-station-preserved : goal.loop-station-preserved
 loop-station-preserved c =
     let sums = c.args.self.now in
-    let are = subst AreSums c.self.view_is c.self.invariant in
+    let are = subst AreSums c.self.view_is c.self.invariant.0 in
     let all = c.deref-station-items.ensures.value ∙ ap (λ (s : Sums). s.stations) c.self.view_is in
     let win = ap (λ (s : Sums). s.window) c.self.view_is in
     let b = c.args.block.now in
@@ -79,7 +79,7 @@ loop-station-preserved c =
 pub returns-clause-bound : goal.returns-clause-bound
 returns-clause-bound c =
     let sums = c.args.self.now in
-    let are = subst AreSums c.self.view_is c.self.invariant in
+    let are = subst AreSums c.self.view_is c.self.invariant.0 in
     let all = c.deref-station-items.ensures.value ∙ ap (λ (s : Sums). s.stations) c.self.view_is in
     let b = c.args.block.now in
     let n = sums.window.seconds in

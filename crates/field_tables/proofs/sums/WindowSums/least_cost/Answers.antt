@@ -11,7 +11,7 @@ use Rattle.field_tables.proofs.sums.WindowSums.least_cost.Goals as goal
 
 pub floor-total-requires-clause-regular : goal.floor-total-requires-clause-regular
 floor-total-requires-clause-regular c =
-    let are = subst AreSums c.self.view_is c.self.invariant in
+    let are = subst AreSums c.self.view_is c.self.invariant.0 in
     let all = c.deref-station-items.ensures.value ∙ ap (λ (s : Sums). s.stations) c.self.view_is in
     let b = c.args.block.now in
     let i = c.loop-station.station-index in
@@ -22,7 +22,7 @@ floor-total-requires-clause-regular c =
 
 pub overflow_add-total : goal.overflow_add-total
 overflow_add-total c =
-    let are = subst AreSums c.self.view_is c.self.invariant in
+    let are = subst AreSums c.self.view_is c.self.invariant.0 in
     let all = c.deref-station-items.ensures.value ∙ ap (λ (s : Sums). s.stations) c.self.view_is in
     let i = c.loop-station.station-index in
     let w = c.station-item.result in
@@ -33,7 +33,7 @@ overflow_add-total c =
 pub loop-station-preserved : goal.loop-station-preserved
 loop-station-preserved c =
     let sums = c.args.self.now in
-    let are = subst AreSums c.self.view_is c.self.invariant in
+    let are = subst AreSums c.self.view_is c.self.invariant.0 in
     let all = c.deref-station-items.ensures.value ∙ ap (λ (s : Sums). s.stations) c.self.view_is in
     let b = c.args.block.now in
     let i = c.loop-station.station-index in
@@ -52,7 +52,7 @@ loop-station-preserved c =
 pub returns-clause-floor : goal.returns-clause-floor
 returns-clause-floor c = λ t0 ge lt.
     let sums = c.args.self.now in
-    let are = subst AreSums c.self.view_is c.self.invariant in
+    let are = subst AreSums c.self.view_is c.self.invariant.0 in
     let all = c.deref-station-items.ensures.value ∙ ap (λ (s : Sums). s.stations) c.self.view_is in
     let i = c.loop-station.station-index in
     let q = sequence_at c.args.block.now t0 in
@@ -62,4 +62,4 @@ returns-clause-floor c = λ t0 ge lt.
     subst (λ n. c.loop-station.total ≤ n) sum (c.loop-station.invariant.none_less t0 ge lt)
 
 pub returns-clause-small : goal.returns-clause-small
-returns-clause-small c = small c.args.self.now (subst AreSums c.self.view_is c.self.invariant) _ _ c.loop-station.invariant.bound
+returns-clause-small c = small c.args.self.now (subst AreSums c.self.view_is c.self.invariant.0) _ _ c.loop-station.invariant.bound

@@ -14,7 +14,7 @@ use Rattle.field_tables.proofs.sums.WindowSums.minute_cost.Goals as goal
 pub invariant_of-one-clause-regular : goal.invariant_of-one-clause-regular
 invariant_of-one-clause-regular c =
     let sums = c.args.self.now in
-    let are = subst AreSums c.self.view_is c.self.invariant in
+    let are = subst AreSums c.self.view_is c.self.invariant.0 in
     let all = c.deref-station-items.ensures.value ∙ ap (λ (s : Sums). s.stations) c.self.view_is in
     let b = c.args.minute.now in
     let i = c.loop-station.station-index in
@@ -26,7 +26,7 @@ invariant_of-one-clause-regular c =
 
 pub overflow_add-total : goal.overflow_add-total
 overflow_add-total c =
-    let are = subst AreSums c.self.view_is c.self.invariant in
+    let are = subst AreSums c.self.view_is c.self.invariant.0 in
     let all = c.deref-station-items.ensures.value ∙ ap (λ (s : Sums). s.stations) c.self.view_is in
     let i = c.loop-station.station-index in
     let w = c.station-item.result in
@@ -38,7 +38,7 @@ overflow_add-total c =
 pub loop-station-preserved : goal.loop-station-preserved
 loop-station-preserved c =
     let sums = c.args.self.now in
-    let are = subst AreSums c.self.view_is c.self.invariant in
+    let are = subst AreSums c.self.view_is c.self.invariant.0 in
     let all = c.deref-station-items.ensures.value ∙ ap (λ (s : Sums). s.stations) c.self.view_is in
     let b = c.args.minute.now in
     let q = first_of b in
@@ -57,10 +57,10 @@ loop-station-preserved c =
 pub returns-clause-cost : goal.returns-clause-cost
 returns-clause-cost c =
     let sums = c.args.self.now in
-    let are = subst AreSums c.self.view_is c.self.invariant in
+    let are = subst AreSums c.self.view_is c.self.invariant.0 in
     let all = c.deref-station-items.ensures.value ∙ ap (λ (s : Sums). s.stations) c.self.view_is in
     let past = subst (λ (ws : List PricedParts). length ws ≤ c.loop-station.station-index) all c.loop-station-test.false in
     whole sums are (λ station costs. station_cost station costs sums.window.seconds (first_of c.args.minute.now)) _ _ past c.loop-station.invariant.cost
 
 pub returns-clause-small : goal.returns-clause-small
-returns-clause-small c = small c.args.self.now (subst AreSums c.self.view_is c.self.invariant) _ _ c.loop-station.invariant.bound
+returns-clause-small c = small c.args.self.now (subst AreSums c.self.view_is c.self.invariant.0) _ _ c.loop-station.invariant.bound

@@ -12,7 +12,7 @@ use Rattle.field_tables.proofs.sums.WindowSums.never_shows.Goals as goal
 
 pub never_shows-requires-clause-regular : goal.never_shows-requires-clause-regular
 never_shows-requires-clause-regular c =
-    let are = subst AreSums c.self.view_is c.self.invariant in
+    let are = subst AreSums c.self.view_is c.self.invariant.0 in
     let all = c.deref-station-items.ensures.value ∙ ap (λ (s : Sums). s.stations) c.self.view_is in
     let b = c.args.block.now in
     let i = c.loop-station.station-index in
@@ -46,7 +46,7 @@ loop-station-preserved c =
 pub returns : goal.returns
 returns c = λ _ t0 ge lt shows.
     let sums = c.args.self.now in
-    let are = subst AreSums c.self.view_is c.self.invariant in
+    let are = subst AreSums c.self.view_is c.self.invariant.0 in
     let all = c.deref-station-items.ensures.value ∙ ap (λ (s : Sums). s.stations) c.self.view_is in
     let past = subst (λ (ws : List PricedParts). length ws ≤ c.loop-station.station-index) all c.loop-station-test.false in
     let some = some_shows sums are (sequence_at c.args.block.now t0) shows in

@@ -8,7 +8,7 @@ use Rattle.field_tables.proofs.sums.WindowSums.never_tells.Goals as goal
 
 pub never_shows-requires-clause-encoded : goal.never_shows-requires-clause-encoded
 never_shows-requires-clause-encoded c =
-    let are = subst AreSums c.self.view_is c.self.invariant in
+    let are = subst AreSums c.self.view_is c.self.invariant.0 in
     let all = c.deref-station-items.ensures.value ∙ ap (λ (s : Sums). s.stations) c.self.view_is in
     let i = c.loop-station.station-index in
     let w = c.station-item.result in

@@ -11,7 +11,7 @@ pub returns-then-hi-block-clause-bound : goal.returns-then-hi-block-clause-bound
 returns-then-hi-block-clause-bound c =
     let sums = c.args.self.now in
     let b = c.args.block.now in
-    let are = subst AreSums c.self.view_is c.self.invariant in
+    let are = subst AreSums c.self.view_is c.self.invariant.0 in
     let cut : c.saturating_sub.result ≡ sums.end - reach sums.window b =
     c.saturating_sub.ensures ∙ ap (λ n. n - c.later_minutes-reach.result) (ap (λ (s : Sums). s.end) c.self.view_is) ∙ ap (λ n. sums.end - n) c.later_minutes-reach.ensures.count in
     no_walk sums.window b c.requires.block sums.end are.end c.requires.walks (omega (arith, are.window.not_short)) c.min-hi.result
@@ -21,7 +21,7 @@ pub returns-clause-bound : goal.returns-clause-bound
 returns-clause-bound c =
     let sums = c.args.self.now in
     let b = c.args.block.now in
-    let are = subst AreSums c.self.view_is c.self.invariant in
+    let are = subst AreSums c.self.view_is c.self.invariant.0 in
     let hi = c.min-hi.result in
     let cut : c.saturating_sub.result ≡ sums.end - reach sums.window b =
     c.saturating_sub.ensures ∙ ap (λ n. n - c.later_minutes-reach.result) (ap (λ (s : Sums). s.end) c.self.view_is) ∙ ap (λ n. sums.end - n) c.later_minutes-reach.ensures.count in

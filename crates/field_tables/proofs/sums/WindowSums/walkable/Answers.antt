@@ -8,7 +8,7 @@ pub returns : goal.returns
 returns c =
     let sums = c.args.self.now in
     let q = c.args.q.now in
-    let are = subst AreSums c.self.view_is c.self.invariant in
+    let are = subst AreSums c.self.view_is c.self.invariant.0 in
     let from = ap (λ (s : Sums). s.window.from) c.self.view_is in
     let to = ap (λ (s : Sums). s.window.to) c.self.view_is in
     let end = ap (λ (s : Sums). s.end) c.self.view_is in

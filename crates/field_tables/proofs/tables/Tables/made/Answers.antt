@@ -11,5 +11,5 @@ invariant_of-result c = (
     same = c.in_ok-sums.ensures.window;
     agree = c.in_ok-sums.ensures.costs;
   },
-  subst (λ (w : Window). AreQuiet w c.in_ok-quiet.quiet.items) c.in_ok-sums.ensures.window c.in_ok-quiet.ensures,
+  subst (λ (w : Window). AreQuiet w c.in_ok-loud.loud.items) c.in_ok-sums.ensures.window c.in_ok-loud.ensures,
 )
