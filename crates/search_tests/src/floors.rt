@@ -3,13 +3,14 @@
 ghost use Rattle.std.specs.Prelude.{◌≡◌, ◌≤◌, length};
 ghost use Rattle.definitions.specs.answers.Blocks.{IsBlock, items};
 
-use crate::made::{YEAR_2001, dcf77, item, jjy, minute_grid, silent_grid, window};
+use crate::items::item;
 use crate::searches::Counter;
 use bounds::{bounded_children, items};
 use civil::Civil;
 use definitions::Block;
 use field_tables::{Tables, parts_of};
 use race_words::Race;
+use sample_grids::{YEAR_2001, dcf77, jjy, minute_grid, silent_grid, window};
 use signal_base::{GREATEST_COST, Station, Stations};
 use std::alloc::Global;
 use std::process::Abort;

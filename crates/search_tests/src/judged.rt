@@ -9,12 +9,12 @@ mod rows;
 mod sizes;
 
 use crate::last_minutes::{FROM, text_of};
-use crate::made::{CENTURY, dcf77, silent_grid};
 use bounds::items;
 use certificate_judge::{Checker, Outcome};
 use civil::Civil;
 use definitions::Block;
 use field_tables::{Tables, parts_of};
+use sample_grids::{CENTURY, dcf77, silent_grid};
 use signal_base::Station;
 use std::alloc::{AllocError, Global};
 use std::test::Fail;

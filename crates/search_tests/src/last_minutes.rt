@@ -1,7 +1,7 @@
 //! The century's last minutes, as the published example of a certificate has them: a receiver of DCF77 heard nothing, and a walk of
 //! 60 seconds can begin in one minute alone.
 
-use crate::made::CENTURY;
+use sample_grids::CENTURY;
 use std::alloc::{AllocError, Global};
 
 // From 22:59Z on the year that DCF77 encodes is 2100, so the walks of 60 seconds that are encoded begin with second 0

@@ -1,10 +1,10 @@
 //! The years of the century, and of its last minutes, and their order.
 
 use crate::last_minutes::FROM;
-use crate::made::{CENTURY, dcf77, grid, table};
 use bounds::{Block, Span, announced_last, items, ranked};
 use civil::Civil;
 use field_tables::{Tables, parts_of};
+use sample_grids::{CENTURY, dcf77, grid, table};
 use signal_base::Station;
 use std::test::Fail;
 

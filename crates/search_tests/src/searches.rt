@@ -4,12 +4,13 @@
 ghost use Rattle.std.specs.Prelude.{◌≡◌, ◌≤◌};
 ghost use Rattle.definitions.specs.answers.Blocks.{items};
 
-use crate::made::{CENTURY, YEAR_2001, dcf77, item, jjy, silent_grid};
+use crate::items::item;
 use bounds::items;
 use civil::Civil;
 use definitions::{Block, Span};
 use field_tables::{Tables, parts_of};
 use race_words::{Race, Seat};
+use sample_grids::{CENTURY, YEAR_2001, dcf77, jjy, silent_grid};
 use signal_base::{GREATEST_COST, Station};
 use std::alloc::Global;
 use std::convert::Infallible;

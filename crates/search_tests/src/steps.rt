@@ -4,13 +4,14 @@ ghost use Rattle.std.specs.Prelude.{◌≡◌};
 ghost use Rattle.definitions.specs.answers.Blocks.{items};
 ghost use Rattle.definitions.specs.examples.Sequences.{window_of};
 
-use crate::made::{YEAR_2001, item, jjy, silent_grid};
+use crate::items::item;
 use bounds::items;
 use civil::Civil;
 use definitions::Block;
 use field_tables::{Tables, parts_of};
 use kept_steps::{StepList, decide_recorded, visit_recorded};
 use race_words::{Race, Seat};
+use sample_grids::{YEAR_2001, jjy, silent_grid};
 use signal_base::{GREATEST_COST, Station, Window};
 use std::alloc::Global;
 use std::test::Fail;

@@ -4,13 +4,13 @@ ghost use Rattle.std.specs.Prelude.{◌≡◌};
 ghost use Rattle.definitions.specs.examples.Sequences.{window_of};
 
 use crate::last_minutes::{FROM, text_of};
-use crate::made::{CENTURY, dcf77, silent_grid};
 use bank_files::{Failed, MemoryFiles, OneByte};
 use bounds::items;
 use certificate_walks::write_certificate;
 use certificates::Head;
 use civil::Civil;
 use field_tables::{Tables, parts_of};
+use sample_grids::{CENTURY, dcf77, silent_grid};
 use signal_base::Station;
 use std::test::Fail;
 

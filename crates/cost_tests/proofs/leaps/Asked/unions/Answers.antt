@@ -3,8 +3,8 @@ use Rattle.signal_base.specs.declared.station.Station.{Station}
 use Rattle.signal_base.specs.Number.{number_of}
 use Rattle.definitions.specs.codes.Allowed.{CanBeEncoded}
 use Rattle.minute_parts.specs.Parts.{IsPartTable, PartTable}
-use Rattle.search_tests.proofs.WindowLaws.{encoded_by_one}
-use Rattle.search_tests.proofs.leaps.Asked.unions.Goals as goal
+use Rattle.cost_tests.proofs.WindowLaws.{encoded_by_one}
+use Rattle.cost_tests.proofs.leaps.Asked.unions.Goals as goal
 
 pub unions_of-requires-clause-end : goal.unions_of-requires-clause-end
 unions_of-requires-clause-end c =

@@ -4,9 +4,9 @@ ghost use Rattle.std.specs.Prelude.{◌≡◌, ℕ, ◌≤◌, ◌<◌, IsFalse,
 ghost use Rattle.definitions.specs.time.Calendar.{century_minutes, is_leap_end};
 
 use crate::known_slots::{unions, walks};
-use crate::made::{grid, table};
 use civil::Civil;
 use definitions::CENTURY_MINUTES;
+use sample_grids::{grid, table};
 use signal_base::{CostTable, Station};
 use slot_columns::SECONDS_PER_MINUTE;
 use std::test::Fail;

@@ -1,6 +1,6 @@
 use Rattle.std.proofs.Common.{◌≡◌, min, refl, sym, ap, ◌∙◌, arith, rules}
-use Rattle.search_tests.proofs.WindowLaws.{year_2001}
-use Rattle.search_tests.proofs.leaps.Asked.in_2001.Goals as goal
+use Rattle.cost_tests.proofs.WindowLaws.{year_2001}
+use Rattle.cost_tests.proofs.leaps.Asked.in_2001.Goals as goal
 
 pub invariant_of-result : goal.invariant_of-result
 invariant_of-result c =

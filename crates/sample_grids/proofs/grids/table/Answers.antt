@@ -1,6 +1,6 @@
 use Rattle.std.proofs.Common.{arith}
 use Rattle.slot_columns.proofs.RowLaws.{repeated}
-use Rattle.search_tests.proofs.made.table.Goals as goal
+use Rattle.sample_grids.proofs.grids.table.Goals as goal
 
 pub returns : goal.returns
 returns c = record {

@@ -4,10 +4,10 @@ ghost use Rattle.std.specs.Prelude.{◌≡◌, ◌<◌, ◌≤◌};
 ghost use Rattle.signal_base.specs.declared.limits.TheConstants.{MOST_SECONDS};
 
 use crate::known_slots::{unions, walks};
-use crate::made::table;
 use block_costs::{StationBlocks, Walks};
 use civil::Civil;
 use minute_parts::Unions;
+use sample_grids::table;
 use signal_base::Station;
 use std::alloc::Global;
 use std::test::Fail;

@@ -5,7 +5,7 @@ use Rattle.std.proofs.lemmas.List.Elements.{All-from_recursion}
 use Rattle.signal_base.specs.declared.window.Window.{Window}
 use Rattle.definitions.specs.time.Calendar.{century_minutes}
 use Rattle.definitions.specs.answers.Blocks.{items, IsBlock}
-use Rattle.search_tests.proofs.made.item.Goals as goal
+use Rattle.search_tests.proofs.items.item.Goals as goal
 
 pub returns : goal.returns
 returns c =

@@ -4,9 +4,9 @@ ghost use Rattle.std.specs.Prelude.{◌≡◌, ◌≤◌, IfOk};
 ghost use Rattle.signal_base.specs.declared.limits.TheConstants.{MOST_SECONDS};
 ghost use Rattle.signal_base.specs.Limits.{IsPriced};
 
-use crate::made::grid;
 use civil::Civil;
 use minute_parts::{Parts, Unions};
+use sample_grids::grid;
 use signal_base::{CostTable, Station};
 use std::alloc::Global;
 use std::test::Fail;

@@ -7,11 +7,11 @@ ghost use Rattle.definitions.specs.time.Calendar.{century_minutes};
 ghost use Rattle.definitions.specs.sequences.Windows.{IsWindow};
 ghost use Rattle.definitions.specs.answers.Blocks.{IsBlock};
 
-use crate::made::YEAR_2001;
 use civil::Civil;
 use definitions::{Block, CENTURY_MINUTES, Sequence, Span};
 use leap_unions::{LeapUnions, Sets};
 use minute_parts::{Parts, Unions};
+use sample_grids::YEAR_2001;
 use sequence::{allowed, walkable};
 use signal_base::{MOST_SECONDS, Station, Stations, Window};
 use std::alloc::AllocGlobal;

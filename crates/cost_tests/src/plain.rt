@@ -12,11 +12,11 @@ ghost use Rattle.definitions.specs.answers.Blocks.{IsBlock};
 ghost use Rattle.plain_costs.specs.Grids.{AreGrids};
 ghost use Rattle.plain_costs.specs.Made.{IsGridOf};
 
-use crate::made::window;
 use civil::Civil;
 use definitions::{Block, Sequence, Span};
 use plain_costs::{dut1, plain_cost, union_bound, unions_of};
 use pulse_log::{Log, read_log};
+use sample_grids::window;
 use sequence::{telegram, walkable};
 use signal_base::{CostTable, Dut, Station, Stations, Tuning, Window, symbols, wave};
 use std::alloc::{AllocGlobal, Global};

@@ -1,7 +1,7 @@
 //! A window of 62 seconds whose costs were worked out by hand.
 
 use crate::known_slots::SOME_SLOTS;
-use crate::made::{grid, table};
+use sample_grids::{grid, table};
 use signal_base::Station;
 use slot_columns::{LayerTable, Part, SlotColumns, WalkTable};
 use std::alloc::Global;
