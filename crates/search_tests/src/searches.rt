@@ -366,6 +366,35 @@ impl Recorder for FewSteps {
     }
 }
 
+// What becomes of a search by two workers who keep so many steps each, and the least two keys that they offered.
+fn kept_in<R: Threads + Sync>(
+    rt: &R,
+    alloc: Global,
+    tables: &Tables,
+    list: &[Block],
+    room: u32,
+) -> Result<(Result<(), NoRoom>, u64, u64), Fail>
+    requires { list.now ≡ items tables.now.window }
+{
+    let (race, mut seat) = Race::make(alloc, 2)?;
+    let mut recorder = FewSteps { room };
+    let kept = search_with(
+        rt,
+        &race,
+        &mut seat,
+        tables,
+        list,
+        GREATEST_COST,
+        2,
+        &NoGate,
+        &mut recorder,
+    );
+
+    // The seat has the whole share, with which alone a race is closed.
+    let ends = race.close(seat);
+    Ok((kept, ends.least, ends.second))
+}
+
 #[test]
 fn a_search_whose_steps_cannot_be_kept_ends(rt: HostRuntime) -> Result<(), Fail> {
     // An hour of JJY has 121 items, each of which takes a step at least, and two workers keep at most 60 each.
@@ -375,27 +404,15 @@ fn a_search_whose_steps_cannot_be_kept_ends(rt: HostRuntime) -> Result<(), Fail>
     let parts = parts_of(rt.alloc(), &civil, &window)?;
     let tables = Tables::make(rt.alloc(), &parts, &grids, &civil, &window)?;
     let list = items(rt.alloc(), &civil, &window)?;
-    for (room, least, second) in [(0, u64::MAX, u64::MAX), (1, u64::MAX, u64::MAX), (60, 0, 1)] {
-        let (race, mut seat) = Race::make(rt.alloc(), 2)?;
-        let mut recorder = FewSteps { room };
-        let kept = search_with(
-            &rt,
-            &race,
-            &mut seat,
-            &tables,
-            &list,
-            GREATEST_COST,
-            2,
-            &NoGate,
-            &mut recorder,
-        );
-        assert_eq!(rt; kept, Err(NoRoom), "{room} steps");
+    let by_none = kept_in(&rt, rt.alloc(), &tables, &list, 0)?;
+    assert_eq!(rt; by_none, (Err(NoRoom), u64::MAX, u64::MAX));
+    let by_one = kept_in(&rt, rt.alloc(), &tables, &list, 1)?;
+    assert_eq!(rt; by_one, (Err(NoRoom), u64::MAX, u64::MAX));
 
-        // The seat has the whole share, with which alone a race is closed. A key is offered at the fourth step, behind the
-        // year, the day and the hour, and who draws the first item offers the least two.
-        let ends = race.close(seat);
-        assert_eq!(rt; (ends.least, ends.second), (least, second), "{room} steps");
-    }
+    // A key is offered at the fourth step, behind the year, the day and the hour, and who draws the first item offers the
+    // least two.
+    let by_60 = kept_in(&rt, rt.alloc(), &tables, &list, 60)?;
+    assert_eq!(rt; by_60, (Err(NoRoom), 0, 1));
     Ok(())
 }
 
