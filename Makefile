@@ -61,7 +61,7 @@ check: ## proves one crate: CRATE=NAME
 try: ## runs one crate's tests unproved, in seconds: CRATE=NAME
 	@$(IN_CRATE) && rt try --test
 
-quick: ## runs the crates' tests unproved, side by side (all but one, which only the gate runs)
+quick: ## runs the crates' tests unproved, side by side
 	@tools/quick
 
 edits: ## tries the wrong bodies of one crate, each of which must be refused: CRATE=NAME

@@ -1,4 +1,3 @@
-mod TestLaws
 pub mod KeptLaws
 pub mod LeapLaws
 pub mod NominalLaws

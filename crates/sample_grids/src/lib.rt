@@ -5,4 +5,4 @@ mod grids;
 mod windows;
 
 pub use grids::{grid, minute_grid, silent_grid, table};
-pub use windows::{CENTURY, YEAR_2001, dcf77, jjy, window};
+pub use windows::{YEAR_2001, dcf77, jjy, window};

@@ -1,14 +1,11 @@
-//! Windows of 60 seconds, and two minutes of the century.
+//! Windows of 60 seconds, and a minute of the century.
 
 ghost use Rattle.std.specs.Prelude.{◌≡◌};
 ghost use Rattle.definitions.specs.examples.Sequences.{window_of};
 
 use signal_base::{Stations, Window};
 
-/// The minute behind the last of the century, counted from 2000-01-01T00:00Z.
-pub const CENTURY: u32 = 52_596_000;
-
-/// The first minute of 2001.
+/// The first minute of 2001, counted from 2000-01-01T00:00Z.
 pub const YEAR_2001: u32 = 527_040;
 
 /// Sixty seconds of these stations from millisecond 0 on. The first of them is in a minute from `from` on, before `to`.

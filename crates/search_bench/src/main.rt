@@ -31,8 +31,6 @@ mod sample;
 mod searching;
 mod silence;
 mod tally;
-#[cfg(test)]
-mod tests;
 mod times;
 mod windows;
 

@@ -12,9 +12,9 @@ use crate::last_minutes::{FROM, text_of};
 use bounds::items;
 use certificate_judge::{Checker, Outcome};
 use civil::Civil;
-use definitions::Block;
+use definitions::{Block, CENTURY_MINUTES};
 use field_tables::{Tables, parts_of};
-use sample_grids::{CENTURY, dcf77, silent_grid};
+use sample_grids::{dcf77, silent_grid};
 use signal_base::Station;
 use std::alloc::{AllocError, Global};
 use std::test::Fail;
@@ -68,7 +68,7 @@ fn first_wrong(alloc: Global, tables: &Tables, list: &[Block]) -> Result<Option<
 fn judges_the_last_minutes(rt: HostRuntime) -> Result<(), Fail> {
     let civil = Civil::make(rt.alloc())?;
     let grids = [silent_grid(rt.alloc(), Station::Dcf77)?];
-    let window = dcf77(FROM, CENTURY);
+    let window = dcf77(FROM, CENTURY_MINUTES);
     let parts = parts_of(rt.alloc(), &civil, &window)?;
     let tables = Tables::make(rt.alloc(), &parts, &grids, &civil, &window)?;
     let list = items(rt.alloc(), &civil, &window)?;

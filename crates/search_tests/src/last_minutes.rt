@@ -1,7 +1,7 @@
 //! The century's last minutes, as the published example of a certificate has them: a receiver of DCF77 heard nothing, and a walk of
 //! 60 seconds can begin in one minute alone.
 
-use sample_grids::CENTURY;
+use definitions::CENTURY_MINUTES;
 use std::alloc::{AllocError, Global};
 
 // From 22:59Z on the year that DCF77 encodes is 2100, so the walks of 60 seconds that are encoded begin with second 0
@@ -23,11 +23,11 @@ pub(crate) fn text_of(alloc: Global, parts: u8) -> Result<String, AllocError> {
     let mut text = String::new(alloc);
     write!(text, "{HEAD}{PLAIN}")?;
     for second in 1..60 {
-        write!(text, "E Y 0 {second} {FROM} {CENTURY} -\n")?;
+        write!(text, "E Y 0 {second} {FROM} {CENTURY_MINUTES} -\n")?;
     }
     write!(text, "{ANNOUNCED}")?;
     for second in 1..61 {
-        write!(text, "E Y 1 {second} {FROM} {CENTURY} -\n")?;
+        write!(text, "E Y 1 {second} {FROM} {CENTURY_MINUTES} -\n")?;
     }
     for part in 1..parts {
         write!(text, "worker {part}\n")?;

@@ -17,6 +17,8 @@ mod order;
 #[cfg(test)]
 mod searches;
 #[cfg(test)]
+mod silence;
+#[cfg(test)]
 mod steps;
 #[cfg(test)]
 mod written;

@@ -3,8 +3,9 @@
 use crate::last_minutes::FROM;
 use bounds::{Block, Span, announced_last, items, ranked};
 use civil::Civil;
+use definitions::CENTURY_MINUTES;
 use field_tables::{Tables, parts_of};
-use sample_grids::{CENTURY, dcf77, grid, table};
+use sample_grids::{dcf77, grid, table};
 use signal_base::Station;
 use std::test::Fail;
 
@@ -26,9 +27,9 @@ fn year(announced: bool, second: u8, lo: u32, hi: u32) -> Block {
 #[test]
 fn lists_the_years_of_the_century(rt: HostRuntime) -> Result<(), Fail> {
     let civil = Civil::make(rt.alloc())?;
-    let list = items(rt.alloc(), &civil, &dcf77(0, CENTURY))?;
+    let list = items(rt.alloc(), &civil, &dcf77(0, CENTURY_MINUTES))?;
     let first = year(false, 0, 0, YEAR_2000);
-    let last = year(true, 60, CENTURY - YEAR_2099, CENTURY);
+    let last = year(true, 60, CENTURY_MINUTES - YEAR_2099, CENTURY_MINUTES);
     assert_eq!(rt; list.len(), 12_100);
     assert_eq!(rt; list.first().copied(), Some(first));
     assert_eq!(rt; list.last().copied(), Some(last));
@@ -38,7 +39,7 @@ fn lists_the_years_of_the_century(rt: HostRuntime) -> Result<(), Fail> {
 #[test]
 fn ranks_the_years_of_the_last_minutes(rt: HostRuntime) -> Result<(), Fail> {
     let civil = Civil::make(rt.alloc())?;
-    let window = dcf77(FROM, CENTURY);
+    let window = dcf77(FROM, CENTURY_MINUTES);
     let table = table(100, 100);
     let grids = [grid(rt.alloc(), Station::Dcf77, &table, b"", 60)?];
     let parts = parts_of(rt.alloc(), &civil, &window)?;
@@ -57,7 +58,7 @@ fn ranks_the_years_of_the_last_minutes(rt: HostRuntime) -> Result<(), Fail> {
         assert_eq!(rt; (block.announced, block.second as usize), place, "at {i}");
         assert_eq!(rt;
             (block.span, block.lo, block.hi),
-            (Span::Year, FROM, CENTURY)
+            (Span::Year, FROM, CENTURY_MINUTES)
         );
     }
     let parted = announced_last(rt.alloc(), &tables, &list)?;

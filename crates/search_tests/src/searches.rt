@@ -7,10 +7,10 @@ ghost use Rattle.definitions.specs.answers.Blocks.{items};
 use crate::items::item;
 use bounds::items;
 use civil::Civil;
-use definitions::{Block, Span};
+use definitions::{Block, CENTURY_MINUTES, Span};
 use field_tables::{Tables, parts_of};
 use race_words::{Race, Seat};
-use sample_grids::{CENTURY, YEAR_2001, dcf77, jjy, silent_grid};
+use sample_grids::{YEAR_2001, dcf77, jjy, silent_grid};
 use signal_base::{GREATEST_COST, Station};
 use std::alloc::Global;
 use std::convert::Infallible;
@@ -70,7 +70,7 @@ fn each_crew_finds<R: Threads + Abort + Sync>(
 fn one_sequence_is_left_at_the_end_of_the_century(rt: HostRuntime) -> Result<(), Fail> {
     // From 22:59Z on the year that DCF77 encodes is 2100, and a walk of 60 seconds ends there unless it begins with second 0.
     let civil = Civil::make(rt.alloc())?;
-    let window = dcf77(CENTURY - 62, CENTURY);
+    let window = dcf77(CENTURY_MINUTES - 62, CENTURY_MINUTES);
     let grids = [silent_grid(rt.alloc(), Station::Dcf77)?];
     let parts = parts_of(rt.alloc(), &civil, &window)?;
     let tables = Tables::make(rt.alloc(), &parts, &grids, &civil, &window)?;

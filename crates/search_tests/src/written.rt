@@ -9,18 +9,19 @@ use bounds::items;
 use certificate_walks::write_certificate;
 use certificates::Head;
 use civil::Civil;
+use definitions::CENTURY_MINUTES;
 use field_tables::{Tables, parts_of};
-use sample_grids::{CENTURY, dcf77, silent_grid};
+use sample_grids::{dcf77, silent_grid};
 use signal_base::Station;
 use std::test::Fail;
 
 // The head of the century's last minutes.
 fn head() -> Head
-    ensures window { result.window ≡ window_of 1 FROM CENTURY }
+    ensures window { result.window ≡ window_of 1 FROM CENTURY_MINUTES }
     ensures ceiling { result.ceiling ≡ 1_920_000_000 }
 {
     Head {
-        window: dcf77(FROM, CENTURY),
+        window: dcf77(FROM, CENTURY_MINUTES),
         ceiling: 1_920_000_000,
         first: Some(FROM as u64),
         second: None,
@@ -31,7 +32,7 @@ fn head() -> Head
 fn writes_the_last_minutes(rt: HostRuntime) -> Result<(), Fail> {
     let civil = Civil::make(rt.alloc())?;
     let grids = [silent_grid(rt.alloc(), Station::Dcf77)?];
-    let window = dcf77(FROM, CENTURY);
+    let window = dcf77(FROM, CENTURY_MINUTES);
     let parts = parts_of(rt.alloc(), &civil, &window)?;
     let tables = Tables::make(rt.alloc(), &parts, &grids, &civil, &window)?;
     let list = items(rt.alloc(), &civil, &window)?;
@@ -53,7 +54,7 @@ fn writes_the_last_minutes(rt: HostRuntime) -> Result<(), Fail> {
 fn writes_byte_by_byte(rt: HostRuntime) -> Result<(), Fail> {
     let civil = Civil::make(rt.alloc())?;
     let grids = [silent_grid(rt.alloc(), Station::Dcf77)?];
-    let window = dcf77(FROM, CENTURY);
+    let window = dcf77(FROM, CENTURY_MINUTES);
     let parts = parts_of(rt.alloc(), &civil, &window)?;
     let tables = Tables::make(rt.alloc(), &parts, &grids, &civil, &window)?;
     let list = items(rt.alloc(), &civil, &window)?;
@@ -72,7 +73,7 @@ fn writes_byte_by_byte(rt: HostRuntime) -> Result<(), Fail> {
 fn ends_at_a_failing_write(rt: HostRuntime) -> Result<(), Fail> {
     let civil = Civil::make(rt.alloc())?;
     let grids = [silent_grid(rt.alloc(), Station::Dcf77)?];
-    let window = dcf77(FROM, CENTURY);
+    let window = dcf77(FROM, CENTURY_MINUTES);
     let parts = parts_of(rt.alloc(), &civil, &window)?;
     let tables = Tables::make(rt.alloc(), &parts, &grids, &civil, &window)?;
     let list = items(rt.alloc(), &civil, &window)?;
@@ -100,12 +101,12 @@ fn ends_at_a_failing_write(rt: HostRuntime) -> Result<(), Fail> {
 fn writes_in_pieces(rt: HostRuntime) -> Result<(), Fail> {
     let civil = Civil::make(rt.alloc())?;
     let grids = [silent_grid(rt.alloc(), Station::Dcf77)?];
-    let window = dcf77(FROM - 58, CENTURY);
+    let window = dcf77(FROM - 58, CENTURY_MINUTES);
     let parts = parts_of(rt.alloc(), &civil, &window)?;
     let tables = Tables::make(rt.alloc(), &parts, &grids, &civil, &window)?;
     let list = items(rt.alloc(), &civil, &window)?;
     let head = Head {
-        window: dcf77(FROM - 58, CENTURY),
+        window: dcf77(FROM - 58, CENTURY_MINUTES),
         ceiling: 0,
         first: None,
         second: None,
