@@ -1,10 +1,13 @@
 //! A window of 62 seconds whose costs were worked out by hand.
 
+ghost use Rattle.std.specs.Prelude.{◌≡◌, IfOk, length};
+
 use crate::known_slots::SOME_SLOTS;
 use sample_grids::{grid, table};
 use signal_base::Station;
 use slot_columns::{LayerTable, Part, SlotColumns, WalkTable};
 use std::alloc::Global;
+use std::process::Abort;
 use std::test::Fail;
 use symbol_cost::CostGrid;
 
@@ -19,10 +22,18 @@ fn grid_of_msf(alloc: Global) -> Result<CostGrid, Fail> {
 fn adds_up_parts(rt: HostRuntime) -> Result<(), Fail> {
     let grid = grid_of_msf(rt.alloc())?;
     let columns = SlotColumns::make(rt.alloc(), &grid)?;
-    assert_eq!(rt; columns.station(), Station::Msf);
-    assert_eq!(rt; columns.receivers(), 1);
     let seconds = columns.seconds();
     assert!(rt; seconds == 62);
+    sets_of_a_slot(&rt, &columns);
+    parts_of_a_walk(&rt, &columns);
+    Ok(())
+}
+
+fn sets_of_a_slot(rt: &impl Abort, columns: &SlotColumns)
+    requires { length columns.now.rows ≡ 62 }
+{
+    assert_eq!(rt; columns.station(), Station::Msf);
+    assert_eq!(rt; columns.receivers(), 1);
     for (slot, set, cost) in [
         (0, 31, 110),
         (0, 24, 130),
@@ -33,7 +44,9 @@ fn adds_up_parts(rt: HostRuntime) -> Result<(), Fail> {
     ] {
         assert_eq!(rt; columns.cost(slot, set), cost, "set {set} in slot {slot}");
     }
+}
 
+fn parts_of_a_walk(rt: &impl Abort, columns: &SlotColumns) {
     let zeros = [1; 60];
     let fours = [16; 60];
     assert_eq!(rt; columns.layered_cost(59, &zeros, &fours), 110 + 3 * 150);
@@ -62,7 +75,6 @@ fn adds_up_parts(rt: HostRuntime) -> Result<(), Fail> {
             "minute {minute}"
         );
     }
-    Ok(())
 }
 
 // The walk from the day's last minute goes on in its first two.
@@ -76,10 +88,14 @@ fn walks_through_midnight(rt: HostRuntime) -> Result<(), Fail> {
     times[0][59] = 8;
     times[1][0] = 1;
     let walks = WalkTable::make(rt.alloc(), &columns, &times)?;
+    costs_through_midnight(&rt, &walks);
+    Ok(())
+}
+
+fn costs_through_midnight(rt: &impl Abort, walks: &WalkTable) {
     assert_eq!(rt; walks.cost(59, 1439), 150 + 120 + 130 + 110);
     assert_eq!(rt; walks.cost(59, 1438), 150);
     assert_eq!(rt; walks.cost(0, 0), 110);
-    Ok(())
 }
 
 // Second 0 differs in all minutes alike, second 59 in walk minute 0 alone, and second 1 in the later ones alone.
@@ -87,6 +103,14 @@ fn walks_through_midnight(rt: HostRuntime) -> Result<(), Fail> {
 fn pairs_that_differ_in_three_seconds(rt: HostRuntime) -> Result<(), Fail> {
     let grid = grid_of_msf(rt.alloc())?;
     let columns = SlotColumns::make(rt.alloc(), &grid)?;
+    let table = table_of_pairs(rt.alloc(), &columns)?;
+    costs_of_pairs(&rt, &table);
+    Ok(())
+}
+
+fn table_of_pairs(alloc: Global, columns: &SlotColumns) -> Result<LayerTable, Fail>
+    ensures { IfOk result (λ table. table.pairs ≡ 2) }
+{
     let mut firsts: [Part; 2] = [[1; 60]; 2];
     let mut rests: [Part; 2] = [[16; 60]; 2];
     rests[0][0] = 1;
@@ -94,10 +118,15 @@ fn pairs_that_differ_in_three_seconds(rt: HostRuntime) -> Result<(), Fail> {
     rests[1][0] = 8;
     firsts[1][59] = 16;
     rests[1][1] = 2;
-    let table = LayerTable::make(rt.alloc(), &columns, &firsts, &rests)?;
+    let table = LayerTable::make(alloc, columns, &firsts, &rests)?;
+    Ok(table)
+}
+
+fn costs_of_pairs(rt: &impl Abort, table: &LayerTable)
+    requires { table.now.pairs ≡ 2 }
+{
     assert_eq!(rt; table.cost(0, 59), 110 + 150 + 150 + 110);
     assert_eq!(rt; table.cost(1, 59), 150 + 120 + 150 + 130);
     assert_eq!(rt; table.cost(0, 0), 110 + 110 + 110 + 150);
     assert_eq!(rt; table.cost(1, 0), 130 + 110 + 130 + 120);
-    Ok(())
 }

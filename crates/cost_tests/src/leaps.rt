@@ -1,4 +1,4 @@
-//! Blocks of which every walk is walked where a leap second is announced, and how long it takes.
+//! Blocks of which every walk is walked where a leap second is announced.
 
 ghost use Rattle.std.specs.Prelude.{IfOk, ◌≡◌, ◌+◌, ◌*◌, ◌/◌, ◌^◌, ◌<◌, ◌≤◌, true};
 ghost use Rattle.signal_base.specs.declared.limits.TheConstants.{LEAST_SECONDS, MOST_SECONDS};
@@ -11,23 +11,14 @@ use civil::Civil;
 use definitions::{Block, CENTURY_MINUTES, Sequence, Span};
 use leap_unions::{LeapUnions, Sets};
 use minute_parts::{Parts, Unions};
-use sample_grids::YEAR_2001;
 use sequence::{allowed, walkable};
 use signal_base::{MOST_SECONDS, Station, Stations, Window};
 use std::alloc::AllocGlobal;
 use std::process::Abort;
 use std::test::Fail;
-use std::time::Instant;
 
-// The minutes after 2016-12-31 and 2001-12-31. A leap second came at the end of 2016.
+// The minute after 2016-12-31, at whose end a leap second came.
 const YEAR_2017: u32 = 8_942_400;
-
-const YEAR_2002: u32 = 1_052_640;
-
-// What is measured.
-const MEASURED: Station = Station::Dcf77;
-
-const MEASURED_SECONDS: u16 = 1200;
 
 // A block of one station's window.
 #[derive(Drop)]
@@ -81,27 +72,6 @@ impl Asked {
                 span: Span::Day,
                 lo: from,
                 hi: to,
-            },
-        }
-    }
-
-    // Of the year 2001.
-    fn in_2001(station: Station, seconds: u16, second: u8) -> Asked
-        requires long { LEAST_SECONDS ≤ seconds }
-        requires short { seconds ≤ MOST_SECONDS }
-        requires second { second ≤ 60 }
-        ensures station { result.station ≡ station }
-        ensures seconds { result.window.seconds ≡ seconds }
-    {
-        Asked {
-            station,
-            window: window(station, seconds, YEAR_2001, YEAR_2002),
-            block: Block {
-                announced: true,
-                second,
-                span: Span::Year,
-                lo: YEAR_2001,
-                hi: YEAR_2002,
             },
         }
     }
@@ -270,29 +240,5 @@ fn end_of_the_century(rt: HostRuntime) -> Result<(), Fail> {
             "{second}"
         );
     }
-    Ok(())
-}
-
-// How long the rows take, and a thousand years of them.
-#[test]
-fn years(rt: HostRuntime) -> Result<(), Fail> {
-    let known = Known::make(&rt, MEASURED, MEASURED_SECONDS)?;
-    let begin = Instant::now(&rt)?;
-    let again = LeapUnions::make(
-        rt.alloc(),
-        &known.civil,
-        MEASURED,
-        &known.unions,
-        MEASURED_SECONDS,
-    )?;
-    let microseconds = begin.elapsed(&rt)?.as_micros();
-    println!(rt; "made in {microseconds} microseconds")?;
-    let asked = Asked::in_2001(MEASURED, MEASURED_SECONDS, 7);
-    let begin = Instant::now(&rt)?;
-    for _ in 0..1000u16 {
-        assert!(rt; asked.unions(&known.civil, &known.unions, &again).is_some());
-    }
-    let microseconds = begin.elapsed(&rt)?.as_micros();
-    println!(rt; "a thousand years in {microseconds} microseconds")?;
     Ok(())
 }

@@ -13,7 +13,7 @@ ghost use Rattle.plain_costs.specs.Grids.{AreGrids};
 ghost use Rattle.plain_costs.specs.Made.{IsGridOf};
 
 use civil::Civil;
-use definitions::{Block, Sequence, Span};
+use definitions::{Block, CENTURY_MINUTES, Sequence, Span};
 use plain_costs::{dut1, plain_cost, union_bound, unions_of};
 use pulse_log::{Log, read_log};
 use sample_grids::window;
@@ -187,6 +187,28 @@ fn dut1_in(rt: &impl Abort, civil: &Civil, station: Station, grid: &CostGrid, fi
     dut1(grid, civil, station, &window, &q)
 }
 
+fn check_dut1(
+    rt: &impl Abort,
+    civil: &Civil,
+    station: Station,
+    grid: &CostGrid,
+    first: u32,
+    dut: Dut,
+)
+    requires grid { IsGridOf station grid.now }
+    requires first { first < century_minutes }
+{
+    assert_eq!(rt; dut1_in(rt, civil, station, grid, first), dut);
+}
+
+// The sequences from second 0 of two minutes on cost so much.
+fn check_costs(rt: &impl Abort, civil: &Civil, bank: &Bank, wanted: [(u32, u32); 2]) {
+    for (first, cost) in wanted {
+        assert!(rt; first < CENTURY_MINUTES);
+        assert_eq!(rt; bank.cost(rt, civil, first), cost, "from {first}");
+    }
+}
+
 const WEIGHT_3: Tuning = Tuning {
     delay: 0,
     weight: 3,
@@ -209,14 +231,9 @@ fn sums_over_receivers(rt: HostRuntime) -> Result<(), Fail> {
         &[WEIGHT_3, WEIGHT_1],
         &[heard, at_odds],
     )?;
-    assert_eq!(rt;
-        dut1_in(&rt, &civil, Station::Msf, &grid, JULY),
-        Dut::Tenths(0)
-    );
+    check_dut1(&rt, &civil, Station::Msf, &grid, JULY, Dut::Tenths(0));
     let bank = Bank::one(rt.alloc(), Station::Msf, grid, JULY, JULY + 2)?;
-    for (first, cost) in [(JULY, 100), (JULY + 1, 900)] {
-        assert_eq!(rt; bank.cost(&rt, &civil, first), cost, "from {first}");
-    }
+    check_costs(&rt, &civil, &bank, [(JULY, 100), (JULY + 1, 900)]);
     Ok(())
 }
 
@@ -224,13 +241,24 @@ fn sums_over_receivers(rt: HostRuntime) -> Result<(), Fail> {
 #[test]
 fn tells_dut1(rt: HostRuntime) -> Result<(), Fail> {
     let civil = Civil::make(rt.alloc())?;
-    for (also_low, cost, dut) in [([9, 10], 0, Dut::Tenths(-2)), ([10, 10], 100, Dut::Tied)] {
-        let grid = grid_heard(&rt, &civil, Station::Msf, JULY, &also_low)?;
-        assert_eq!(rt; dut1_in(&rt, &civil, Station::Msf, &grid, JULY), dut);
-        let bank = Bank::one(rt.alloc(), Station::Msf, grid, JULY, JULY + 2)?;
-        assert_eq!(rt; bank.cost(&rt, &civil, JULY), cost);
-        assert_eq!(rt; bank.cost(&rt, &civil, JULY + 1), cost + 200);
-    }
+    check_ones(&rt, &civil, &[9, 10], Dut::Tenths(-2), 0)?;
+    check_ones(&rt, &civil, &[10], Dut::Tied, 100)
+}
+
+// Ones in these seconds of MSF tell this DUT1, and their minute costs so much. The minute after costs 200 more.
+fn check_ones(
+    rt: &(impl Abort + AllocGlobal),
+    civil: &Civil,
+    also_low: &[usize],
+    dut: Dut,
+    cost: u32,
+) -> Result<(), Fail>
+    requires { cost ≤ 100 }
+{
+    let grid = grid_heard(rt, civil, Station::Msf, JULY, also_low)?;
+    check_dut1(rt, civil, Station::Msf, &grid, JULY, dut);
+    let bank = Bank::one(rt.alloc(), Station::Msf, grid, JULY, JULY + 2)?;
+    check_costs(rt, civil, &bank, [(JULY, cost), (JULY + 1, cost + 200)]);
     Ok(())
 }
 
@@ -240,7 +268,7 @@ fn sums_over_dcf77_and_jjy(rt: HostRuntime) -> Result<(), Fail> {
     let civil = Civil::make(rt.alloc())?;
     let dcf77 = grid_heard(&rt, &civil, Station::Dcf77, JUNE, &[])?;
     let jjy = grid_heard(&rt, &civil, Station::Jjy, JUNE, &[])?;
-    assert_eq!(rt; dut1_in(&rt, &civil, Station::Jjy, &jjy, JUNE), Dut::Absent);
+    check_dut1(&rt, &civil, Station::Jjy, &jjy, JUNE, Dut::Absent);
     let bank = Bank::two(
         rt.alloc(),
         (Station::Dcf77, Station::Jjy),
@@ -249,8 +277,7 @@ fn sums_over_dcf77_and_jjy(rt: HostRuntime) -> Result<(), Fail> {
         JUNE_2020,
         JUNE + 1,
     )?;
-    assert_eq!(rt; bank.cost(&rt, &civil, JUNE), 0);
-    assert_eq!(rt; bank.cost(&rt, &civil, JUNE_2020), 200);
+    check_costs(&rt, &civil, &bank, [(JUNE, 0), (JUNE_2020, 200)]);
     Ok(())
 }
 
@@ -260,14 +287,8 @@ fn sums_over_msf_and_wwvb(rt: HostRuntime) -> Result<(), Fail> {
     let civil = Civil::make(rt.alloc())?;
     let msf = grid_heard(&rt, &civil, Station::Msf, JULY, &[])?;
     let wwvb = grid_heard(&rt, &civil, Station::Wwvb, JULY, &[])?;
-    assert_eq!(rt;
-        dut1_in(&rt, &civil, Station::Msf, &msf, JULY),
-        Dut::Tenths(0)
-    );
-    assert_eq!(rt;
-        dut1_in(&rt, &civil, Station::Wwvb, &wwvb, JULY),
-        Dut::Tenths(0)
-    );
+    check_dut1(&rt, &civil, Station::Msf, &msf, JULY, Dut::Tenths(0));
+    check_dut1(&rt, &civil, Station::Wwvb, &wwvb, JULY, Dut::Tenths(0));
     let bank = Bank::two(
         rt.alloc(),
         (Station::Msf, Station::Wwvb),
@@ -276,8 +297,7 @@ fn sums_over_msf_and_wwvb(rt: HostRuntime) -> Result<(), Fail> {
         JULY,
         JULY + 2,
     )?;
-    assert_eq!(rt; bank.cost(&rt, &civil, JULY), 0);
-    assert_eq!(rt; bank.cost(&rt, &civil, JULY + 1), 500);
+    check_costs(&rt, &civil, &bank, [(JULY, 0), (JULY + 1, 500)]);
     Ok(())
 }
 
@@ -304,17 +324,23 @@ fn unites_two_minutes(rt: HostRuntime) -> Result<(), Fail> {
     let civil = Civil::make(rt.alloc())?;
     let grid = grid_heard(&rt, &civil, Station::Dcf77, JULY, &[])?;
     let bank = Bank::one(rt.alloc(), Station::Dcf77, grid, JULY + 1, JULY + 3)?;
-    let block = hour_of(&rt, &bank.window, false, 0);
+    check_unions(&rt, &civil, &bank);
+    Ok(())
+}
+
+fn check_unions(rt: &impl Abort, civil: &Civil, bank: &Bank)
+    requires { bank.now.window.stations.mask ≡ 1 }
+{
+    let block = hour_of(rt, &bank.window, false, 0);
     assert_eq!(rt;
-        union_bound(&bank.grids, &civil, &bank.window, &block),
+        union_bound(&bank.grids, civil, &bank.window, &block),
         Some(100)
     );
-    let sets = unions_of(&civil, Station::Dcf77, &bank.window, &block);
+    let sets = unions_of(civil, Station::Dcf77, &bank.window, &block);
     for (second, set) in [(20, 2), (21, 3), (22, 2), (23, 1), (28, 3), (59, 4)] {
         assert_eq!(rt; sets[second], set, "second {second}");
     }
     // No minute of July has a second 60.
-    let none = hour_of(&rt, &bank.window, true, 60);
-    assert_eq!(rt; union_bound(&bank.grids, &civil, &bank.window, &none), None);
-    Ok(())
+    let none = hour_of(rt, &bank.window, true, 60);
+    assert_eq!(rt; union_bound(&bank.grids, civil, &bank.window, &none), None);
 }

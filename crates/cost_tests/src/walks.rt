@@ -1,14 +1,17 @@
 //! Walks of which four seconds are known, whose costs were worked out by hand.
 
-ghost use Rattle.std.specs.Prelude.{◌≡◌, ℕ, ◌≤◌, ◌<◌, IsFalse, false};
+ghost use Rattle.std.specs.Prelude.{◌≡◌, ℕ, ◌≤◌, ◌<◌, IsFalse, false, length};
+ghost use Rattle.signal_base.specs.Limits.{IsPriced};
 ghost use Rattle.definitions.specs.time.Calendar.{century_minutes, is_leap_end};
 
-use crate::known_slots::{unions, walks};
+use crate::known_slots::{SOME_SLOTS, unions};
 use civil::Civil;
 use definitions::CENTURY_MINUTES;
 use sample_grids::{grid, table};
 use signal_base::{CostTable, Station};
 use slot_columns::SECONDS_PER_MINUTE;
+use std::alloc::AllocGlobal;
+use std::process::Abort;
 use std::test::Fail;
 use walk_costs::StationWalks;
 
@@ -19,11 +22,7 @@ const RUN_END: u32 = 12_854_340 + 1440;
 
 // A low tenth costs 20 and a high one 10, so 0, 1 and a marker cost 120, 150 and 180. The seconds 40 to 48 carry 000100100,
 // for the year 24. The run ends at midnight in Japan; in the minutes 58 and 59 second 1 is a 1 and second 2 a 0.
-#[test]
-fn the_call_sign_costs_nothing(rt: HostRuntime) -> Result<(), Fail> {
-    let civil = Civil::make(rt.alloc())?;
-    let unions = unions(rt.alloc(), &civil, Station::Jjy)?;
-    let walks = walks(rt.alloc(), &unions, Station::Jjy, &table(20, 10), 62)?;
+fn the_call_sign_costs_nothing(rt: &impl Abort, civil: &Civil, walks: &StationWalks) {
     for (second, minute, cost) in [
         (40, CALL, Some(120 + 120)),
         (40, CALL - 1, Some(120 + 120)),
@@ -34,12 +33,11 @@ fn the_call_sign_costs_nothing(rt: HostRuntime) -> Result<(), Fail> {
         (0, RUN_END - 1, None),
     ] {
         assert_eq!(rt;
-            walks.cost(&civil, false, second, minute),
+            walks.cost(civil, false, second, minute),
             cost,
             "second {second} of {minute}"
         );
     }
-    Ok(())
 }
 
 // Friday's run ends so many minutes later: 2024-06-14T15:00Z.
@@ -49,23 +47,18 @@ const FRIDAY: u32 = 4 * 1440;
 // In second 33 they tell the lowest bit of the day of the year, 0 for day 162 and 1 for day 163, which costs 120 or more each
 // time; the seconds 34 and 35 are 0. From second 50 on Friday tells 101 and Saturday 110: both a 1, and each other bit is 0
 // on one of the days.
-#[test]
-fn a_walk_to_the_next_run_costs_no_less(rt: HostRuntime) -> Result<(), Fail> {
-    let civil = Civil::make(rt.alloc())?;
-    let unions = unions(rt.alloc(), &civil, Station::Jjy)?;
-    let walks = walks(rt.alloc(), &unions, Station::Jjy, &table(20, 10), 62)?;
+fn a_walk_to_the_next_run_costs_no_less(rt: &impl Abort, walks: &StationWalks) {
     for (second, minute, least) in [
         (0, RUN_END - 1, 180 + 120 + 180 + 120),
         (33, RUN_END - 1, 4 * 120),
         (50, RUN_END + FRIDAY - 1, 150 + 120 + 150 + 120),
     ] {
         assert_eq!(rt;
-            least_across(&walks, second, minute),
+            least_across(walks, second, minute),
             Some(least),
             "second {second}"
         );
     }
-    Ok(())
 }
 
 // What the walk from the minute costs at the least, where it goes from its run to the next.
@@ -90,20 +83,15 @@ fn least_across(walks: &StationWalks, p: u8, t: u32) -> Option<u32> {
 
 // A low tenth costs 10 and a high one 20, so 0 and 1 cost 190 and 180. The known slots are the seconds 8 and 10 of the one
 // minute and 8 and 9 of the next. Each of them can be a 1, but DUT1 has ones up to second 8 or from second 9 on.
-#[test]
-fn one_value_of_dut1_is_told_in_a_day(rt: HostRuntime) -> Result<(), Fail> {
-    let civil = Civil::make(rt.alloc())?;
-    let unions = unions(rt.alloc(), &civil, Station::Msf)?;
-    let walks = walks(rt.alloc(), &unions, Station::Msf, &table(10, 20), 62)?;
+fn one_value_of_dut1_is_told_in_a_day(rt: &impl Abort, civil: &Civil, walks: &StationWalks) {
     // 2024-01-10T10:00Z, and the last minute of that day.
     for (minute, cost) in [(12_636_600, 180 + 190 + 180 + 190), (12_637_439, 4 * 180)] {
         assert_eq!(rt;
-            walks.cost(&civil, false, 8, minute),
+            walks.cost(civil, false, 8, minute),
             Some(cost),
             "at {minute}"
         );
     }
-    Ok(())
 }
 
 // The minute before the two that tell of summer time first: 2024-03-31T00:58Z.
@@ -116,11 +104,7 @@ const NEW_YEAR: u32 = 13_150_018;
 // A low tenth costs 20 and a high one 10, so 0, 1 and no reduction cost 110, 120 and 100. From second 29 on the hour is 1 in the
 // first minute, 100000, and 3 in the next, 110000. From second 59 on a walk meets the last minute that announces the change, which
 // tells the new hour, and the first that doesn't: two marks, a bit that may be 0, and a second 0.
-#[test]
-fn a_walk_over_a_change_of_summer_time(rt: HostRuntime) -> Result<(), Fail> {
-    let civil = Civil::make(rt.alloc())?;
-    let unions = unions(rt.alloc(), &civil, Station::Dcf77)?;
-    let walks = walks(rt.alloc(), &unions, Station::Dcf77, &table(20, 10), 62)?;
+fn a_walk_over_a_change_of_summer_time(rt: &impl Abort, walks: &StationWalks) {
     for (second, minute, least) in [
         (29, SPRING, Some(120 + 110 + 120 + 120)),
         (59, SPRING, Some(100 + 110 + 100 + 110)),
@@ -128,13 +112,8 @@ fn a_walk_over_a_change_of_summer_time(rt: HostRuntime) -> Result<(), Fail> {
         (29, SPRING + 1, Some(120 + 110 + 120 + 120)),
         (59, NEW_YEAR, Some(100 + 110 + 100 + 110)),
     ] {
-        assert_eq!(rt;
-            least_over(&walks, second, minute),
-            least,
-            "second {second}"
-        );
+        assert_eq!(rt; least_over(walks, second, minute), least, "second {second}");
     }
-    Ok(())
 }
 
 // What the walk from the minute costs at the least, where it goes from its run to the next, which encodes another local time, or to
@@ -166,11 +145,7 @@ fn least_over(walks: &StationWalks, p: u8, t: u32) -> Option<u32> {
 
 // JJY tells of a leap second in the seconds 53 and 54, but not in the minutes of its call sign. Of 62 slots from second 55
 // on, these seconds come once, in the next minute.
-#[test]
-fn the_call_sign_hides_the_announcement(rt: HostRuntime) -> Result<(), Fail> {
-    let civil = Civil::make(rt.alloc())?;
-    let unions = unions(rt.alloc(), &civil, Station::Jjy)?;
-    let walks = walks(rt.alloc(), &unions, Station::Jjy, &table(20, 10), 62)?;
+fn the_call_sign_hides_the_announcement(rt: &impl Abort, civil: &Civil, walks: &StationWalks) {
     for (second, minute, shown) in [
         (40, CALL, Some(false)),
         (40, CALL - 1, Some(true)),
@@ -182,12 +157,11 @@ fn the_call_sign_hides_the_announcement(rt: HostRuntime) -> Result<(), Fail> {
         (40, RUN_END - 1, None),
     ] {
         assert_eq!(rt;
-            shows(&walks, &civil, second, minute),
+            shows(walks, civil, second, minute),
             shown,
             "second {second} of {minute}"
         );
     }
-    Ok(())
 }
 
 fn shows(walks: &StationWalks, civil: &Civil, p: u8, t0: u32) -> Option<bool> {
@@ -201,11 +175,7 @@ fn shows(walks: &StationWalks, civil: &Civil, p: u8, t0: u32) -> Option<bool> {
 const WARNED: u32 = 12_843_360;
 
 // Of 62 slots from second 51 on, the last is second 52 of the next minute.
-#[test]
-fn walks_through_two_runs_show_the_announcement(rt: HostRuntime) -> Result<(), Fail> {
-    let civil = Civil::make(rt.alloc())?;
-    let unions = unions(rt.alloc(), &civil, Station::Jjy)?;
-    let walks = walks(rt.alloc(), &unions, Station::Jjy, &table(20, 10), 62)?;
+fn walks_through_two_runs_show_it(rt: &impl Abort, civil: &Civil, walks: &StationWalks) {
     for (second, minute, shown) in [
         (51, WARNED - 1, Some(false)),
         (52, WARNED - 1, Some(true)),
@@ -216,12 +186,11 @@ fn walks_through_two_runs_show_the_announcement(rt: HostRuntime) -> Result<(), F
         (60, CALL, None),
     ] {
         assert_eq!(rt;
-            shows_over_runs(&walks, &civil, second, minute),
+            shows_over_runs(walks, civil, second, minute),
             shown,
             "second {second} of {minute}"
         );
     }
-    Ok(())
 }
 
 fn shows_over_runs(walks: &StationWalks, civil: &Civil, p: u8, t0: u32) -> Option<bool> {
@@ -249,42 +218,42 @@ fn meets_leap_end(civil: &Civil, first: u32, last: u32) -> bool
 }
 
 // The date tells of no leap second on 2024-06-01, and of one from the next day on.
-#[test]
-fn hours_before_the_warning_never_show_it(rt: HostRuntime) -> Result<(), Fail> {
-    let civil = Civil::make(rt.alloc())?;
-    let unions = unions(rt.alloc(), &civil, Station::Jjy)?;
-    let walks = walks(rt.alloc(), &unions, Station::Jjy, &table(20, 10), 62)?;
+fn hours_before_the_warning_never_show_it(rt: &impl Abort, walks: &StationWalks) {
     let end = walks.parts().end();
     assert!(rt; WARNED < end);
     assert!(rt; walks.never_shows(WARNED - 60, WARNED - 1));
     assert!(rt; !walks.never_shows(WARNED - 60, WARNED));
     assert!(rt; !walks.never_shows(WARNED, WARNED));
-    Ok(())
 }
 
 // Of DCF77 nothing is given up and nothing added. Of JJY the known slots from second 40 on are the seconds 40 and 42 of one
 // minute and 40 and 41 of the next, in which 2024 tells four zeros; the call sign takes one of the two minutes. From second 50
 // on Saturday tells 1 and 0, and in the next minute 1 and 1, which costs most: there the call sign lets both bits be 0.
-#[test]
-fn a_floor_is_what_the_cheapest_walk_costs(rt: HostRuntime) -> Result<(), Fail> {
-    let civil = Civil::make(rt.alloc())?;
-    for (station, second, minute, least) in [
-        (Station::Dcf77, 20, CALL, None),
-        (Station::Jjy, 40, CALL, Some(2 * 120)),
-        (Station::Jjy, 50, CALL + FRIDAY + 1440, Some(150 + 3 * 120)),
+fn a_floor_is_what_the_cheapest_walk_costs(
+    rt: &impl Abort,
+    civil: &Civil,
+    walks: &StationWalks,
+    second: u8,
+    minute: u32,
+) -> Option<u32> {
+    let floor = floor(walks, second, minute);
+    assert!(rt; floor.is_some());
+    assert_eq!(rt;
+        floor,
+        cheapest(walks, civil, second, minute),
+        "second {second}"
+    );
+    floor
+}
+
+fn floors_of_jjy(rt: &impl Abort, civil: &Civil, walks: &StationWalks) {
+    for (second, minute, least) in [
+        (40, CALL, 2 * 120),
+        (50, CALL + FRIDAY + 1440, 150 + 3 * 120),
     ] {
-        let unions = unions(rt.alloc(), &civil, station)?;
-        let walks = walks(rt.alloc(), &unions, station, &table(20, 10), 62)?;
-        let floor = floor(&walks, second, minute);
-        assert!(rt; floor.is_some());
-        assert_eq!(rt;
-            floor,
-            cheapest(&walks, &civil, second, minute),
-            "second {second}"
-        );
-        assert!(rt; least.is_none() || least == floor);
+        let floor = a_floor_is_what_the_cheapest_walk_costs(rt, civil, walks, second, minute);
+        assert_eq!(rt; floor, Some(least), "second {second}");
     }
-    Ok(())
 }
 
 // The floor of all walks that lie in the run of the minute.
@@ -310,22 +279,20 @@ const TOLD: &[u8] =
 // From second 36 on the slots 0 and 60 are the lowest bit of the day of the month in two minutes, the slot 53 is that of the hour in
 // the second of them, and the slot 14 is that of the year, which all dates of 2024 tell as 0: 100 milliseconds differ. A date tells
 // the bit of its day twice, so as many do, and in an odd hour no more. A walk into the next day tells the hour 0, so as many do.
-#[test]
-fn the_floor_of_a_year_is_what_its_dates_cost(rt: HostRuntime) -> Result<(), Fail> {
-    let civil = Civil::make(rt.alloc())?;
-    let unions = unions(rt.alloc(), &civil, Station::Dcf77)?;
-    let grid = grid(rt.alloc(), Station::Dcf77, &CostTable::default(), TOLD, 62)?;
-    let walks = StationWalks::make(rt.alloc(), &unions, &grid)?;
+fn the_floor_of_a_year_is_what_its_dates_cost(
+    rt: &impl Abort,
+    civil: &Civil,
+    walks: &StationWalks,
+) {
     for day in 0..3 {
         let minute = CALL + 1440 * day;
-        assert_eq!(rt; floor_of_year(&walks, 36, minute), Some(200), "at {minute}");
+        assert_eq!(rt; floor_of_year(walks, 36, minute), Some(200), "at {minute}");
         assert_eq!(rt;
-            cheapest(&walks, &civil, 36, minute),
+            cheapest(walks, civil, 36, minute),
             Some(200),
             "at {minute}"
         );
     }
-    Ok(())
 }
 
 // What no walk that begins in the run of the minute costs less than, by the dates of its year, or in those behind it in which that is more
@@ -363,4 +330,75 @@ fn lesser(one: Option<u32>, other: Option<u32>) -> Option<u32> {
         (Some(one), Some(other)) => Some(one.min(other)),
         (None, cost) | (cost, None) => cost,
     }
+}
+
+// What is checked of a station's walks.
+#[derive(Clone, Copy)]
+enum Check {
+    Dcf77,
+    Year,
+    Msf,
+    Jjy,
+}
+
+fn check_walks(rt: &impl Abort, civil: &Civil, walks: &StationWalks, check: Check) {
+    match check {
+        Check::Dcf77 => {
+            a_walk_over_a_change_of_summer_time(rt, walks);
+            a_floor_is_what_the_cheapest_walk_costs(rt, civil, walks, 20, CALL);
+        }
+        Check::Year => the_floor_of_a_year_is_what_its_dates_cost(rt, civil, walks),
+        Check::Msf => one_value_of_dut1_is_told_in_a_day(rt, civil, walks),
+        Check::Jjy => {
+            the_call_sign_costs_nothing(rt, civil, walks);
+            a_walk_to_the_next_run_costs_no_less(rt, walks);
+            the_call_sign_hides_the_announcement(rt, civil, walks);
+            walks_through_two_runs_show_it(rt, civil, walks);
+            hours_before_the_warning_never_show_it(rt, walks);
+            floors_of_jjy(rt, civil, walks);
+        }
+    }
+}
+
+// Checks a station's walks of 62 slots by a log. They are made here alone, since what owns them takes long to prove.
+fn check_walks_of(
+    rt: &(impl Abort + AllocGlobal),
+    station: Station,
+    table: &CostTable,
+    pulses: &[u8],
+    check: Check,
+) -> Result<(), Fail>
+    requires priced { IsPriced table.now }
+    requires short { length pulses.now ≤ 1000 }
+{
+    let civil = Civil::make(rt.alloc())?;
+    let unions = unions(rt.alloc(), &civil, station)?;
+    let grid = grid(rt.alloc(), station, table, pulses, 62)?;
+    let walks = StationWalks::make(rt.alloc(), &unions, &grid)?;
+    check_walks(rt, &civil, &walks, check);
+    Ok(())
+}
+
+#[test]
+fn walks_of_dcf77(rt: HostRuntime) -> Result<(), Fail> {
+    let table = table(20, 10);
+    check_walks_of(&rt, Station::Dcf77, &table, SOME_SLOTS, Check::Dcf77)
+}
+
+#[test]
+fn walks_of_a_year(rt: HostRuntime) -> Result<(), Fail> {
+    let table = CostTable::default();
+    check_walks_of(&rt, Station::Dcf77, &table, TOLD, Check::Year)
+}
+
+#[test]
+fn walks_of_msf(rt: HostRuntime) -> Result<(), Fail> {
+    let table = table(10, 20);
+    check_walks_of(&rt, Station::Msf, &table, SOME_SLOTS, Check::Msf)
+}
+
+#[test]
+fn walks_of_jjy(rt: HostRuntime) -> Result<(), Fail> {
+    let table = table(20, 10);
+    check_walks_of(&rt, Station::Jjy, &table, SOME_SLOTS, Check::Jjy)
 }

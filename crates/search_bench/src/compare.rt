@@ -12,6 +12,7 @@ use crate::case::{Case, slots_of};
 use crate::chance::Chance;
 use crate::draw::{draw_block, draw_item, draw_sequence, draw_slot};
 use crate::fault::Fault;
+use crate::floor_tally::FloorTally;
 use crate::floors::compare_floors;
 use crate::noise::noisy_bank;
 use crate::places::{PLACES, Place, minute_at};
@@ -61,44 +62,63 @@ pub fn compare<R: Print + AllocGlobal>(rt: &R, seed: u64) -> Result<(), Fault> {
     let civil = Civil::make(alloc)?;
     let mut chance = Chance::new(seed);
     for place in PLACES {
-        let mut tally = Tally::new();
-        for set in 0..STATION_SETS {
-            compare_at(
-                alloc,
-                &civil,
-                &mut chance,
-                place,
-                set,
-                Extent::Parts,
-                &mut tally,
-            )?;
-        }
+        let tally = parts_at(alloc, &civil, &mut chance, place)?;
         println!(rt; "{place}: {tally}")?;
     }
+    let tally = whole_years(alloc, &civil, &mut chance)?;
+    println!(rt; "whole years: {tally}")?;
+    for place in PLACES {
+        let floors = floors_at(alloc, &civil, &mut chance, place)?;
+        println!(rt; "{place}: {floors}")?;
+    }
+    Ok(())
+}
+
+// Compares parts of windows of each set of stations at a place.
+fn parts_at(
+    alloc: Global,
+    civil: &Civil,
+    chance: &mut Chance,
+    place: Place,
+) -> Result<Tally, Fault> {
+    let mut tally = Tally::new();
+    for set in 0..STATION_SETS {
+        compare_at(alloc, civil, chance, place, set, Extent::Parts, &mut tally)?;
+    }
+    Ok(tally)
+}
+
+// Compares a whole year of each station.
+fn whole_years(alloc: Global, civil: &Civil, chance: &mut Chance) -> Result<Tally, Fault> {
     let mut tally = Tally::new();
     for set in 0..STATIONS_ALONE {
-        let t = minute_at(&civil, &mut chance, Place::YearEnd);
+        let t = minute_at(civil, chance, Place::YearEnd);
         let asked = year_from(t);
         compare_window(
             alloc,
-            &civil,
-            &mut chance,
+            civil,
+            chance,
             stations(set),
             &asked,
             Extent::Year,
             &mut tally,
         )?;
     }
-    println!(rt; "whole years: {tally}")?;
-    for place in PLACES {
-        let mut tally = Tally::new();
-        for set in 0..STATION_SETS {
-            compare_floors_at(alloc, &civil, &mut chance, place, set, &mut tally)?;
-        }
-        let floors = tally.floors;
-        println!(rt; "{place}: {floors}")?;
+    Ok(tally)
+}
+
+// Compares floors of days of each set of stations at a place.
+fn floors_at(
+    alloc: Global,
+    civil: &Civil,
+    chance: &mut Chance,
+    place: Place,
+) -> Result<FloorTally, Fault> {
+    let mut tally = Tally::new();
+    for set in 0..STATION_SETS {
+        compare_floors_at(alloc, civil, chance, place, set, &mut tally)?;
     }
-    Ok(())
+    Ok(tally.floors)
 }
 
 /// Compares floors of days, and prints how near they come.
@@ -108,13 +128,25 @@ pub fn measure_floors<R: Print + AllocGlobal>(rt: &R, seed: u64) -> Result<(), F
     let mut chance = Chance::new(seed);
     for set in 0..STATION_SETS {
         for place in PLACES {
-            let mut tally = Tally::new();
-            compare_floors_at(alloc, &civil, &mut chance, place, set, &mut tally)?;
-            let stations = name_of(set);
-            let nearness = tally.floors.nearness();
-            println!(rt; "{stations}, {place}: {nearness}")?;
+            measure_floors_at(rt, &civil, &mut chance, place, set)?;
         }
     }
+    Ok(())
+}
+
+// The same of a set of stations at a place.
+fn measure_floors_at<R: Print + AllocGlobal>(
+    rt: &R,
+    civil: &Civil,
+    chance: &mut Chance,
+    place: Place,
+    set: u8,
+) -> Result<(), Fault> {
+    let mut tally = Tally::new();
+    compare_floors_at(rt.alloc(), civil, chance, place, set, &mut tally)?;
+    let stations = name_of(set);
+    let nearness = tally.floors.nearness();
+    println!(rt; "{stations}, {place}: {nearness}")?;
     Ok(())
 }
 

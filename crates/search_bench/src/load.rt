@@ -41,8 +41,8 @@ fn receiver<R: Files + AllocGlobal>(rt: &R, word: &str) -> Result<(Station, Log)
     Ok((station, log))
 }
 
-/// The station of a name.
-pub fn station_of(name: &str) -> Result<Station, Fault> {
+// The station of a name.
+fn station_of(name: &str) -> Result<Station, Fault> {
     match name {
         "dcf77" => Ok(Station::Dcf77),
         "msf" => Ok(Station::Msf),

@@ -7,7 +7,6 @@
 //! |---|---|
 //! | `compare [SEED]` | compares the bounds of blocks, floors of days, and the legality and costs of sequences, over windows of noise |
 //! | `floors [SEED]` | compares floors of days, and tells how near they come |
-//! | `costs STATION` | works out ten million costs of an empty log |
 //! | `measure SECONDS FROM TO STATION=LOG..` | counts and times what a search of the logs visits |
 #![tactic(auto)]
 
@@ -29,22 +28,17 @@ mod pricing;
 mod receivers;
 mod sample;
 mod searching;
-mod silence;
 mod tally;
 mod times;
 mod windows;
 
 use compare::{compare, measure_floors};
 use fault::Fault;
-use load::station_of;
 use measure::measure;
-use silence::{MINUTES, costly_silence};
 use std::env;
 use std::process::ExitCode;
 use std::rt::{Clock, Env, Files};
 use std::thread::Threads;
-use std::time::Instant;
-use times::{nanoseconds, tell};
 
 // The seed of a comparison that isn't given one.
 const FIRST_SEED: u64 = 1;
@@ -62,13 +56,20 @@ fn main(rt: HostRuntime) -> ExitCode {
 // Does what the words ask for.
 fn run<R: Threads + Sync + Clock + Env + Files + Print + AllocGlobal>(rt: &R) -> Result<(), Fault> {
     let words: Vec<String> = env::args(rt)?.collect(rt.alloc())?;
-    let [_, mode, rest @ ..] = words.as_slice() else {
+    run_words(rt, &words)
+}
+
+// The same by the words, of which the first is the program's name.
+fn run_words<R: Threads + Sync + Clock + Files + Print + AllocGlobal>(
+    rt: &R,
+    words: &[String],
+) -> Result<(), Fault> {
+    let [_, mode, rest @ ..] = words else {
         return Err(Fault::Words);
     };
     match mode.as_str() {
         "compare" => compare(rt, seed_of(rest)?),
         "floors" => measure_floors(rt, seed_of(rest)?),
-        "costs" => time_silence(rt, rest),
         "measure" => measure(rt, rest),
         _ => Err(Fault::Words),
     }
@@ -80,17 +81,4 @@ fn seed_of(words: &[String]) -> Result<u64, Fault> {
         return Ok(FIRST_SEED);
     };
     word.as_str().parse::<u64>().map_err(|_| Fault::Words)
-}
-
-// Times the costs of an empty log of the station that is named.
-fn time_silence<R: Clock + Print + AllocGlobal>(rt: &R, words: &[String]) -> Result<(), Fault> {
-    let [name] = words else {
-        return Err(Fault::Words);
-    };
-    let station = station_of(name.as_str())?;
-    let begin = Instant::now(rt)?;
-    let costly = costly_silence(rt.alloc(), station)?;
-    tell(rt, "costs", MINUTES as u64)?;
-    tell(rt, "not_zero", costly as u64)?;
-    tell(rt, "taken_ns", nanoseconds(rt, begin)?)
 }

@@ -85,32 +85,57 @@ const UNSCORED: u8 = u8::MAX;
 
 impl fmt::Display for Tally {
     fn fmt<W: fmt::Write>(&self, f: &mut fmt::Formatter<W>) -> fmt::Result {
+        self.write_spans(f)?;
+        self.write_kinds(f)?;
+        self.write_unions(f)?;
+        self.write_sequences(f)
+    }
+}
+
+impl Tally {
+    fn write_spans<W: fmt::Write>(&self, f: &mut fmt::Formatter<W>) -> fmt::Result {
         let Tally {
             windows,
             minutes,
             hours,
             days,
             years,
+            ..
+        } = *self;
+        write!(f, "{windows} windows; {minutes} minutes, {hours} hours")?;
+        write!(f, ", {days} days, {years} years")
+    }
+
+    fn write_kinds<W: fmt::Write>(&self, f: &mut fmt::Formatter<W>) -> fmt::Result {
+        let Tally {
             announced,
             from_leap_seconds,
             without_bound,
+            ..
+        } = *self;
+        write!(f, ", of them {announced} announced")?;
+        write!(
+            f,
+            ", {from_leap_seconds} from second 60, {without_bound} without a bound"
+        )
+    }
+
+    fn write_unions<W: fmt::Write>(&self, f: &mut fmt::Formatter<W>) -> fmt::Result {
+        let Tally {
             unions,
             unscored,
+            ..
+        } = *self;
+        write!(f, "; {unions} unions, {unscored} of them not scored")
+    }
+
+    fn write_sequences<W: fmt::Write>(&self, f: &mut fmt::Formatter<W>) -> fmt::Result {
+        let Tally {
             sequences,
             walkable,
             legal,
             ..
         } = *self;
-        write!(f, "{windows} windows")?;
-        write!(
-            f,
-            "; {minutes} minutes, {hours} hours, {days} days, {years} years"
-        )?;
-        write!(
-            f,
-            ", of them {announced} announced, {from_leap_seconds} from second 60, {without_bound} without a bound"
-        )?;
-        write!(f, "; {unions} unions, {unscored} of them not scored")?;
         write!(
             f,
             "; {sequences} sequences, {walkable} walkable, {legal} legal"

@@ -3,12 +3,12 @@
 ghost use Rattle.std.specs.Prelude.{◌≡◌, ◌≤◌, length};
 ghost use Rattle.definitions.specs.answers.Blocks.{IsBlock, items};
 
+use crate::checks::{Check, check_window};
 use crate::items::item;
 use crate::searches::Counter;
-use bounds::{bounded_children, items};
-use civil::Civil;
+use bounds::bounded_children;
 use definitions::Block;
-use field_tables::{Tables, parts_of};
+use field_tables::Tables;
 use race_words::Race;
 use sample_grids::{YEAR_2001, dcf77, jjy, minute_grid, silent_grid, window};
 use signal_base::{GREATEST_COST, Station, Stations};
@@ -80,7 +80,7 @@ fn found_each_way<R: Threads + Abort + Sync>(
 }
 
 // Floors change no key, under any ceiling and under those about the least cost.
-fn keys_are_found_each_way<R: Threads + Abort + Sync>(
+pub(crate) fn keys_are_found_each_way<R: Threads + Abort + Sync>(
     rt: &R,
     alloc: Global,
     tables: &Tables,
@@ -112,13 +112,9 @@ fn floors_change_no_key<R: Threads + Abort + Sync>(
 ) -> Result<(), Fail>
     requires { length text.now ≤ 1000 }
 {
-    let civil = Civil::make(alloc)?;
     let window = jjy(YEAR_2001 - 2880, YEAR_2001 + 1440);
     let grids = [minute_grid(alloc, Station::Jjy, text)?];
-    let parts = parts_of(alloc, &civil, &window)?;
-    let tables = Tables::make(alloc, &parts, &grids, &civil, &window)?;
-    let list = items(alloc, &civil, &window)?;
-    keys_are_found_each_way(rt, alloc, &tables, &list)
+    check_window(rt, alloc, &window, &grids, Check::Keys)
 }
 
 #[test]
@@ -141,22 +137,28 @@ const WWVB_IS_ODD: &[u8] = b"0 X\n8000 L\n8500 H\n9000 X\n";
 #[test]
 fn a_day_costs_what_its_stations_do_in_one_minute(rt: HostRuntime) -> Result<(), Fail> {
     let alloc = rt.alloc();
-    let civil = Civil::make(alloc)?;
     let window = window(Stations { mask: 6 }, YEAR_2001 - 2880, YEAR_2001 + 2880);
     let grids = [
         minute_grid(alloc, Station::Msf, MSF_IS_ODD)?,
         minute_grid(alloc, Station::Wwvb, WWVB_IS_ODD)?,
     ];
-    let parts = parts_of(alloc, &civil, &window)?;
-    let tables = Tables::make(alloc, &parts, &grids, &civil, &window)?;
-    let list = items(alloc, &civil, &window)?;
+    check_window(&rt, alloc, &window, &grids, Check::FourDays)
+}
+
+pub(crate) fn four_days_cost_100(
+    rt: &impl Abort,
+    tables: &Tables,
+    list: &[Block],
+) -> Result<(), Fail>
+    requires { list.now ≡ items tables.now.window }
+{
     let mut days = 0u32;
     for number in 0..list.len() {
-        let Some(year) = item(&tables, &list, number) else {
+        let Some(year) = item(tables, list, number) else {
             continue;
         };
         if !year.announced && year.second == 0 {
-            days = days.saturating_add(floors_of_days(&rt, &tables, &year, 100)?);
+            days = days.saturating_add(floors_of_days(rt, tables, &year, 100)?);
         }
     }
     assert_eq!(rt; days, 4);
@@ -180,18 +182,19 @@ fn floors_of_days(rt: &impl Abort, tables: &Tables, block: &Block, cost: u32) ->
 #[test]
 fn announced_years_of_quiet_days_have_no_floor(rt: HostRuntime) -> Result<(), Fail> {
     let alloc = rt.alloc();
-    let civil = Civil::make(alloc)?;
     let window = dcf77(YEAR_2001, YEAR_2001 + 2880);
     let grids = [silent_grid(alloc, Station::Dcf77)?];
-    let parts = parts_of(alloc, &civil, &window)?;
-    let tables = Tables::make(alloc, &parts, &grids, &civil, &window)?;
-    let list = items(alloc, &civil, &window)?;
+    check_window(&rt, alloc, &window, &grids, Check::QuietDays)
+}
+
+pub(crate) fn announced_years_have_no_floor(rt: &impl Abort, tables: &Tables, list: &[Block])
+    requires { list.now ≡ items tables.now.window }
+{
     for number in 0..list.len() {
-        let Some(year) = item(&tables, &list, number) else {
+        let Some(year) = item(tables, list, number) else {
             continue;
         };
         let has_none = tables.floor(&year, 0).is_none();
         assert_eq!(rt; has_none, year.announced, "of item {number}");
     }
-    Ok(())
 }

@@ -8,12 +8,11 @@ mod changes;
 mod rows;
 mod sizes;
 
+use crate::checks::{Check, check_window};
 use crate::last_minutes::{FROM, text_of};
-use bounds::items;
 use certificate_judge::{Checker, Outcome};
-use civil::Civil;
 use definitions::{Block, CENTURY_MINUTES};
-use field_tables::{Tables, parts_of};
+use field_tables::Tables;
 use sample_grids::{dcf77, silent_grid};
 use signal_base::Station;
 use std::alloc::{AllocError, Global};
@@ -45,7 +44,11 @@ fn told(alloc: Global, outcome: &Outcome) -> Result<String, AllocError> {
 }
 
 // The first row that isn't so, or else what other text isn't judged as it is to be.
-fn first_wrong(alloc: Global, tables: &Tables, list: &[Block]) -> Result<Option<&'static str>, Fail>
+pub(crate) fn first_wrong(
+    alloc: Global,
+    tables: &Tables,
+    list: &[Block],
+) -> Result<Option<&'static str>, Fail>
     requires items { list.now ≡ items tables.now.window }
 {
     let text = text_of(alloc, 1)?;
@@ -66,13 +69,7 @@ fn first_wrong(alloc: Global, tables: &Tables, list: &[Block]) -> Result<Option<
 
 #[test]
 fn judges_the_last_minutes(rt: HostRuntime) -> Result<(), Fail> {
-    let civil = Civil::make(rt.alloc())?;
     let grids = [silent_grid(rt.alloc(), Station::Dcf77)?];
     let window = dcf77(FROM, CENTURY_MINUTES);
-    let parts = parts_of(rt.alloc(), &civil, &window)?;
-    let tables = Tables::make(rt.alloc(), &parts, &grids, &civil, &window)?;
-    let list = items(rt.alloc(), &civil, &window)?;
-    let wrong = first_wrong(rt.alloc(), &tables, &list)?;
-    assert_eq!(rt; wrong, None);
-    Ok(())
+    check_window(&rt, rt.alloc(), &window, &grids, Check::Judged)
 }

@@ -4,11 +4,11 @@
 ghost use Rattle.std.specs.Prelude.{◌≡◌, ◌≤◌};
 ghost use Rattle.definitions.specs.answers.Blocks.{items};
 
+use crate::checks::{Check, check_window};
 use crate::items::item;
-use bounds::items;
-use civil::Civil;
+use crate::last_minutes::FROM;
 use definitions::{Block, CENTURY_MINUTES, Span};
-use field_tables::{Tables, parts_of};
+use field_tables::Tables;
 use race_words::{Race, Seat};
 use sample_grids::{YEAR_2001, dcf77, jjy, silent_grid};
 use signal_base::{GREATEST_COST, Station};
@@ -49,7 +49,7 @@ fn found<R: Threads + Sync>(
 }
 
 // However many workers search, these are the first two keys.
-fn each_crew_finds<R: Threads + Abort + Sync>(
+pub(crate) fn each_crew_finds<R: Threads + Abort + Sync>(
     rt: &R,
     alloc: Global,
     tables: &Tables,
@@ -69,24 +69,22 @@ fn each_crew_finds<R: Threads + Abort + Sync>(
 #[test]
 fn one_sequence_is_left_at_the_end_of_the_century(rt: HostRuntime) -> Result<(), Fail> {
     // From 22:59Z on the year that DCF77 encodes is 2100, and a walk of 60 seconds ends there unless it begins with second 0.
-    let civil = Civil::make(rt.alloc())?;
-    let window = dcf77(CENTURY_MINUTES - 62, CENTURY_MINUTES);
     let grids = [silent_grid(rt.alloc(), Station::Dcf77)?];
-    let parts = parts_of(rt.alloc(), &civil, &window)?;
-    let tables = Tables::make(rt.alloc(), &parts, &grids, &civil, &window)?;
-    let list = items(rt.alloc(), &civil, &window)?;
-    each_crew_finds(&rt, rt.alloc(), &tables, &list, Some(52_595_938), None)
+    let check = Check::EachCrew(Some(52_595_938), None);
+    check_window(
+        &rt,
+        rt.alloc(),
+        &dcf77(FROM, CENTURY_MINUTES),
+        &grids,
+        check,
+    )
 }
 
 #[test]
 fn a_silent_hour_ties(rt: HostRuntime) -> Result<(), Fail> {
-    let civil = Civil::make(rt.alloc())?;
-    let window = jjy(0, 60);
     let grids = [silent_grid(rt.alloc(), Station::Jjy)?];
-    let parts = parts_of(rt.alloc(), &civil, &window)?;
-    let tables = Tables::make(rt.alloc(), &parts, &grids, &civil, &window)?;
-    let list = items(rt.alloc(), &civil, &window)?;
-    each_crew_finds(&rt, rt.alloc(), &tables, &list, Some(0), Some(1))
+    let check = Check::EachCrew(Some(0), Some(1));
+    check_window(&rt, rt.alloc(), &jjy(0, 60), &grids, check)
 }
 
 // Holds each of two workers at its first pass until both have made one.
@@ -120,28 +118,25 @@ impl Gate for Meeting {
 
 #[test]
 fn two_workers_meet_at_the_gate(rt: HostRuntime) -> Result<(), Fail> {
-    let civil = Civil::make(rt.alloc())?;
-    let window = jjy(0, 60);
     let grids = [silent_grid(rt.alloc(), Station::Jjy)?];
-    let parts = parts_of(rt.alloc(), &civil, &window)?;
-    let tables = Tables::make(rt.alloc(), &parts, &grids, &civil, &window)?;
-    let list = items(rt.alloc(), &civil, &window)?;
+    check_window(&rt, rt.alloc(), &jjy(0, 60), &grids, Check::Meeting)
+}
+
+pub(crate) fn two_workers_meet<R: Threads + Abort + Sync>(
+    rt: &R,
+    alloc: Global,
+    tables: &Tables,
+    list: &[Block],
+) -> Result<(), Fail>
+    requires { list.now ≡ items tables.now.window }
+{
     let gate = Meeting {
         first: AtomicBool::new(false),
         second: AtomicBool::new(false),
         gave_up: AtomicBool::new(false),
     };
-    let (race, mut seat) = Race::make(rt.alloc(), 2)?;
-    search(
-        &rt,
-        &race,
-        &mut seat,
-        &tables,
-        &list,
-        GREATEST_COST,
-        2,
-        &gate,
-    );
+    let (race, mut seat) = Race::make(alloc, 2)?;
+    search(rt, &race, &mut seat, tables, list, GREATEST_COST, 2, &gate);
     assert!(rt; gate.first.load(Ordering::SeqCst), "worker 0 passed");
     assert!(rt; gate.second.load(Ordering::SeqCst), "worker 1 passed");
     assert!(rt;
@@ -221,76 +216,97 @@ fn blocks_of(
 
 #[test]
 fn a_visit_goes_by_what_another_seat_offered(rt: HostRuntime) -> Result<(), Fail> {
-    let civil = Civil::make(rt.alloc())?;
-    let window = jjy(YEAR_2001 - 2, YEAR_2001 + 2);
     let grids = [silent_grid(rt.alloc(), Station::Jjy)?];
-    let parts = parts_of(rt.alloc(), &civil, &window)?;
-    let tables = Tables::make(rt.alloc(), &parts, &grids, &civil, &window)?;
-    let list = items(rt.alloc(), &civil, &window)?;
+    let window = jjy(YEAR_2001 - 2, YEAR_2001 + 2);
+    check_window(&rt, rt.alloc(), &window, &grids, Check::Visit)
+}
+
+pub(crate) fn visits_go_by_offers(
+    rt: &impl Abort,
+    alloc: Global,
+    tables: &Tables,
+    list: &[Block],
+) -> Result<(), Fail>
+    requires { list.now ≡ items tables.now.window }
+{
     assert_eq!(rt;
         list.get(1).map(|b| (b.span, b.lo, b.second, b.announced)),
         Some((Span::Year, YEAR_2001, 0, false))
     );
 
     // A seat that has seen nothing comes to the year, its day, its hour and two minutes.
-    let (race, mut seat) = Race::make(rt.alloc(), 1)?;
-    let told = blocks_of(&race, &mut seat, &tables, &list, 1, true);
+    let told = blocks_of_a_visit(alloc, tables, list, 1)?;
     assert_eq!(rt; told, Some(5));
 
     // Once another seat has offered two lesser keys, it comes to the year alone.
-    let (race, mut first) = Race::make(rt.alloc(), 2)?;
-    let mut other = race.split(&mut first, 1);
-    race.offer(&mut first, 0);
-    race.offer(&mut first, 1);
-    let told = blocks_of(&race, &mut other, &tables, &list, 1, true);
+    let told = blocks_after(alloc, tables, list, 1, (0, 1), true)?;
     assert_eq!(rt; told, Some(1));
     Ok(())
 }
 
-// Of how many blocks the visit of the first item tells, once another seat has offered these keys.
+// Of how many blocks the visit of an item tells where nothing was offered.
+fn blocks_of_a_visit(
+    alloc: Global,
+    tables: &Tables,
+    list: &[Block],
+    number: usize,
+) -> Result<Option<u32>, Fail>
+    requires items { list.now ≡ items tables.now.window }
+{
+    let (race, mut seat) = Race::make(alloc, 1)?;
+    Ok(blocks_of(&race, &mut seat, tables, list, number, true))
+}
+
+// Of how many blocks the visit of an item tells, once another seat has offered these keys.
 fn blocks_after(
     alloc: Global,
     tables: &Tables,
     list: &[Block],
-    one: u32,
-    two: u32,
+    number: usize,
+    keys: (u32, u32),
     needs_all: bool,
 ) -> Result<Option<u32>, Fail>
     requires items { list.now ≡ items tables.now.window }
 {
     let (race, mut first) = Race::make(alloc, 2)?;
     let mut other = race.split(&mut first, 1);
-    race.offer(&mut first, one as u64);
-    race.offer(&mut first, two as u64);
-    Ok(blocks_of(&race, &mut other, tables, list, 0, needs_all))
+    race.offer(&mut first, keys.0 as u64);
+    race.offer(&mut first, keys.1 as u64);
+    Ok(blocks_of(&race, &mut other, tables, list, number, needs_all))
 }
+
+// The last minute of a day; the next begins with the minute after it.
+const LAST: u32 = YEAR_2001 + 1439;
 
 #[test]
 fn a_day_is_passed_over_by_what_another_seat_offered(rt: HostRuntime) -> Result<(), Fail> {
-    // The last minute of a day, and the first of the next. What is told of all blocks is told of their own steps.
-    let last = YEAR_2001 + 1439;
-    let civil = Civil::make(rt.alloc())?;
-    let window = jjy(last, last + 2);
     let grids = [silent_grid(rt.alloc(), Station::Jjy)?];
-    let parts = parts_of(rt.alloc(), &civil, &window)?;
-    let tables = Tables::make(rt.alloc(), &parts, &grids, &civil, &window)?;
-    let list = items(rt.alloc(), &civil, &window)?;
+    check_window(&rt, rt.alloc(), &jjy(LAST, LAST + 2), &grids, Check::Day)
+}
 
-    // After greater keys the visit comes to the year, two days, two hours and two minutes.
-    let all = blocks_after(rt.alloc(), &tables, &list, last + 2, last + 3, true)?;
-    let some = blocks_after(rt.alloc(), &tables, &list, last + 2, last + 3, false)?;
-    assert_eq!(rt; (all, some), (Some(7), Some(7)));
-
-    // After two keys below the second day's that day is passed over: by its own step, or by its floor, and then nothing is
-    // told of it.
-    let all = blocks_after(rt.alloc(), &tables, &list, 0, last, true)?;
-    let some = blocks_after(rt.alloc(), &tables, &list, 0, last, false)?;
-    assert_eq!(rt; (all, some), (Some(5), Some(4)));
-
-    // After the very key of the second day, which is the second-least once the first day's minute is offered, it is not.
-    let all = blocks_after(rt.alloc(), &tables, &list, last + 1, last + 3, true)?;
-    let some = blocks_after(rt.alloc(), &tables, &list, last + 1, last + 3, false)?;
-    assert_eq!(rt; (all, some), (Some(7), Some(7)));
+// By a window of these two minutes. What is told of all blocks is told of their own steps.
+pub(crate) fn days_are_passed_over(
+    rt: &impl Abort,
+    alloc: Global,
+    tables: &Tables,
+    list: &[Block],
+) -> Result<(), Fail>
+    requires { list.now ≡ items tables.now.window }
+{
+    for (keys, all, some) in [
+        // After greater keys the visit comes to the year, two days, two hours and two minutes.
+        ((LAST + 2, LAST + 3), 7, 7),
+        // After two keys below the second day's that day is passed over: by its own step, or by its floor, and then nothing
+        // is told of it.
+        ((0, LAST), 5, 4),
+        // After the very key of the second day, which is the second-least once the first day's minute is offered, it is not.
+        ((LAST + 1, LAST + 3), 7, 7),
+    ] {
+        let told = blocks_after(alloc, tables, list, 0, keys, true)?;
+        assert_eq!(rt; told, Some(all));
+        let told = blocks_after(alloc, tables, list, 0, keys, false)?;
+        assert_eq!(rt; told, Some(some));
+    }
     Ok(())
 }
 
@@ -397,36 +413,44 @@ fn kept_in<R: Threads + Sync>(
 
 #[test]
 fn a_search_whose_steps_cannot_be_kept_ends(rt: HostRuntime) -> Result<(), Fail> {
-    // An hour of JJY has 121 items, each of which takes a step at least, and two workers keep at most 60 each.
-    let civil = Civil::make(rt.alloc())?;
-    let window = jjy(0, 60);
     let grids = [silent_grid(rt.alloc(), Station::Jjy)?];
-    let parts = parts_of(rt.alloc(), &civil, &window)?;
-    let tables = Tables::make(rt.alloc(), &parts, &grids, &civil, &window)?;
-    let list = items(rt.alloc(), &civil, &window)?;
-    let by_none = kept_in(&rt, rt.alloc(), &tables, &list, 0)?;
-    assert_eq!(rt; by_none, (Err(NoRoom), u64::MAX, u64::MAX));
-    let by_one = kept_in(&rt, rt.alloc(), &tables, &list, 1)?;
-    assert_eq!(rt; by_one, (Err(NoRoom), u64::MAX, u64::MAX));
+    check_window(&rt, rt.alloc(), &jjy(0, 60), &grids, Check::FewSteps)
+}
 
-    // A key is offered at the fourth step, behind the year, the day and the hour, and who draws the first item offers the
-    // least two.
-    let by_60 = kept_in(&rt, rt.alloc(), &tables, &list, 60)?;
-    assert_eq!(rt; by_60, (Err(NoRoom), 0, 1));
+// An hour of JJY has 121 items, each of which takes a step at least, and two workers keep at most 60 each. A key is offered at the
+// fourth step, behind the year, the day and the hour, and who draws the first item offers the least two.
+pub(crate) fn few_steps_are_kept<R: Threads + Abort + Sync>(
+    rt: &R,
+    alloc: Global,
+    tables: &Tables,
+    list: &[Block],
+) -> Result<(), Fail>
+    requires { list.now ≡ items tables.now.window }
+{
+    for (room, least, second) in [(0, u64::MAX, u64::MAX), (1, u64::MAX, u64::MAX), (60, 0, 1)] {
+        let kept = kept_in(rt, alloc, tables, list, room)?;
+        assert_eq!(rt; kept, (Err(NoRoom), least, second), "{room}");
+    }
     Ok(())
 }
 
 #[test]
 fn each_workers_steps_are_told(rt: HostRuntime) -> Result<(), Fail> {
-    // An hour of JJY has 121 items, and whoever visits one comes to its year at least.
-    let civil = Civil::make(rt.alloc())?;
-    let window = jjy(0, 60);
     let grids = [silent_grid(rt.alloc(), Station::Jjy)?];
-    let parts = parts_of(rt.alloc(), &civil, &window)?;
-    let tables = Tables::make(rt.alloc(), &parts, &grids, &civil, &window)?;
-    let list = items(rt.alloc(), &civil, &window)?;
+    check_window(&rt, rt.alloc(), &jjy(0, 60), &grids, Check::EachWorker)
+}
+
+// An hour of JJY has 121 items, and whoever visits one comes to its year at least.
+pub(crate) fn each_workers_steps_count<R: Threads + Abort + Sync>(
+    rt: &R,
+    alloc: Global,
+    tables: &Tables,
+    list: &[Block],
+) -> Result<(), Fail>
+    requires { list.now ≡ items tables.now.window }
+{
     for workers in 1..=8 {
-        let blocks = blocks_of_all(&rt, rt.alloc(), &tables, &list, workers)?;
+        let blocks = blocks_of_all(rt, alloc, tables, list, workers)?;
         assert!(rt; blocks >= 121, "{workers} workers: {blocks}");
     }
     Ok(())

@@ -3,12 +3,11 @@
 ghost use Rattle.std.specs.Prelude.{◌<◌};
 ghost use Rattle.definitions.specs.time.Calendar.{century_minutes};
 
-use civil::Civil;
+use crate::checks::{Check, check_window};
 use definitions::{CENTURY_MINUTES, Sequence};
-use field_tables::{Tables, parts_of};
+use field_tables::Tables;
 use sample_grids::grid;
 use signal_base::{CostTable, MOST_SECONDS, Station, Stations, Window};
-use std::alloc::Global;
 use std::test::Fail;
 
 // The first minutes of the sequences are below this. `make quick` looks at fewer.
@@ -26,9 +25,20 @@ fn costs_nothing(tables: &Tables, first: u32) -> bool
     tables.legal(&q) && tables.cost(&q) == 0
 }
 
-// How many sequences of 1,200 seconds cost something or aren't legal, by a log of DCF77 without records.
-fn costly_sequences(alloc: Global) -> Result<u32, Fail> {
-    let civil = Civil::make(alloc)?;
+// How many sequences of the tables' window cost something or aren't legal.
+pub(crate) fn costly_sequences(tables: &Tables) -> u32 {
+    let mut costly = 0u32;
+    for first in 0..MINUTES {
+        if !costs_nothing(tables, first) {
+            costly = costly.saturating_add(1);
+        }
+    }
+    costly
+}
+
+// By a log of DCF77 without records, of 1,200 seconds.
+#[test]
+fn an_empty_log_costs_nothing(rt: HostRuntime) -> Result<(), Fail> {
     let window = Window {
         stations: Stations::one(Station::Dcf77),
         start: 0,
@@ -38,21 +48,6 @@ fn costly_sequences(alloc: Global) -> Result<u32, Fail> {
         to: CENTURY_MINUTES,
     };
     let table = CostTable::default();
-    let grids = [grid(alloc, Station::Dcf77, &table, b"", MOST_SECONDS)?];
-    let parts = parts_of(alloc, &civil, &window)?;
-    let tables = Tables::make(alloc, &parts, &grids, &civil, &window)?;
-    let mut costly = 0u32;
-    for first in 0..MINUTES {
-        if !costs_nothing(&tables, first) {
-            costly = costly.saturating_add(1);
-        }
-    }
-    Ok(costly)
-}
-
-#[test]
-fn an_empty_log_costs_nothing(rt: HostRuntime) -> Result<(), Fail> {
-    let costly = costly_sequences(rt.alloc())?;
-    assert_eq!(rt; costly, 0);
-    Ok(())
+    let grids = [grid(rt.alloc(), Station::Dcf77, &table, b"", MOST_SECONDS)?];
+    check_window(&rt, rt.alloc(), &window, &grids, Check::Silence)
 }

@@ -4,11 +4,11 @@ ghost use Rattle.std.specs.Prelude.{◌≡◌};
 ghost use Rattle.definitions.specs.answers.Blocks.{items};
 ghost use Rattle.definitions.specs.examples.Sequences.{window_of};
 
+use crate::checks::{Check, check_window};
 use crate::items::item;
-use bounds::items;
 use civil::Civil;
 use definitions::Block;
-use field_tables::{Tables, parts_of};
+use field_tables::Tables;
 use kept_steps::{StepList, decide_recorded, visit_recorded};
 use race_words::{Race, Seat};
 use sample_grids::{YEAR_2001, jjy, silent_grid};
@@ -47,7 +47,7 @@ fn steps_of(
 
 // How many steps a visit of the second item has, and of the first of them the bound and what was read, once another seat has
 // offered two keys.
-fn first_step(
+pub(crate) fn first_step(
     alloc: Global,
     tables: &Tables,
     list: &[Block],
@@ -70,17 +70,8 @@ fn first_step(
 // A worker that cuts by its own offers alone would open the year, whose bound is 0: where nothing was heard, nothing costs.
 #[test]
 fn keeps_what_is_read_of_another_seat(rt: HostRuntime) -> Result<(), Fail> {
-    let civil = Civil::make(rt.alloc())?;
-    let window = new_year();
     let grids = [silent_grid(rt.alloc(), Station::Jjy)?];
-    let parts = parts_of(rt.alloc(), &civil, &window)?;
-    let tables = Tables::make(rt.alloc(), &parts, &grids, &civil, &window)?;
-    let list = items(rt.alloc(), &civil, &window)?;
-    assert_eq!(rt;
-        first_step(rt.alloc(), &tables, &list)?,
-        Some((1, Some(0), 1))
-    );
-    Ok(())
+    check_window(&rt, rt.alloc(), &new_year(), &grids, Check::FirstStep)
 }
 
 #[test]
