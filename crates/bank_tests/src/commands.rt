@@ -1,11 +1,13 @@
 //! Runs over files in memory, with ample memory. The texts are worked out by hand from the code descriptions.
 
 use crate::made::{
-    JJY, MINUTES, REPORT, SENTENCES, TWO_STATIONS, clean_log, files_of, printed, words,
+    JJY, REPORT, SENTENCES, TWO_STATIONS, files_of_minutes, files_of_two, printed, status_of,
+    tells, tells_minutes, tells_over,
 };
-use bank::run;
 use bank_files::{MemoryFiles, OneByte};
+use std::alloc::Global;
 use std::test::Fail;
+use std::thread::Threads;
 use workers::NoGate;
 
 // The hour of the two minutes.
@@ -14,147 +16,151 @@ const HOUR: &str =
 
 #[test]
 fn decides_two_clean_minutes(rt: HostRuntime) -> Result<(), Fail> {
-    let log = clean_log(rt.alloc(), &MINUTES, 0)?;
-    let mut files = files_of(rt.alloc(), JJY, &log)?;
-    let words = words(rt.alloc(), HOUR)?;
-    assert_eq!(rt; run(&rt, rt.alloc(), &words, &mut files, &NoGate), 0);
-    assert!(rt; printed(&files, REPORT));
+    assert!(rt; tells_minutes(&rt, JJY, HOUR, 0, REPORT)?);
     Ok(())
 }
 
 #[test]
 fn ties_on_an_empty_log(rt: HostRuntime) -> Result<(), Fail> {
-    let mut files = files_of(rt.alloc(), JJY, "")?;
-    let words = words(
-        rt.alloc(),
-        "decode k.toml --seconds 60 --from 2024-06-10T00:00Z --to 2024-06-10T00:01Z",
-    )?;
-    assert_eq!(rt; run(&rt, rt.alloc(), &words, &mut files, &NoGate), 1);
     assert!(rt;
-        printed(
-            &files,
-            "undecided 0\nphase 0\nsequence 2024-06-10T00:00Z 0 no\nsequence 2024-06-10T00:01Z 0 no\n"
-        )
+        tells_over(
+            &rt,
+            JJY,
+            "",
+            "decode k.toml --seconds 60 --from 2024-06-10T00:00Z --to 2024-06-10T00:01Z",
+            1,
+            "undecided 0\nphase 0\nsequence 2024-06-10T00:00Z 0 no\nsequence 2024-06-10T00:01Z 0 no\n",
+        )?
     );
     Ok(())
 }
 
+// Tells whether a run over no files ends with this status and prints this text.
+fn tells_over_none<R: Threads + Sync + AllocGlobal>(
+    rt: &R,
+    line: &str,
+    status: u8,
+    text: &str,
+) -> Result<bool, Fail> {
+    let mut files = MemoryFiles::make(rt.alloc());
+    tells(rt, &mut files, line, status, text)
+}
+
+const REFUSED_LINES: [(&str, &str); 6] = [
+    ("decode", "words: usage\n"),
+    ("check k.toml y.cert", "words: usage\n"),
+    ("decode k.toml --certificate -", "words: usage\n"),
+    ("decode k.toml --seconds 59", "words: bad --seconds\n"),
+    ("trial 01", "words: bad NUMBER\n"),
+    (
+        "feed k.toml --from 2024-06-10T06:00Z --to 2024-06-10T05:59Z",
+        "words: --to is before --from\n",
+    ),
+];
+
 #[test]
 fn refuses_words(rt: HostRuntime) -> Result<(), Fail> {
-    for (line, text) in [
-        ("decode", "words: usage\n"),
-        ("check k.toml y.cert", "words: usage\n"),
-        ("decode k.toml --certificate -", "words: usage\n"),
-        ("decode k.toml --seconds 59", "words: bad --seconds\n"),
-        ("trial 01", "words: bad NUMBER\n"),
-        (
-            "feed k.toml --from 2024-06-10T06:00Z --to 2024-06-10T05:59Z",
-            "words: --to is before --from\n",
-        ),
-    ] {
-        let mut files = MemoryFiles::make(rt.alloc());
-        let words = words(rt.alloc(), line)?;
-        assert_eq!(rt;
-            run(&rt, rt.alloc(), &words, &mut files, &NoGate),
-            3,
-            "{line}"
-        );
-        assert!(rt; printed(&files, text), "{line}");
+    for (line, text) in REFUSED_LINES {
+        assert!(rt; tells_over_none(&rt, line, 3, text)?, "{line}");
     }
     Ok(())
 }
+
+const REFUSED_CONFIGURATIONS: [(&str, &str); 3] = [
+    ("", "configuration: missing station\n"),
+    ("station = ", "configuration: not toml\n"),
+    (
+        "station = \"jjy\"\n[[receiver]]\nname = \"a\"\nlog = \"a.log\"\nstation = \"bpc\"\n",
+        "configuration: out of range receiver 1 station\n",
+    ),
+];
 
 #[test]
 fn refuses_configurations(rt: HostRuntime) -> Result<(), Fail> {
-    for (config, text) in [
-        ("", "configuration: missing station\n"),
-        ("station = ", "configuration: not toml\n"),
-        (
-            "station = \"jjy\"\n[[receiver]]\nname = \"a\"\nlog = \"a.log\"\nstation = \"bpc\"\n",
-            "configuration: out of range receiver 1 station\n",
-        ),
-    ] {
-        let mut files = files_of(rt.alloc(), config, "")?;
-        let words = words(rt.alloc(), HOUR)?;
-        assert_eq!(rt;
-            run(&rt, rt.alloc(), &words, &mut files, &NoGate),
-            4,
-            "{text}"
-        );
-        assert!(rt; printed(&files, text), "{text}");
+    for (config, text) in REFUSED_CONFIGURATIONS {
+        assert!(rt; tells_over(&rt, config, "", HOUR, 4, text)?, "{text}");
     }
     Ok(())
 }
 
+// Tells whether a run over these two logs refuses one with this text.
+fn refuses_a_log<R: Threads + Sync + AllocGlobal>(
+    rt: &R,
+    first: &str,
+    second: &str,
+    text: &str,
+) -> Result<bool, Fail> {
+    let mut files = files_of_two(rt.alloc(), TWO_STATIONS, first, second)?;
+    tells(rt, &mut files, HOUR, 5, text)
+}
+
+const BAD_LOGS: [(&str, &str, &str); 2] = [
+    ("5 H\n5 L\n", "4 Q", "log 1 a: line 2: not rising\n"),
+    ("", "# x\n\n5 H\n4 Q", "log 2 b: line 4: shape\n"),
+];
+
 #[test]
 fn refuses_the_first_bad_log(rt: HostRuntime) -> Result<(), Fail> {
-    for (first, second, text) in [
-        ("5 H\n5 L\n", "4 Q", "log 1 a: line 2: not rising\n"),
-        ("", "# x\n\n5 H\n4 Q", "log 2 b: line 4: shape\n"),
-    ] {
-        let mut files = files_of(rt.alloc(), TWO_STATIONS, first)?;
-        files.put("b.log", second.as_bytes())?;
-        let words = words(rt.alloc(), HOUR)?;
-        assert_eq!(rt;
-            run(&rt, rt.alloc(), &words, &mut files, &NoGate),
-            5,
-            "{text}"
-        );
-        assert!(rt; printed(&files, text), "{text}");
+    for (first, second, text) in BAD_LOGS {
+        assert!(rt; refuses_a_log(&rt, first, second, text)?, "{text}");
     }
     Ok(())
 }
 
 #[test]
 fn lists_a_minute(rt: HostRuntime) -> Result<(), Fail> {
-    let mut files = MemoryFiles::make(rt.alloc());
-    let words = words(rt.alloc(), "encode jjy 2024-06-10T06:45Z")?;
-    assert_eq!(rt; run(&rt, rt.alloc(), &words, &mut files, &NoGate), 0);
-    assert!(rt; printed(&files, LISTING));
+    assert!(rt; tells_over_none(&rt, "encode jjy 2024-06-10T06:45Z", 0, LISTING)?);
     Ok(())
 }
 
 #[test]
 fn feeds_two_minutes(rt: HostRuntime) -> Result<(), Fail> {
-    let log = clean_log(rt.alloc(), &MINUTES, 0)?;
-    let mut files = files_of(rt.alloc(), JJY, &log)?;
-    let words = words(
-        rt.alloc(),
-        "feed k.toml --seconds 120 --from 2024-06-10T06:00Z --to 2024-06-10T06:59Z",
-    )?;
-    assert_eq!(rt; run(&rt, rt.alloc(), &words, &mut files, &NoGate), 0);
-    assert!(rt; printed(&files, SENTENCES));
+    assert!(rt;
+        tells_minutes(
+            &rt,
+            JJY,
+            "feed k.toml --seconds 120 --from 2024-06-10T06:00Z --to 2024-06-10T06:59Z",
+            0,
+            SENTENCES,
+        )?
+    );
     Ok(())
 }
 
+// The station with its one receiver, under a ceiling that no cost but 0 keeps to.
+const LOW: &str = "ceiling = 0\nstation = \"jjy\"\n[[receiver]]\nname = \"a\"\nlog = \"a.log\"\n";
+
 #[test]
 fn admits_nothing_under_a_low_ceiling(rt: HostRuntime) -> Result<(), Fail> {
-    let config = format!(in rt.alloc(); "ceiling = 0\n{JJY}")?;
-    let log = clean_log(rt.alloc(), &MINUTES, 0)?;
-    let mut files = files_of(rt.alloc(), &config, &log)?;
-    let words = words(
-        rt.alloc(),
-        "decode k.toml --seconds 120 --from 2024-06-10T07:00Z --to 2024-06-10T07:09Z",
-    )?;
-    assert_eq!(rt; run(&rt, rt.alloc(), &words, &mut files, &NoGate), 2);
-    assert!(rt; printed(&files, "none\nphase 0\n"));
+    assert!(rt;
+        tells_minutes(
+            &rt,
+            LOW,
+            "decode k.toml --seconds 120 --from 2024-06-10T07:00Z --to 2024-06-10T07:09Z",
+            2,
+            "none\nphase 0\n",
+        )?
+    );
     Ok(())
+}
+
+// Tells whether a run over the clean log ends as a file fails at this call, and prints nothing.
+fn ends_at<R: Threads + Sync + AllocGlobal>(rt: &R, call: u64) -> Result<bool, Fail> {
+    let mut files = files_that_fail(rt.alloc(), call)?;
+    tells(rt, &mut files, HOUR, 6, "")
+}
+
+fn files_that_fail(alloc: Global, call: u64) -> Result<MemoryFiles, Fail> {
+    let mut files = files_of_minutes(alloc, JJY)?;
+    files.fail(call)?;
+    Ok(files)
 }
 
 #[test]
 fn ends_at_a_failing_file(rt: HostRuntime) -> Result<(), Fail> {
     // The configuration is read in two calls, the clean log in two, and the report is written in one.
-    let log = clean_log(rt.alloc(), &MINUTES, 0)?;
     for call in 1..6 {
-        let mut files = files_of(rt.alloc(), JJY, &log)?;
-        files.fail(call)?;
-        let words = words(rt.alloc(), HOUR)?;
-        assert_eq!(rt;
-            run(&rt, rt.alloc(), &words, &mut files, &NoGate),
-            6,
-            "call {call}"
-        );
-        assert!(rt; printed(&files, ""), "call {call}");
+        assert!(rt; ends_at(&rt, call)?, "call {call}");
     }
     Ok(())
 }
@@ -166,21 +172,20 @@ const LISTING: &str =
 // A name that is no file's.
 #[test]
 fn ends_at_a_missing_file(rt: HostRuntime) -> Result<(), Fail> {
-    let mut files = MemoryFiles::make(rt.alloc());
-    let words = words(rt.alloc(), HOUR)?;
-    assert_eq!(rt; run(&rt, rt.alloc(), &words, &mut files, &NoGate), 6);
-    assert!(rt; printed(&files, ""));
+    assert!(rt; tells_over_none(&rt, HOUR, 6, "")?);
     Ok(())
 }
 
-// Files that read and write a byte a call.
+// Tells whether a run over the clean log prints the report, where the files read and write a byte a call.
+fn reports_byte_by_byte<R: Threads + Sync + AllocGlobal>(rt: &R) -> Result<bool, Fail> {
+    let inner = files_of_minutes(rt.alloc(), JJY)?;
+    let mut files = OneByte { inner };
+    let status = status_of(rt, &mut files, HOUR, &NoGate)?;
+    Ok(status == 0 && printed(&files.inner, REPORT))
+}
+
 #[test]
 fn prints_the_same_byte_by_byte(rt: HostRuntime) -> Result<(), Fail> {
-    let log = clean_log(rt.alloc(), &MINUTES, 0)?;
-    let words = words(rt.alloc(), HOUR)?;
-    let inner = files_of(rt.alloc(), JJY, &log)?;
-    let mut files = OneByte { inner };
-    assert_eq!(rt; run(&rt, rt.alloc(), &words, &mut files, &NoGate), 0);
-    assert!(rt; printed(&files.inner, REPORT));
+    assert!(rt; reports_byte_by_byte(&rt)?);
     Ok(())
 }

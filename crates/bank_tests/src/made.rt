@@ -2,9 +2,12 @@
 
 ghost use Rattle.std.specs.Prelude.{◌≤◌};
 
-use bank_files::MemoryFiles;
+use bank::{CertificateGate, run};
+use bank_files::{Files, MemoryFiles};
 use std::alloc::{AllocError, Global};
 use std::test::Fail;
+use std::thread::Threads;
+use workers::{Gate, NoGate};
 
 // The words of a line that parts them by spaces.
 pub(crate) fn words(alloc: Global, line: &str) -> Result<Vec<String>, AllocError> {
@@ -13,6 +16,53 @@ pub(crate) fn words(alloc: Global, line: &str) -> Result<Vec<String>, AllocError
         words.push(word.to_string(alloc)?)?;
     }
     Ok(words)
+}
+
+// The status that a run of `bank` for the words of this line ends with.
+pub(crate) fn status_of<
+    R: Threads + Sync + AllocGlobal,
+    F: Files,
+    G: Gate + CertificateGate + Sync,
+>(rt: &R, files: &mut F, line: &str, gate: &G) -> Result<u8, Fail> {
+    let words = words(rt.alloc(), line)?;
+    Ok(run(rt, rt.alloc(), &words, files, gate))
+}
+
+// Tells whether such a run ends with this status and prints this text.
+pub(crate) fn tells<R: Threads + Sync + AllocGlobal>(
+    rt: &R,
+    files: &mut MemoryFiles,
+    line: &str,
+    status: u8,
+    text: &str,
+) -> Result<bool, Fail> {
+    let ended = status_of(rt, files, line, &NoGate)?;
+    Ok(ended == status && printed(files, text))
+}
+
+// The same of a run over a configuration and its log a.log.
+pub(crate) fn tells_over<R: Threads + Sync + AllocGlobal>(
+    rt: &R,
+    config: &str,
+    log: &str,
+    line: &str,
+    status: u8,
+    text: &str,
+) -> Result<bool, Fail> {
+    let mut files = files_of(rt.alloc(), config, log)?;
+    tells(rt, &mut files, line, status, text)
+}
+
+// And over the log of a receiver that hears the two minutes from millisecond 0 on.
+pub(crate) fn tells_minutes<R: Threads + Sync + AllocGlobal>(
+    rt: &R,
+    config: &str,
+    line: &str,
+    status: u8,
+    text: &str,
+) -> Result<bool, Fail> {
+    let log = clean_log(rt.alloc(), &MINUTES, 0)?;
+    tells_over(rt, config, &log, line, status, text)
 }
 
 pub(crate) fn printed(files: &MemoryFiles, text: &str) -> bool {
@@ -37,28 +87,42 @@ pub(crate) fn clean_log(alloc: Global, minutes: &[&str], late: u64) -> Result<St
     requires { late ≤ 1000 }
 {
     let mut text = String::new(alloc);
-    push_record(&mut text, late, "H")?;
+    push_minutes(&mut text, minutes, late)?;
+    Ok(text)
+}
+
+// Adds its records.
+fn push_minutes(text: &mut String, minutes: &[&str], late: u64) -> Result<(), AllocError>
+    requires { late ≤ 1000 }
+{
+    push_record(text, late, "H")?;
     let mut second = 0u64;
     for minute in minutes {
         for symbol in minute.bytes() {
-            let low = match symbol {
-                b'0' => 800,
-                b'1' => 500,
-                _ => 200,
-            };
             // Never reached: it bounds the sums.
             if second >= 1000 {
-                return Ok(text);
+                return Ok(());
             }
-            if second > 0 {
-                push_record(&mut text, late + 1000 * second, "H")?;
-            }
-            push_record(&mut text, late + 1000 * second + low, "L")?;
+            push_second(text, symbol, late, second)?;
             second += 1;
         }
     }
-    push_record(&mut text, late + 1000 * second.min(1000), "H")?;
-    Ok(text)
+    push_record(text, late + 1000 * second.min(1000), "H")
+}
+
+fn push_second(text: &mut String, symbol: u8, late: u64, second: u64) -> Result<(), AllocError>
+    requires late { late ≤ 1000 }
+    requires second { second ≤ 1000 }
+{
+    let low = match symbol {
+        b'0' => 800,
+        b'1' => 500,
+        _ => 200,
+    };
+    if second > 0 {
+        push_record(text, late + 1000 * second, "H")?;
+    }
+    push_record(text, late + 1000 * second + low, "L")
 }
 
 // A station with its one receiver, named a, whose log is a.log.
@@ -83,5 +147,23 @@ pub(crate) fn files_of(alloc: Global, config: &str, log: &str) -> Result<MemoryF
     let mut files = MemoryFiles::make(alloc);
     files.put("k.toml", config.as_bytes())?;
     files.put("a.log", log.as_bytes())?;
+    Ok(files)
+}
+
+// The same, where the log is that of the two minutes.
+pub(crate) fn files_of_minutes(alloc: Global, config: &str) -> Result<MemoryFiles, Fail> {
+    let log = clean_log(alloc, &MINUTES, 0)?;
+    files_of(alloc, config, &log)
+}
+
+// A configuration and its logs a.log and b.log.
+pub(crate) fn files_of_two(
+    alloc: Global,
+    config: &str,
+    log: &str,
+    other: &str,
+) -> Result<MemoryFiles, Fail> {
+    let mut files = files_of(alloc, config, log)?;
+    files.put("b.log", other.as_bytes())?;
     Ok(files)
 }

@@ -1,13 +1,12 @@
 //! Runs over clean logs of MSF, WWVB and DCF77: values of DUT1, a cost table and a ceiling, a long window, a feed, and a write
 //! that fails once. The texts are worked out by hand from the code descriptions.
 
-use crate::made::{DCF77, files_of, printed, push_record, words};
-use bank::run;
+use crate::made::{DCF77, files_of, files_of_two, printed, push_record, tells, tells_over};
 use bank_files::{Files, MemoryFiles};
 use std::alloc::{AllocError, Global};
+use std::process::Abort;
 use std::test::Fail;
 use std::thread::Threads;
-use workers::NoGate;
 
 // What is low and high in the ten tenths of a second, by symbol. A symbol that isn't listed is unknown.
 const DCF77_WAVES: [(u8, &str); 3] = [
@@ -60,6 +59,16 @@ fn log_of(
     minutes: &[&str],
 ) -> Result<String, AllocError> {
     let mut text = String::new(alloc);
+    push_log(&mut text, waves, minutes)?;
+    Ok(text)
+}
+
+// Adds its records.
+fn push_log(
+    text: &mut String,
+    waves: &[(u8, &'static str)],
+    minutes: &[&str],
+) -> Result<(), AllocError> {
     let mut tenth = 0u64;
     let mut last = b'-';
     for minute in minutes {
@@ -67,32 +76,17 @@ fn log_of(
             for level in wave_of(waves, symbol).bytes() {
                 // Never reached: it bounds the sums.
                 if tenth >= MOST_TENTHS {
-                    return Ok(text);
+                    return Ok(());
                 }
                 if level != last {
-                    push_record(&mut text, 100 * tenth, name_of(level))?;
+                    push_record(text, 100 * tenth, name_of(level))?;
                 }
                 last = level;
                 tenth += 1;
             }
         }
     }
-    push_record(&mut text, 100 * tenth.min(MOST_TENTHS), "X")?;
-    Ok(text)
-}
-
-// Tells whether a run for these words ends with this status and prints this text.
-fn tells<R: Threads + Sync>(
-    rt: &R,
-    alloc: Global,
-    files: &mut MemoryFiles,
-    line: &str,
-    status: u8,
-    text: &str,
-) -> Result<bool, AllocError> {
-    let words = words(alloc, line)?;
-    let ended = run(rt, alloc, &words, files, &NoGate);
-    Ok(ended == status && printed(files, text))
+    push_record(text, 100 * tenth.min(MOST_TENTHS), "X")
 }
 
 // 2024-07-15T12:00Z as MSF sends it, which tells 13:01 in summer time, with a DUT1 of -2 tenths; and the minute behind it.
@@ -108,17 +102,20 @@ const WWVB_MINUTE: &str = "M00000000M000100010M000101001M011100101M001100010M010
 const MSF_AND_WWVB: &str =
     "station = \"msf\"\n[[receiver]]\nname = \"a\"\nlog = \"a.log\"\n[[receiver]]\nname = \"b\"\nlog = \"b.log\"\nstation = \"wwvb\"\n";
 
+// What they hear of the minute.
+fn files_of_both(alloc: Global) -> Result<MemoryFiles, Fail> {
+    let log = log_of(alloc, &MSF_WAVES, &[MSF_MINUTES[0]])?;
+    let other = log_of(alloc, &WWVB_WAVES, &[WWVB_MINUTE])?;
+    files_of_two(alloc, MSF_AND_WWVB, &log, &other)
+}
+
 // A minute later costs one bit of WWVB, 300, and two of MSF, 100 each.
 #[test]
 fn msf_and_wwvb_tell_a_dut1_each(rt: HostRuntime) -> Result<(), Fail> {
-    let log = log_of(rt.alloc(), &MSF_WAVES, &[MSF_MINUTES[0]])?;
-    let other = log_of(rt.alloc(), &WWVB_WAVES, &[WWVB_MINUTE])?;
-    let mut files = files_of(rt.alloc(), MSF_AND_WWVB, &log)?;
-    files.put("b.log", other.as_bytes())?;
+    let mut files = files_of_both(rt.alloc())?;
     assert!(rt;
         tells(
             &rt,
-            rt.alloc(),
             &mut files,
             "decode k.toml --seconds 60 --from 2024-07-15T12:00Z --to 2024-07-15T12:59Z",
             0,
@@ -135,56 +132,78 @@ const DISTURBED: &str = "0000000000000000110001000000100101001010101001110000100
 // A cost table by which a low millisecond costs 2 where the carrier should be high, and a high one 1 where it should be low.
 fn with_table(alloc: Global, ceiling: &str) -> Result<String, AllocError> {
     let mut text = String::new(alloc);
+    push_table(&mut text, ceiling)?;
+    Ok(text)
+}
+
+fn push_table(text: &mut String, ceiling: &str) -> Result<(), AllocError> {
     write!(
         text,
         "station = \"dcf77\"\nceiling = {ceiling}\n[table]\nlow = [100"
     )?;
+    push_low(text)?;
+    text.push_str("]\nhigh = [0")?;
+    push_high(text)?;
+    text.push_str("]\n[[receiver]]\nname = \"a\"\nlog = \"a.log\"\nweight = 3\n")
+}
+
+fn push_low(text: &mut String) -> Result<(), AllocError> {
     for n in 1..101u32 {
         write!(text, ", {}", 100 - n)?;
     }
-    text.push_str("]\nhigh = [0")?;
+    Ok(())
+}
+
+fn push_high(text: &mut String) -> Result<(), AllocError> {
     for n in 1..101u32 {
         write!(text, ", {}", 2 * n)?;
     }
-    text.push_str("]\n[[receiver]]\nname = \"a\"\nlog = \"a.log\"\nweight = 3\n")?;
-    Ok(text)
+    Ok(())
+}
+
+// Tells whether a decode of the disturbed minute by this table, under this ceiling, ends with this status and prints this text.
+fn tells_under<R: Threads + Sync + AllocGlobal>(
+    rt: &R,
+    ceiling: &str,
+    status: u8,
+    text: &str,
+) -> Result<bool, Fail> {
+    let log = log_of(rt.alloc(), &DCF77_WAVES, &[DISTURBED])?;
+    let config = with_table(rt.alloc(), ceiling)?;
+    tells_over(
+        rt,
+        &config,
+        &log,
+        "decode k.toml --seconds 60 --from 2024-07-15T12:00Z --to 2024-07-15T12:59Z",
+        status,
+        text,
+    )
 }
 
 // The two disturbed seconds cost 200 and 100, times the weight of 3. 12:06 tells 14:07 and costs two bits more, 100 each, times 3.
+const CEILINGS: [(&str, u8, &str); 4] = [
+    ("899", 2, "none\nphase 0\n"),
+    (
+        "900",
+        0,
+        "decided 900\nphase 0\nsequence 2024-07-15T12:00Z 0 no\nnext none\nminute 2024-07-15T12:00Z at 0\n",
+    ),
+    (
+        "1499",
+        0,
+        "decided 900\nphase 0\nsequence 2024-07-15T12:00Z 0 no\nnext none\nminute 2024-07-15T12:00Z at 0\n",
+    ),
+    (
+        "1500",
+        0,
+        "decided 900\nphase 0\nsequence 2024-07-15T12:00Z 0 no\nnext 1500\nminute 2024-07-15T12:00Z at 0\n",
+    ),
+];
+
 #[test]
 fn counts_by_its_own_table_and_ceiling(rt: HostRuntime) -> Result<(), Fail> {
-    let log = log_of(rt.alloc(), &DCF77_WAVES, &[DISTURBED])?;
-    for (ceiling, status, text) in [
-        ("899", 2, "none\nphase 0\n"),
-        (
-            "900",
-            0,
-            "decided 900\nphase 0\nsequence 2024-07-15T12:00Z 0 no\nnext none\nminute 2024-07-15T12:00Z at 0\n",
-        ),
-        (
-            "1499",
-            0,
-            "decided 900\nphase 0\nsequence 2024-07-15T12:00Z 0 no\nnext none\nminute 2024-07-15T12:00Z at 0\n",
-        ),
-        (
-            "1500",
-            0,
-            "decided 900\nphase 0\nsequence 2024-07-15T12:00Z 0 no\nnext 1500\nminute 2024-07-15T12:00Z at 0\n",
-        ),
-    ] {
-        let config = with_table(rt.alloc(), ceiling)?;
-        let mut files = files_of(rt.alloc(), &config, &log)?;
-        assert!(rt;
-            tells(
-                &rt,
-                rt.alloc(),
-                &mut files,
-                "decode k.toml --seconds 60 --from 2024-07-15T12:00Z --to 2024-07-15T12:59Z",
-                status,
-                text,
-            )?,
-            "{ceiling}"
-        );
+    for (ceiling, status, text) in CEILINGS {
+        assert!(rt; tells_under(&rt, ceiling, status, text)?, "{ceiling}");
     }
     Ok(())
 }
@@ -199,20 +218,23 @@ const CHANGE: [&str; 3] = [
 
 const LATER: &str = "00000000000000000010100011000010000111100111100001001001000-";
 
+fn log_of_twenty(alloc: Global) -> Result<String, AllocError> {
+    let mut minutes = [UNKNOWN; 20];
+    minutes[..3].copy_from_slice(&CHANGE);
+    minutes[19] = LATER;
+    log_of(alloc, &DCF77_WAVES, &minutes)
+}
+
 // An hour later, at 01:58, ten bits are others: in the first two minutes the announcement of the change, in the first the two of
 // summer time, and in all but the first the hour and its parity.
 #[test]
 fn decodes_twenty_minutes(rt: HostRuntime) -> Result<(), Fail> {
-    let mut minutes = [UNKNOWN; 20];
-    minutes[..3].copy_from_slice(&CHANGE);
-    minutes[19] = LATER;
-    let log = log_of(rt.alloc(), &DCF77_WAVES, &minutes)?;
-    let mut files = files_of(rt.alloc(), DCF77, &log)?;
+    let log = log_of_twenty(rt.alloc())?;
     assert!(rt;
-        tells(
+        tells_over(
             &rt,
-            rt.alloc(),
-            &mut files,
+            DCF77,
+            &log,
             "decode k.toml --seconds 1200 --from 2024-10-27T00:00Z --to 2024-10-27T01:59Z",
             0,
             TWENTY,
@@ -229,12 +251,11 @@ const MSF: &str = "station = \"msf\"\n[[receiver]]\nname = \"a\"\nlog = \"a.log\
 #[test]
 fn feeds_minutes_of_msf(rt: HostRuntime) -> Result<(), Fail> {
     let log = log_of(rt.alloc(), &MSF_WAVES, &MSF_MINUTES)?;
-    let mut files = files_of(rt.alloc(), MSF, &log)?;
     assert!(rt;
-        tells(
+        tells_over(
             &rt,
-            rt.alloc(),
-            &mut files,
+            MSF,
+            &log,
             "feed k.toml --seconds 120 --from 2024-07-15T12:00Z --to 2024-07-15T12:59Z",
             0,
             "$GPZDA,120000.00,15,07,2024,00,00*62\r\n$GPZDA,120100.00,15,07,2024,00,00*63\r\n",
@@ -244,22 +265,30 @@ fn feeds_minutes_of_msf(rt: HostRuntime) -> Result<(), Fail> {
 }
 
 // The report would be written by call 5. That call fails, and the next one would not.
+fn files_that_fail_once(alloc: Global) -> Result<MemoryFiles, Fail> {
+    let log = log_of(alloc, &MSF_WAVES, &MSF_MINUTES)?;
+    let mut files = files_of(alloc, MSF, &log)?;
+    files.fail(5)?;
+    Ok(files)
+}
+
 #[test]
 fn a_write_that_fails_once_ends_the_run(rt: HostRuntime) -> Result<(), Fail> {
-    let log = log_of(rt.alloc(), &MSF_WAVES, &MSF_MINUTES)?;
-    let mut files = files_of(rt.alloc(), MSF, &log)?;
-    files.fail(5)?;
+    let mut files = files_that_fail_once(rt.alloc())?;
     assert!(rt;
         tells(
             &rt,
-            rt.alloc(),
             &mut files,
             "decode k.toml --seconds 120 --from 2024-07-15T12:00Z --to 2024-07-15T12:59Z",
             6,
             "",
         )?
     );
-    assert_eq!(rt; files.append("-", b"!"), Ok(1));
-    assert!(rt; printed(&files, "!"));
+    takes_the_next_write(&rt, &mut files);
     Ok(())
+}
+
+fn takes_the_next_write(rt: &impl Abort, files: &mut MemoryFiles) {
+    assert_eq!(rt; files.append("-", b"!"), Ok(1));
+    assert!(rt; printed(files, "!"));
 }

@@ -6,6 +6,7 @@ use bank_files::{MemoryFiles, OneByte};
 use checks::check;
 use std::alloc::{AllocError, Global};
 use std::test::Fail;
+use std::thread::Threads;
 use workers::NoGate;
 
 const CHECK: &str = "check k.toml x.cert --seconds 60 --from 2099-12-31T22:58Z";
@@ -58,13 +59,24 @@ fn certified_files(
     Ok(files)
 }
 
+// Whether a run over these files ends with this status, and prints this text.
+fn tells_of(
+    alloc: Global,
+    files: (&str, &str, &str),
+    line: &str,
+    status: u8,
+    text: &str,
+) -> Result<bool, Fail> {
+    let mut files = certified_files(alloc, files.0, files.1, files.2)?;
+    let words = words(alloc, line)?;
+    let ended = check(alloc, &words, &mut files);
+    Ok(ended == status && printed(&files, text))
+}
+
 #[test]
 fn certifies(rt: HostRuntime) -> Result<(), Fail> {
     let text = certificate(rt.alloc())?;
-    let mut files = certified_files(rt.alloc(), DCF77, "", text.as_str())?;
-    let words = words(rt.alloc(), CHECK)?;
-    assert_eq!(rt; check(rt.alloc(), &words, &mut files), 0);
-    assert!(rt; printed(&files, CERTIFIED));
+    assert!(rt; tells_of(rt.alloc(), (DCF77, "", text.as_str()), CHECK, 0, CERTIFIED)?);
     Ok(())
 }
 
@@ -72,44 +84,59 @@ fn certifies(rt: HostRuntime) -> Result<(), Fail> {
 #[test]
 fn certifies_byte_by_byte(rt: HostRuntime) -> Result<(), Fail> {
     let text = certificate(rt.alloc())?;
-    let inner = certified_files(rt.alloc(), DCF77, "", text.as_str())?;
-    let mut files = OneByte { inner };
-    let words = words(rt.alloc(), CHECK)?;
-    assert_eq!(rt; check(rt.alloc(), &words, &mut files), 0);
-    assert!(rt; printed(&files.inner, CERTIFIED));
+    assert!(rt; is_certified_byte_by_byte(rt.alloc(), text.as_str())?);
     Ok(())
+}
+
+fn is_certified_byte_by_byte(alloc: Global, text: &str) -> Result<bool, Fail> {
+    let inner = certified_files(alloc, DCF77, "", text)?;
+    let mut files = OneByte { inner };
+    let words = words(alloc, CHECK)?;
+    let status = check(alloc, &words, &mut files);
+    Ok(status == 0 && printed(&files.inner, CERTIFIED))
 }
 
 // What a decode writes that isn't decided: the two cheapest sequences begin in the last two minutes.
 #[test]
 fn certifies_what_a_decode_writes(rt: HostRuntime) -> Result<(), Fail> {
+    let told =
+        "undecided 0\nphase 0\nsequence 2099-12-31T22:57Z 0 no\nsequence 2099-12-31T22:58Z 0 no\n";
+    let both = format!(in rt.alloc(); "{told}certified\n{told}")?;
     let mut files = certified_files(rt.alloc(), DCF77, "", "")?;
-    let decode = words(
+    assert!(rt; is_undecided(&rt, &mut files, told)?);
+    assert!(rt; is_checked(rt.alloc(), &mut files, both.as_str())?);
+    Ok(())
+}
+
+// Whether the decode isn't decided, and this is printed.
+fn is_undecided<R: Threads + Sync + AllocGlobal>(
+    rt: &R,
+    files: &mut MemoryFiles,
+    text: &str,
+) -> Result<bool, Fail> {
+    let words = words(
         rt.alloc(),
         "decode k.toml --seconds 60 --from 2099-12-31T22:57Z --workers 2 --certificate y.cert",
     )?;
-    assert_eq!(rt; bank::run(&rt, rt.alloc(), &decode, &mut files, &NoGate), 1);
-    let told =
-        "undecided 0\nphase 0\nsequence 2099-12-31T22:57Z 0 no\nsequence 2099-12-31T22:58Z 0 no\n";
-    assert!(rt; printed(&files, told));
+    let status = bank::run(rt, rt.alloc(), &words, files, &NoGate);
+    Ok(status == 1 && printed(files, text))
+}
+
+// Whether what it wrote is certified, and this was printed by both.
+fn is_checked(alloc: Global, files: &mut MemoryFiles, text: &str) -> Result<bool, Fail> {
     let words = words(
-        rt.alloc(),
+        alloc,
         "check k.toml y.cert --seconds 60 --from 2099-12-31T22:57Z",
     )?;
-    assert_eq!(rt; check(rt.alloc(), &words, &mut files), 0);
-    let both = format!(in rt.alloc(); "{told}certified\n{told}")?;
-    assert!(rt; printed(&files, both.as_str()));
-    Ok(())
+    let status = check(alloc, &words, files);
+    Ok(status == 0 && printed(files, text))
 }
 
 // Whether a run prints this line of the certificate in which a text is exchanged once for another.
 fn tells(alloc: Global, old: &str, new: &str, line: &str) -> Result<bool, Fail> {
     let text = certificate(alloc)?;
     let spoiled = text.replacen(alloc, old, new, 1)?;
-    let mut files = certified_files(alloc, DCF77, "", spoiled.as_str())?;
-    let words = words(alloc, CHECK)?;
-    let status = check(alloc, &words, &mut files);
-    Ok(status == 8 && printed(&files, line))
+    tells_of(alloc, (DCF77, "", spoiled.as_str()), CHECK, 8, line)
 }
 
 #[test]
@@ -134,23 +161,21 @@ fn tells_a_bad_line(rt: HostRuntime) -> Result<(), Fail> {
     Ok(())
 }
 
-// The status and what is printed where a call on files fails. The configuration is read in two calls and the empty log in one, the
-// certificate in two, and then two texts are written.
-fn fails_at<R: AllocGlobal>(rt: &R, call: u64) -> Result<(u8, MemoryFiles), Fail> {
-    let text = certificate(rt.alloc())?;
-    let words = words(rt.alloc(), CHECK)?;
-    let mut files = certified_files(rt.alloc(), DCF77, "", text.as_str())?;
+// Whether a run ends with 6 and prints this where a call on files fails. The configuration is read in two calls and the empty log in
+// one, the certificate in two, and then two texts are written.
+fn fails_at(alloc: Global, call: u64, text: &str) -> Result<bool, Fail> {
+    let certificate = certificate(alloc)?;
+    let words = words(alloc, CHECK)?;
+    let mut files = certified_files(alloc, DCF77, "", certificate.as_str())?;
     files.fail(call)?;
-    let status = check(rt.alloc(), &words, &mut files);
-    Ok((status, files))
+    let status = check(alloc, &words, &mut files);
+    Ok(status == 6 && printed(&files, text))
 }
 
 #[test]
 fn ends_at_a_failing_call(rt: HostRuntime) -> Result<(), Fail> {
     for call in 1..7 {
-        let (status, files) = fails_at(&rt, call)?;
-        assert_eq!(rt; status, 6, "call {call}");
-        assert!(rt; printed(&files, ""), "call {call}");
+        assert!(rt; fails_at(rt.alloc(), call, "")?, "call {call}");
     }
     Ok(())
 }
@@ -158,9 +183,7 @@ fn ends_at_a_failing_call(rt: HostRuntime) -> Result<(), Fail> {
 // Standard output keeps the line that was written before.
 #[test]
 fn ends_at_a_failing_report(rt: HostRuntime) -> Result<(), Fail> {
-    let (status, files) = fails_at(&rt, 7)?;
-    assert_eq!(rt; status, 6);
-    assert!(rt; printed(&files, "certified\n"));
+    assert!(rt; fails_at(rt.alloc(), 7, "certified\n")?);
     Ok(())
 }
 
@@ -175,43 +198,60 @@ const DECODED: &str =
 #[test]
 fn a_decode_ends_at_a_failing_call(rt: HostRuntime) -> Result<(), Fail> {
     let text = certificate(rt.alloc())?;
-    let words = words(rt.alloc(), DECODE)?;
     for call in 1..8 {
-        let mut files = certified_files(rt.alloc(), DCF77, "", "")?;
-        files.fail(call)?;
-        let status = if call < 7 { 6 } else { 0 };
-        assert_eq!(rt;
-            bank::run(&rt, rt.alloc(), &words, &mut files, &NoGate),
-            status,
-            "call {call}"
-        );
-        let written = files.contents("y.cert");
-        assert_eq!(rt; written.is_some(), call > 4, "call {call}");
-        let due = if call > 5 { text.as_bytes() } else { b"" };
-        assert!(rt; written.unwrap_or(b"") == due, "call {call}");
-        let report = if call < 7 { "" } else { DECODED };
-        assert!(rt; printed(&files, report), "call {call}");
-        for (name, held) in [("k.toml", DCF77), ("a.log", ""), ("x.cert", "")] {
-            assert!(rt;
-                files.contents(name) == Some(held.as_bytes()),
-                "call {call}: {name}"
-            );
-        }
+        assert!(rt; decode_ends_at(&rt, text.as_str(), call)?, "call {call}");
     }
     Ok(())
+}
+
+// Whether the decode whose call of this number fails ends as it must, and leaves what it must.
+fn decode_ends_at<R: Threads + Sync + AllocGlobal>(
+    rt: &R,
+    text: &str,
+    call: u64,
+) -> Result<bool, Fail> {
+    let words = words(rt.alloc(), DECODE)?;
+    let mut files = certified_files(rt.alloc(), DCF77, "", "")?;
+    files.fail(call)?;
+    let status = bank::run(rt, rt.alloc(), &words, &mut files, &NoGate);
+    let wanted = if call < 7 { 6 } else { 0 };
+    Ok(status == wanted && is_left(&files, text, call))
+}
+
+// Whether the certificate and the report were written as far as the call came, and the other files are as before.
+fn is_left(files: &MemoryFiles, text: &str, call: u64) -> bool {
+    let written = files.contents("y.cert");
+    let due = if call > 5 { text.as_bytes() } else { b"" };
+    let report = if call < 7 { "" } else { DECODED };
+    written.is_some() == (call > 4)
+        && written.unwrap_or(b"") == due
+        && printed(files, report)
+        && files.contents("k.toml") == Some(DCF77.as_bytes())
+        && files.contents("a.log") == Some(b"".as_slice())
+        && files.contents("x.cert") == Some(b"".as_slice())
 }
 
 // Files that read and write a byte a call.
 #[test]
 fn a_decode_writes_byte_by_byte(rt: HostRuntime) -> Result<(), Fail> {
     let text = certificate(rt.alloc())?;
+    assert!(rt; is_written_byte_by_byte(&rt, text.as_str())?);
+    Ok(())
+}
+
+fn is_written_byte_by_byte<R: Threads + Sync + AllocGlobal>(
+    rt: &R,
+    text: &str,
+) -> Result<bool, Fail> {
     let inner = certified_files(rt.alloc(), DCF77, "", "")?;
     let mut files = OneByte { inner };
     let words = words(rt.alloc(), DECODE)?;
-    assert_eq!(rt; bank::run(&rt, rt.alloc(), &words, &mut files, &NoGate), 0);
-    assert!(rt; files.inner.contents("y.cert") == Some(text.as_bytes()));
-    assert!(rt; printed(&files.inner, DECODED));
-    Ok(())
+    let status = bank::run(rt, rt.alloc(), &words, &mut files, &NoGate);
+    Ok(
+        status == 0
+            && files.inner.contents("y.cert") == Some(text.as_bytes())
+            && printed(&files.inner, DECODED),
+    )
 }
 
 // Whether a run ends with 6 and prints nothing where this byte of the certificate, or its end, can't be read.
@@ -255,10 +295,8 @@ fn refuses_words(rt: HostRuntime) -> Result<(), Fail> {
         ("decode k.toml", "words: usage\n"),
         ("judge k.toml x.cert", "words: usage\n"),
     ] {
-        let mut files = certified_files(rt.alloc(), DCF77, "", text.as_str())?;
-        let words = words(rt.alloc(), line)?;
-        assert_eq!(rt; check(rt.alloc(), &words, &mut files), 3, "{line}");
-        assert!(rt; printed(&files, wanted), "{line}");
+        let files = (DCF77, "", text.as_str());
+        assert!(rt; tells_of(rt.alloc(), files, line, 3, wanted)?, "{line}");
     }
     Ok(())
 }
@@ -271,10 +309,12 @@ fn refuses_what_it_reads_first(rt: HostRuntime) -> Result<(), Fail> {
         (DCF77, "5 H\n5 L\n", 5, "log 1 a: line 2: not rising\n"),
         (DCF77, "", 6, ""),
     ] {
-        let mut files = certified_files(rt.alloc(), config, log, "")?;
-        let words = words(rt.alloc(), "check k.toml missing.cert")?;
-        assert_eq!(rt; check(rt.alloc(), &words, &mut files), status, "{status}");
-        assert!(rt; printed(&files, wanted), "{status}");
+        let files = (config, log, "");
+        let line = "check k.toml missing.cert";
+        assert!(rt;
+            tells_of(rt.alloc(), files, line, status, wanted)?,
+            "{status}"
+        );
     }
     Ok(())
 }

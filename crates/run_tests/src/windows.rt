@@ -97,15 +97,27 @@ fn tells<R: Threads + Sync + AllocGlobal>(
     Ok(ended == status && printed(&files, text))
 }
 
+// The same where the log is that of these minutes.
+fn follows<R: Threads + Sync + AllocGlobal>(
+    rt: &R,
+    station: (&str, &[(u8, &'static str)]),
+    minutes: &[&str],
+    line: &str,
+    status: u8,
+    text: &str,
+) -> Result<bool, Fail> {
+    let log = heard(rt.alloc(), station.1, minutes)?;
+    tells(rt, station.0, &log, line, status, text)
+}
+
 const TWO_WINDOWS: &str =
     "window 0\ndecided 0\nphase 0\nsequence 2024-06-10T06:16Z 0 no\nnext 1200\nminute 2024-06-10T06:16Z at 0\nminute 2024-06-10T06:17Z at 60000\nwindow 60000\ndecided 0\nphase 0\nsequence 2024-06-10T06:17Z 0 no\nnext 1200\nminute 2024-06-10T06:17Z at 60000\nminute 2024-06-10T06:18Z at 120000\n";
 
 // Over the whole century.
 #[test]
 fn follows_two_windows(rt: HostRuntime) -> Result<(), Fail> {
-    let log = heard(rt.alloc(), &JJY_WAVES, &MINUTES)?;
     let line = "follow k.toml --seconds 120 --count 2";
-    assert!(rt; tells(&rt, JJY, &log, line, 0, TWO_WINDOWS)?);
+    assert!(rt; follows(&rt, (JJY, &JJY_WAVES), &MINUTES, line, 0, TWO_WINDOWS)?);
     Ok(())
 }
 
@@ -115,55 +127,67 @@ const HOUR: &str =
 
 #[test]
 fn any_number_of_workers_tells_the_same(rt: HostRuntime) -> Result<(), Fail> {
-    let log = heard(rt.alloc(), &JJY_WAVES, &MINUTES)?;
-    for workers in [1u8, 2, 4, 8] {
-        let line = format!(in rt.alloc(); "{HOUR} --workers {workers}")?;
-        assert!(rt; tells(&rt, JJY, &log, &line, 0, TWO_WINDOWS)?, "{workers}");
+    for workers in [1, 2, 4, 8] {
+        assert!(rt; tells_with(&rt, workers)?, "{workers}");
     }
     Ok(())
+}
+
+// Whether so many workers tell the two windows.
+fn tells_with<R: Threads + Sync + AllocGlobal>(rt: &R, workers: u8) -> Result<bool, Fail> {
+    let line = format!(in rt.alloc(); "{HOUR} --workers {workers}")?;
+    follows(rt, (JJY, &JJY_WAVES), &MINUTES, &line, 0, TWO_WINDOWS)
 }
 
 // Files that read and write a byte a call.
 #[test]
 fn prints_the_same_byte_by_byte(rt: HostRuntime) -> Result<(), Fail> {
+    assert!(rt; tells_byte_by_byte(&rt)?);
+    Ok(())
+}
+
+fn tells_byte_by_byte<R: Threads + Sync + AllocGlobal>(rt: &R) -> Result<bool, Fail> {
     let log = heard(rt.alloc(), &JJY_WAVES, &MINUTES)?;
     let words = words(rt.alloc(), HOUR)?;
     let inner = files_of(rt.alloc(), JJY, &log)?;
     let mut files = OneByte { inner };
-    assert_eq!(rt; follow(&rt, rt.alloc(), &words, &mut files, &NoGate), 0);
-    assert!(rt; printed(&files.inner, TWO_WINDOWS));
-    Ok(())
+    let ended = follow(rt, rt.alloc(), &words, &mut files, &NoGate);
+    Ok(ended == 0 && printed(&files.inner, TWO_WINDOWS))
 }
 
 // The configuration and the log are read in two calls each, and each window is written in two.
 #[test]
 fn ends_at_a_failing_file(rt: HostRuntime) -> Result<(), Fail> {
-    let log = heard(rt.alloc(), &JJY_WAVES, &MINUTES)?;
-    let words = words(rt.alloc(), HOUR)?;
     for call in 1..9 {
-        let mut files = files_of(rt.alloc(), JJY, &log)?;
-        files.fail(call)?;
-        assert_eq!(rt;
-            follow(&rt, rt.alloc(), &words, &mut files, &NoGate),
-            6,
-            "call {call}"
-        );
-        let front = files.contents("-").unwrap_or(b"");
-        assert!(rt; TWO_WINDOWS.as_bytes().starts_with(front), "call {call}");
-        assert!(rt; front.len() < TWO_WINDOWS.len(), "call {call}");
+        assert!(rt; ends_at(&rt, call)?, "call {call}");
     }
     Ok(())
+}
+
+// Whether a run whose call of this number fails ends with 6, and printed a front of the two windows.
+fn ends_at<R: Threads + Sync + AllocGlobal>(rt: &R, call: u64) -> Result<bool, Fail> {
+    let log = heard(rt.alloc(), &JJY_WAVES, &MINUTES)?;
+    let words = words(rt.alloc(), HOUR)?;
+    let mut files = files_of(rt.alloc(), JJY, &log)?;
+    files.fail(call)?;
+    let ended = follow(rt, rt.alloc(), &words, &mut files, &NoGate);
+    let front = files.contents("-").unwrap_or(b"");
+    Ok(ended == 6 && is_front(front, TWO_WINDOWS))
+}
+
+// Whether these bytes are a text without its end.
+fn is_front(bytes: &[u8], text: &str) -> bool {
+    bytes.len() < text.len() && text.as_bytes().starts_with(bytes)
 }
 
 // The second window starts a minute behind the end of the first.
 #[test]
 fn a_step_may_be_longer_than_a_window(rt: HostRuntime) -> Result<(), Fail> {
-    let log = heard(rt.alloc(), &JJY_WAVES, &MINUTES)?;
     assert!(rt;
-        tells(
+        follows(
             &rt,
-            JJY,
-            &log,
+            (JJY, &JJY_WAVES),
+            &MINUTES,
             "follow k.toml --seconds 60 --step 120 --count 2 --from 2024-06-10T06:16Z --to 2024-06-10T06:19Z",
             0,
             "window 0\ndecided 0\nphase 0\nsequence 2024-06-10T06:16Z 0 no\nnext 600\nminute 2024-06-10T06:16Z at 0\nwindow 120000\ndecided 0\nphase 0\nsequence 2024-06-10T06:18Z 0 no\nnext 600\nminute 2024-06-10T06:18Z at 120000\n",
@@ -179,21 +203,26 @@ const FOUR: &str =
 // JJY alone decides, and of what was never heard no value of DUT1 is told from another.
 #[test]
 fn follows_four_stations(rt: HostRuntime) -> Result<(), Fail> {
+    let line =
+        "follow k.toml --seconds 60 --step 90 --count 2 --from 2024-06-10T06:10Z --to 2024-06-10T06:19Z";
+    let text =
+        "window 0\ndecided 0\nphase 0\nsequence 2024-06-10T06:16Z 0 no\nnext 600\ndut1 msf undecided\ndut1 wwvb undecided\nminute 2024-06-10T06:16Z at 0\nwindow 90000\ndecided 0\nphase 0\nsequence 2024-06-10T06:17Z 30 no\nnext 300\ndut1 msf undecided\ndut1 wwvb undecided\nminute 2024-06-10T06:18Z at 120000\n";
+    assert!(rt; four_tell(&rt, line, text)?);
+    Ok(())
+}
+
+// Whether a run over the four ends as one that is decided, and prints this text.
+fn four_tell<R: Threads + Sync + AllocGlobal>(
+    rt: &R,
+    line: &str,
+    text: &str,
+) -> Result<bool, Fail> {
     let log = heard(rt.alloc(), &JJY_WAVES, &MINUTES)?;
     let mut files = files_of(rt.alloc(), FOUR, &log)?;
     files.put("b.log", b"")?;
-    let words = words(
-        rt.alloc(),
-        "follow k.toml --seconds 60 --step 90 --count 2 --from 2024-06-10T06:10Z --to 2024-06-10T06:19Z",
-    )?;
-    assert_eq!(rt; follow(&rt, rt.alloc(), &words, &mut files, &NoGate), 0);
-    assert!(rt;
-        printed(
-            &files,
-            "window 0\ndecided 0\nphase 0\nsequence 2024-06-10T06:16Z 0 no\nnext 600\ndut1 msf undecided\ndut1 wwvb undecided\nminute 2024-06-10T06:16Z at 0\nwindow 90000\ndecided 0\nphase 0\nsequence 2024-06-10T06:17Z 30 no\nnext 300\ndut1 msf undecided\ndut1 wwvb undecided\nminute 2024-06-10T06:18Z at 120000\n"
-        )
-    );
-    Ok(())
+    let words = words(rt.alloc(), line)?;
+    let ended = follow(rt, rt.alloc(), &words, &mut files, &NoGate);
+    Ok(ended == 0 && printed(&files, text))
 }
 
 // The minutes of DCF77 from 2016-12-31T23:58Z on. The second of them has 61 seconds.
@@ -206,7 +235,6 @@ const LEAP: [&str; 3] = [
 // The third window begins with the leap second, and may as well begin with the last second of a minute that has none.
 #[test]
 fn follows_over_a_leap_second(rt: HostRuntime) -> Result<(), Fail> {
-    let log = heard(rt.alloc(), &DCF77_WAVES, &LEAP)?;
     for (line, status, text) in [
         (
             "follow k.toml --seconds 90 --count 2 --from 2016-12-31T23:50Z --to 2017-01-01T00:09Z",
@@ -219,7 +247,8 @@ fn follows_over_a_leap_second(rt: HostRuntime) -> Result<(), Fail> {
             "window 0\ndecided 0\nphase 0\nsequence 2016-12-31T23:58Z 0 yes\nnext 100\nminute 2016-12-31T23:58Z at 0\nwindow 60000\ndecided 0\nphase 0\nsequence 2016-12-31T23:59Z 0 yes\nnext 200\nminute 2016-12-31T23:59Z at 60000\nwindow 120000\nundecided 0\nphase 0\nsequence 2016-12-31T23:59Z 59 no\nsequence 2016-12-31T23:59Z 60 yes\n",
         ),
     ] {
-        assert!(rt; tells(&rt, DCF77, &log, line, status, text)?, "{line}");
+        let is_told = follows(&rt, (DCF77, &DCF77_WAVES), &LEAP, line, status, text)?;
+        assert!(rt; is_told, "{line}");
     }
     Ok(())
 }
@@ -233,12 +262,11 @@ const CHANGE: [&str; 3] = [
 
 #[test]
 fn follows_over_the_end_of_summer_time(rt: HostRuntime) -> Result<(), Fail> {
-    let log = heard(rt.alloc(), &DCF77_WAVES, &CHANGE)?;
     assert!(rt;
-        tells(
+        follows(
             &rt,
-            DCF77,
-            &log,
+            (DCF77, &DCF77_WAVES),
+            &CHANGE,
             "follow k.toml --seconds 60 --count 3 --from 2024-10-27T00:00Z --to 2024-10-27T01:59Z",
             0,
             "window 0\ndecided 0\nphase 0\nsequence 2024-10-27T00:58Z 0 no\nnext 200\nminute 2024-10-27T00:58Z at 0\nwindow 60000\ndecided 0\nphase 0\nsequence 2024-10-27T00:59Z 0 no\nnext 300\nminute 2024-10-27T00:59Z at 60000\nwindow 120000\ndecided 0\nphase 0\nsequence 2024-10-27T01:00Z 0 no\nnext 200\nminute 2024-10-27T01:00Z at 120000\n",
@@ -256,12 +284,11 @@ const SPRING: [&str; 3] = [
 
 #[test]
 fn follows_over_the_begin_of_summer_time(rt: HostRuntime) -> Result<(), Fail> {
-    let log = heard(rt.alloc(), &DCF77_WAVES, &SPRING)?;
     assert!(rt;
-        tells(
+        follows(
             &rt,
-            DCF77,
-            &log,
+            (DCF77, &DCF77_WAVES),
+            &SPRING,
             "follow k.toml --seconds 60 --count 3 --from 2024-03-31T00:00Z --to 2024-03-31T01:59Z",
             0,
             "window 0\ndecided 0\nphase 0\nsequence 2024-03-31T00:58Z 0 no\nnext 200\nminute 2024-03-31T00:58Z at 0\nwindow 60000\ndecided 0\nphase 0\nsequence 2024-03-31T00:59Z 0 no\nnext 300\nminute 2024-03-31T00:59Z at 60000\nwindow 120000\ndecided 0\nphase 0\nsequence 2024-03-31T01:00Z 0 no\nnext 200\nminute 2024-03-31T01:00Z at 120000\n",
@@ -280,12 +307,11 @@ const MIDNIGHT: [&str; 3] = [
 // The fourth window reaches over midnight in UTC.
 #[test]
 fn follows_over_midnight(rt: HostRuntime) -> Result<(), Fail> {
-    let log = heard(rt.alloc(), &MSF_WAVES, &MIDNIGHT)?;
     assert!(rt;
-        tells(
+        follows(
             &rt,
-            MSF,
-            &log,
+            (MSF, &MSF_WAVES),
+            &MIDNIGHT,
             "follow k.toml --seconds 60 --step 30 --count 5 --from 2024-07-15T23:50Z --to 2024-07-16T00:09Z",
             0,
             "window 0\ndecided 0\nphase 0\nsequence 2024-07-15T23:58Z 0 no\nnext 200\ndut1 -2\nminute 2024-07-15T23:58Z at 0\nwindow 30000\ndecided 0\nphase 0\nsequence 2024-07-15T23:58Z 30 no\nnext 200\ndut1 -2\nminute 2024-07-15T23:59Z at 60000\nwindow 60000\ndecided 0\nphase 0\nsequence 2024-07-15T23:59Z 0 no\nnext 200\ndut1 -2\nminute 2024-07-15T23:59Z at 60000\nwindow 90000\ndecided 0\nphase 0\nsequence 2024-07-15T23:59Z 30 no\nnext 200\ndut1 free\nminute 2024-07-16T00:00Z at 120000\nwindow 120000\ndecided 0\nphase 0\nsequence 2024-07-16T00:00Z 0 no\nnext 200\ndut1 -3\nminute 2024-07-16T00:00Z at 120000\n",
@@ -304,12 +330,11 @@ const LAST: [&str; 3] = [
 // No sequence tells the last of them and goes on behind it. The log ends with it.
 #[test]
 fn follows_over_the_end_of_the_century(rt: HostRuntime) -> Result<(), Fail> {
-    let log = heard(rt.alloc(), &JJY_WAVES, &LAST)?;
     assert!(rt;
-        tells(
+        follows(
             &rt,
-            JJY,
-            &log,
+            (JJY, &JJY_WAVES),
+            &LAST,
             "follow k.toml --seconds 120 --count 4 --from 2099-12-31T14:50Z --to 2099-12-31T14:59Z",
             1,
             "window 0\ndecided 0\nphase 0\nsequence 2099-12-31T14:57Z 0 no\nnext 1200\nminute 2099-12-31T14:57Z at 0\nminute 2099-12-31T14:58Z at 60000\nwindow 60000\ndecided 0\nphase 0\nsequence 2099-12-31T14:58Z 0 no\nnext 1200\nminute 2099-12-31T14:58Z at 60000\nminute 2099-12-31T14:59Z at 120000\nwindow 120000\nundecided 600\nphase 0\nsequence 2099-12-31T14:50Z 0 no\nsequence 2099-12-31T14:51Z 0 no\nwindow 180000\nundecided 0\nphase 0\nsequence 2099-12-31T14:50Z 0 no\nsequence 2099-12-31T14:51Z 0 no\n",
@@ -321,34 +346,36 @@ fn follows_over_the_end_of_the_century(rt: HostRuntime) -> Result<(), Fail> {
 // The last window starts too late, which is told once all logs are good.
 #[test]
 fn refuses_a_count_behind_the_logs(rt: HostRuntime) -> Result<(), Fail> {
-    let log = heard(rt.alloc(), &JJY_WAVES, &MINUTES)?;
     let late = "follow k.toml --seconds 120 --count 2 --start 999999999999";
-    assert!(rt; tells(&rt, JJY, &log, late, 3, "words: bad --count\n")?);
-    assert!(rt;
-        tells(
-            &rt,
-            JJY,
-            "5 H\n5 L\n",
-            late,
-            5,
-            "log 1 a: line 2: not rising\n"
-        )?
-    );
-    assert!(rt; tells(&rt, "", &log, late, 4, "configuration: missing station\n")?);
-    // A log that begins so late tells the start.
-    let begins = "999999999999 H\n";
-    assert!(rt;
-        tells(
-            &rt,
-            JJY,
-            begins,
+    let is_told = follows(
+        &rt,
+        (JJY, &JJY_WAVES),
+        &MINUTES,
+        late,
+        3,
+        "words: bad --count\n",
+    )?;
+    assert!(rt; is_told);
+    let missing = "configuration: missing station\n";
+    assert!(rt; follows(&rt, ("", &JJY_WAVES), &MINUTES, late, 4, missing)?);
+    for (log, line, status, text) in [
+        ("5 H\n5 L\n", late, 5, "log 1 a: line 2: not rising\n"),
+        // A log that begins so late tells the start.
+        (
+            "999999999999 H\n",
             "follow k.toml --step 1 --count 2",
             3,
-            "words: bad --count\n"
-        )?
-    );
+            "words: bad --count\n",
+        ),
+    ] {
+        assert!(rt; tells(&rt, JJY, log, line, status, text)?, "{text}");
+    }
     Ok(())
 }
+
+// Nothing but a sequence that fits is admitted.
+const STRICT: &str =
+    "ceiling = 0\nstation = \"jjy\"\n[[receiver]]\nname = \"a\"\nlog = \"a.log\"\n";
 
 #[test]
 fn tells_what_is_not_decided(rt: HostRuntime) -> Result<(), Fail> {
@@ -362,13 +389,11 @@ fn tells_what_is_not_decided(rt: HostRuntime) -> Result<(), Fail> {
             "window 0\nundecided 0\nphase 0\nsequence 2000-01-01T00:00Z 0 no\nsequence 2000-01-01T00:01Z 0 no\n",
         )?
     );
-    let log = heard(rt.alloc(), &JJY_WAVES, &MINUTES)?;
-    let strict = format!(in rt.alloc(); "ceiling = 0\n{JJY}")?;
     assert!(rt;
-        tells(
+        follows(
             &rt,
-            &strict,
-            &log,
+            (STRICT, &JJY_WAVES),
+            &MINUTES,
             "follow k.toml --seconds 60 --step 120 --count 2 --from 2024-06-10T06:16Z --to 2024-06-10T06:17Z",
             1,
             "window 0\ndecided 0\nphase 0\nsequence 2024-06-10T06:16Z 0 no\nnext none\nminute 2024-06-10T06:16Z at 0\nwindow 120000\nnone\nphase 0\n",

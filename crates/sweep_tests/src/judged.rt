@@ -2,11 +2,12 @@
 //! no tenth of a second is known, a walk of 60 seconds can begin in one of the century's last minutes alone. What is wrong with each
 //! spoiled one stands in docs/FORMATS.md.
 
-use crate::made::{DCF77, certificate, files_of, printed, words};
+use crate::made::{DCF77, certificate, files_of, judgement_tells, printed, words};
 use bank_files::{MemoryFiles, OneByte};
 use judges::judge;
 use std::alloc::Global;
 use std::test::Fail;
+use std::thread::Threads;
 use workers::NoGate;
 
 const JUDGE: &str = "judge k.toml s --seconds 60 --from 2099-12-31T22:58Z";
@@ -41,21 +42,23 @@ fn silent_files(alloc: Global) -> Result<MemoryFiles, Fail> {
 #[test]
 fn certifies(rt: HostRuntime) -> Result<(), Fail> {
     let mut files = silent_files(rt.alloc())?;
-    let words = words(rt.alloc(), JUDGE)?;
-    assert_eq!(rt; judge(rt.alloc(), &words, &mut files), 0);
-    assert!(rt; printed(&files, CERTIFIED));
+    assert!(rt; judgement_tells(rt.alloc(), &mut files, JUDGE, 0, CERTIFIED)?);
     Ok(())
 }
 
 // Files that read and write a byte a call.
 #[test]
 fn certifies_byte_by_byte(rt: HostRuntime) -> Result<(), Fail> {
-    let inner = silent_files(rt.alloc())?;
-    let mut files = OneByte { inner };
-    let words = words(rt.alloc(), JUDGE)?;
-    assert_eq!(rt; judge(rt.alloc(), &words, &mut files), 0);
-    assert!(rt; printed(&files.inner, CERTIFIED));
+    assert!(rt; is_certified_byte_by_byte(rt.alloc())?);
     Ok(())
+}
+
+fn is_certified_byte_by_byte(alloc: Global) -> Result<bool, Fail> {
+    let inner = silent_files(alloc)?;
+    let mut files = OneByte { inner };
+    let words = words(alloc, JUDGE)?;
+    let status = judge(alloc, &words, &mut files);
+    Ok(status == 0 && printed(&files.inner, CERTIFIED))
 }
 
 // Whether the certificates of these offsets, the first of them of this phase, are certified where a decode finds a phase. The one edge
@@ -64,10 +67,8 @@ fn sweeps(alloc: Global, log: &str, from: u8, to: u8, least: u16) -> Result<bool
     let text = format!(in alloc;
         "certified\ndecided 0\nphase {least}\nsequence 2099-12-31T22:58Z 0 no\nnext none\nminute 2099-12-31T22:58Z at {least}\n"
     )?;
-    let words = words(alloc, JUDGE)?;
     let mut files = certified_files(alloc, log, from, to, least)?;
-    let status = judge(alloc, &words, &mut files);
-    Ok(status == 0 && printed(&files, &text))
+    judgement_tells(alloc, &mut files, JUDGE, 0, &text)
 }
 
 #[test]
@@ -98,9 +99,7 @@ fn reads_six_phases_around_999(rt: HostRuntime) -> Result<(), Fail> {
 #[test]
 fn misses_the_last_phase(rt: HostRuntime) -> Result<(), Fail> {
     let mut files = certified_files(rt.alloc(), "0 H\n999 L\n1000 X\n", 0, 5, 949)?;
-    let words = words(rt.alloc(), JUDGE)?;
-    assert_eq!(rt; judge(rt.alloc(), &words, &mut files), 6);
-    assert!(rt; printed(&files, ""));
+    assert!(rt; judgement_tells(rt.alloc(), &mut files, JUDGE, 6, "")?);
     Ok(())
 }
 
@@ -108,32 +107,51 @@ fn misses_the_last_phase(rt: HostRuntime) -> Result<(), Fail> {
 // phases.
 #[test]
 fn certifies_what_is_undecided(rt: HostRuntime) -> Result<(), Fail> {
+    let told =
+        "undecided 0\nphase 0\nsequence 2099-12-31T22:57Z 0 no\nsequence 2099-12-31T22:58Z 0 no\n";
+    let both = format!(in rt.alloc(); "{told}certified\n{told}")?;
     let mut files = silent_files(rt.alloc())?;
-    let decode = words(
+    assert!(rt; is_undecided(&rt, &mut files, told)?);
+    move_certificates(rt.alloc(), &mut files)?;
+    let line = "judge k.toml s --seconds 60 --from 2099-12-31T22:57Z";
+    assert!(rt; judgement_tells(rt.alloc(), &mut files, line, 0, &both)?);
+    Ok(())
+}
+
+// Whether the decode isn't decided, and prints this.
+fn is_undecided<R: Threads + Sync + AllocGlobal>(
+    rt: &R,
+    files: &mut MemoryFiles,
+    text: &str,
+) -> Result<bool, Fail> {
+    let words = words(
         rt.alloc(),
         "decode k.toml --seconds 60 --from 2099-12-31T22:57Z --workers 2 --certificate s.5",
     )?;
-    assert_eq!(rt; bank::run(&rt, rt.alloc(), &decode, &mut files, &NoGate), 1);
-    let told =
-        "undecided 0\nphase 0\nsequence 2099-12-31T22:57Z 0 no\nsequence 2099-12-31T22:58Z 0 no\n";
-    assert!(rt; printed(&files, told));
+    let status = bank::run(rt, rt.alloc(), &words, files, &NoGate);
+    Ok(status == 1 && printed(files, text))
+}
+
+// Makes the certificates of the other offsets from that of the offset 5, whose phase is 0.
+fn move_certificates(alloc: Global, files: &mut MemoryFiles) -> Result<(), Fail> {
     let bytes = files.contents("s.5").unwrap_or(b"");
-    let text = std::str::from_utf8(bytes)
-        .unwrap_or("")
-        .to_string(rt.alloc())?;
+    let text = std::str::from_utf8(bytes).unwrap_or("").to_string(alloc)?;
     for offset in 6u8..11 {
-        let name = format!(in rt.alloc(); "s.{offset}")?;
-        let phase = format!(in rt.alloc(); "phase {}0\n", offset.saturating_sub(5))?;
-        let moved = text.replacen(rt.alloc(), "phase 0\n", &phase, 1)?;
-        files.put(&name, moved.as_bytes())?;
+        move_certificate(alloc, files, &text, offset)?;
     }
-    let words = words(
-        rt.alloc(),
-        "judge k.toml s --seconds 60 --from 2099-12-31T22:57Z",
-    )?;
-    assert_eq!(rt; judge(rt.alloc(), &words, &mut files), 0);
-    let both = format!(in rt.alloc(); "{told}certified\n{told}")?;
-    assert!(rt; printed(&files, &both));
+    Ok(())
+}
+
+fn move_certificate(
+    alloc: Global,
+    files: &mut MemoryFiles,
+    text: &str,
+    offset: u8,
+) -> Result<(), Fail> {
+    let name = format!(in alloc; "s.{offset}")?;
+    let phase = format!(in alloc; "phase {}0\n", offset.saturating_sub(5))?;
+    let moved = text.replacen(alloc, "phase 0\n", &phase, 1)?;
+    files.put(&name, moved.as_bytes())?;
     Ok(())
 }
 
@@ -151,9 +169,7 @@ fn tells(
     let spoiled = text.replacen(alloc, old, new, 1)?;
     let mut files = silent_files(alloc)?;
     files.put(name, spoiled.as_bytes())?;
-    let words = words(alloc, JUDGE)?;
-    let status = judge(alloc, &words, &mut files);
-    Ok(status == 8 && printed(&files, line))
+    judgement_tells(alloc, &mut files, JUDGE, 8, line)
 }
 
 #[test]
@@ -187,9 +203,15 @@ fn tells_too_many_bytes(rt: HostRuntime) -> Result<(), Fail> {
         let text = vec![in rt.alloc(); b'7'; 128_000_001]?;
         files.put("s.6", &text)?;
     }
-    let words = words(rt.alloc(), JUDGE)?;
-    assert_eq!(rt; judge(rt.alloc(), &words, &mut files), 8);
-    assert!(rt; printed(&files, "certificate 6: too large\n"));
+    assert!(rt;
+        judgement_tells(
+            rt.alloc(),
+            &mut files,
+            JUDGE,
+            8,
+            "certificate 6: too large\n"
+        )?
+    );
     Ok(())
 }
 
@@ -207,9 +229,8 @@ fn tells_the_first_bad_one(rt: HostRuntime) -> Result<(), Fail> {
     let mut files = certified_files(rt.alloc(), "", 5, 7, 0)?;
     files.put("s.6", b"")?;
     files.put("s.8", b"")?;
-    let words = words(rt.alloc(), JUDGE)?;
-    assert_eq!(rt; judge(rt.alloc(), &words, &mut files), 8);
-    assert!(rt; printed(&files, "certificate 6: line 1: shape\n"));
+    let text = "certificate 6: line 1: shape\n";
+    assert!(rt; judgement_tells(rt.alloc(), &mut files, JUDGE, 8, text)?);
     Ok(())
 }
 
@@ -218,30 +239,30 @@ fn tells_the_first_bad_one(rt: HostRuntime) -> Result<(), Fail> {
 fn ends_at_a_missing_file(rt: HostRuntime) -> Result<(), Fail> {
     let mut files = certified_files(rt.alloc(), "", 5, 7, 0)?;
     files.put("s.8", b"")?;
-    let words = words(rt.alloc(), JUDGE)?;
-    assert_eq!(rt; judge(rt.alloc(), &words, &mut files), 6);
-    assert!(rt; printed(&files, ""));
+    assert!(rt; judgement_tells(rt.alloc(), &mut files, JUDGE, 6, "")?);
     Ok(())
 }
 
 // Whether a run ends with 6 at each of these calls on files, if it fails, and prints no more than was written before. The configuration is
 // read in two calls, the empty log in one, each of six certificates in two, and then two texts are written; there is no 18th call.
 fn ends_at_calls(alloc: Global, from: u64, to: u64) -> Result<bool, Fail> {
-    let words = words(alloc, JUDGE)?;
     for call in from..to {
-        let mut files = silent_files(alloc)?;
-        files.fail(call)?;
-        let status = judge(alloc, &words, &mut files);
-        let (wanted, text) = match call {
-            17 => (6, "certified\n"),
-            18 => (0, CERTIFIED),
-            _ => (6, ""),
-        };
-        if status != wanted || !printed(&files, text) {
+        if !ends_at(alloc, call)? {
             return Ok(false);
         }
     }
     Ok(true)
+}
+
+fn ends_at(alloc: Global, call: u64) -> Result<bool, Fail> {
+    let mut files = silent_files(alloc)?;
+    files.fail(call)?;
+    let (status, text) = match call {
+        17 => (6, "certified\n"),
+        18 => (0, CERTIFIED),
+        _ => (6, ""),
+    };
+    judgement_tells(alloc, &mut files, JUDGE, status, text)
 }
 
 #[test]
@@ -271,12 +292,15 @@ fn refuses_words(rt: HostRuntime) -> Result<(), Fail> {
         ("sweep k.toml", "words: usage\n"),
         ("check k.toml s", "words: usage\n"),
     ] {
-        let mut files = silent_files(rt.alloc())?;
-        let words = words(rt.alloc(), line)?;
-        assert_eq!(rt; judge(rt.alloc(), &words, &mut files), 3, "{line}");
-        assert!(rt; printed(&files, wanted), "{line}");
+        assert!(rt; refuses(rt.alloc(), line, wanted)?, "{line}");
     }
     Ok(())
+}
+
+// Whether these words are refused by this text.
+fn refuses(alloc: Global, line: &str, text: &str) -> Result<bool, Fail> {
+    let mut files = silent_files(alloc)?;
+    judgement_tells(alloc, &mut files, line, 3, text)
 }
 
 // The configuration and the log are judged before a certificate is read.
@@ -287,10 +311,16 @@ fn refuses_what_it_reads_first(rt: HostRuntime) -> Result<(), Fail> {
         (DCF77, "5 H\n5 L\n", 5, "log 1 a: line 2: not rising\n"),
         (DCF77, "", 6, ""),
     ] {
-        let mut files = files_of(rt.alloc(), config, log)?;
-        let words = words(rt.alloc(), "judge k.toml s")?;
-        assert_eq!(rt; judge(rt.alloc(), &words, &mut files), status, "{status}");
-        assert!(rt; printed(&files, wanted), "{status}");
+        assert!(rt;
+            ends_with(rt.alloc(), config, log, status, wanted)?,
+            "{status}"
+        );
     }
     Ok(())
+}
+
+// Whether a run without certificates ends with this status, and prints this text.
+fn ends_with(alloc: Global, config: &str, log: &str, status: u8, text: &str) -> Result<bool, Fail> {
+    let mut files = files_of(alloc, config, log)?;
+    judgement_tells(alloc, &mut files, "judge k.toml s", status, text)
 }

@@ -3,6 +3,7 @@
 ghost use Rattle.std.specs.Prelude.{◌≤◌};
 
 use bank_files::MemoryFiles;
+use judges::judge;
 use std::alloc::{AllocError, Global};
 use std::test::Fail;
 
@@ -133,6 +134,19 @@ pub(crate) fn files_of(alloc: Global, config: &str, log: &str) -> Result<MemoryF
     files.put("k.toml", config.as_bytes())?;
     files.put("a.log", log.as_bytes())?;
     Ok(files)
+}
+
+// Whether a judgement of these files ends with this status, and prints this text.
+pub(crate) fn judgement_tells(
+    alloc: Global,
+    files: &mut MemoryFiles,
+    line: &str,
+    status: u8,
+    text: &str,
+) -> Result<bool, Fail> {
+    let words = words(alloc, line)?;
+    let ended = judge(alloc, &words, files);
+    Ok(ended == status && printed(files, text))
 }
 
 // The certificate of a phase, of as many parts as workers.

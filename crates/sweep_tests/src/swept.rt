@@ -1,9 +1,13 @@
 //! Certificates that a sweep wrote, judged by the same files in memory. The texts are worked out from docs/FORMATS.md and the code
 //! descriptions, by hand and by a program that tries one sequence after the other at each phase.
 
-use crate::made::{JJY, JJY_WAVES, LATE_RISES, MINUTES, SWEPT, files_of, heard, printed, words};
-use judges::judge;
+use crate::made::{
+    JJY, JJY_WAVES, LATE_RISES, MINUTES, SWEPT, files_of, heard, judgement_tells, printed, words,
+};
+use bank_files::MemoryFiles;
+use std::alloc::Global;
 use std::test::Fail;
+use std::thread::Threads;
 use sweep::sweep;
 use workers::NoGate;
 
@@ -13,24 +17,36 @@ use workers::NoGate;
 fn certifies_what_a_sweep_writes(rt: HostRuntime) -> Result<(), Fail> {
     let log = heard(rt.alloc(), &JJY_WAVES, &MINUTES, LATE_RISES)?;
     let mut files = files_of(rt.alloc(), JJY, &log)?;
-    let swept = words(
-        rt.alloc(),
-        "sweep k.toml --seconds 120 --from 2024-06-10T06:00Z --to 2024-06-10T06:59Z --certificate s",
-    )?;
-    assert_eq!(rt; sweep(&rt, rt.alloc(), &swept, &mut files, &NoGate), 0);
-    assert!(rt; printed(&files, SWEPT));
-    let judged = words(
-        rt.alloc(),
-        "judge k.toml s --seconds 120 --from 2024-06-10T06:00Z --to 2024-06-10T06:59Z",
-    )?;
-    assert_eq!(rt; judge(rt.alloc(), &judged, &mut files), 0);
-    let both = format!(in rt.alloc(); "{SWEPT}certified\n{SWEPT}")?;
-    assert!(rt; printed(&files, &both));
-    files.put("s.2", b"")?;
-    assert_eq!(rt; judge(rt.alloc(), &judged, &mut files), 8);
-    let all = format!(in rt.alloc(); "{both}certificate 2: line 1: shape\n")?;
-    assert!(rt; printed(&files, &all));
+    let line =
+        "sweep k.toml --seconds 120 --from 2024-06-10T06:00Z --to 2024-06-10T06:59Z --certificate s";
+    assert!(rt; sweeps(&rt, &mut files, line, 0, SWEPT)?);
+    assert!(rt; certifies_and_refuses(rt.alloc(), &mut files)?);
     Ok(())
+}
+
+// Whether a judgement certifies the files, and refuses them once the one of offset 2 is empty.
+fn certifies_and_refuses(alloc: Global, files: &mut MemoryFiles) -> Result<bool, Fail> {
+    let line = "judge k.toml s --seconds 120 --from 2024-06-10T06:00Z --to 2024-06-10T06:59Z";
+    let both = format!(in alloc; "{SWEPT}certified\n{SWEPT}")?;
+    if !judgement_tells(alloc, files, line, 0, &both)? {
+        return Ok(false);
+    }
+    files.put("s.2", b"")?;
+    let all = format!(in alloc; "{both}certificate 2: line 1: shape\n")?;
+    judgement_tells(alloc, files, line, 8, &all)
+}
+
+// Whether a sweep ends with this status, and this was printed.
+fn sweeps<R: Threads + Sync + AllocGlobal>(
+    rt: &R,
+    files: &mut MemoryFiles,
+    line: &str,
+    status: u8,
+    text: &str,
+) -> Result<bool, Fail> {
+    let words = words(rt.alloc(), line)?;
+    let ended = sweep(rt, rt.alloc(), &words, files, &NoGate);
+    Ok(ended == status && printed(files, text))
 }
 
 // A receiver of each station, in another order than that of stations.
@@ -48,20 +64,12 @@ const HEAD: &str =
 #[test]
 fn certifies_four_stations(rt: HostRuntime) -> Result<(), Fail> {
     let mut files = files_of(rt.alloc(), FOUR, "")?;
-    let swept = words(
-        rt.alloc(),
-        "sweep k.toml --seconds 60 --from 2099-12-31T14:59Z --workers 1 --certificate s",
-    )?;
-    assert_eq!(rt; sweep(&rt, rt.alloc(), &swept, &mut files, &NoGate), 1);
-    assert!(rt; printed(&files, UNDECIDED));
+    let line = "sweep k.toml --seconds 60 --from 2099-12-31T14:59Z --workers 1 --certificate s";
+    assert!(rt; sweeps(&rt, &mut files, line, 1, UNDECIDED)?);
     let last = files.contents("s.10").unwrap_or(b"");
     assert!(rt; last.starts_with(HEAD.as_bytes()));
-    let judged = words(
-        rt.alloc(),
-        "judge k.toml s --seconds 60 --from 2099-12-31T14:59Z",
-    )?;
-    assert_eq!(rt; judge(rt.alloc(), &judged, &mut files), 0);
+    let line = "judge k.toml s --seconds 60 --from 2099-12-31T14:59Z";
     let both = format!(in rt.alloc(); "{UNDECIDED}certified\n{UNDECIDED}")?;
-    assert!(rt; printed(&files, &both));
+    assert!(rt; judgement_tells(rt.alloc(), &mut files, line, 0, &both)?);
     Ok(())
 }

@@ -69,40 +69,60 @@ fn phase_of(offset: u8) -> u16 {
 
 #[test]
 fn writes_a_certificate_of_each_phase(rt: HostRuntime) -> Result<(), Fail> {
-    for workers in [1u8, 2, 4, 8] {
-        let line = format!(in rt.alloc(); "{CENTURY_END} {workers}")?;
-        let words = words(rt.alloc(), &line)?;
-        let mut files = silent(rt.alloc())?;
-        assert_eq!(rt; sweep(&rt, rt.alloc(), &words, &mut files, &NoGate), 0);
-        assert!(rt; printed(&files, REPORT));
-        for offset in 5..11u8 {
-            let text = certificate(rt.alloc(), phase_of(offset), workers)?;
-            assert!(rt;
-                holds(rt.alloc(), &files, offset, &text)?,
-                "{workers} {offset}"
-            );
-        }
-        for offset in [0u8, 1, 2, 3, 4, 11] {
-            assert!(rt; !is_there(rt.alloc(), &files, offset)?, "{offset}");
-        }
+    for workers in [1, 2, 4, 8] {
+        assert!(rt; writes_with(&rt, workers)?, "{workers}");
     }
     Ok(())
+}
+
+// Whether so many workers write the six certificates and no other.
+fn writes_with<R: Threads + Sync + AllocGlobal>(rt: &R, workers: u8) -> Result<bool, Fail> {
+    let line = format!(in rt.alloc(); "{CENTURY_END} {workers}")?;
+    let words = words(rt.alloc(), &line)?;
+    let mut files = silent(rt.alloc())?;
+    let status = sweep(rt, rt.alloc(), &words, &mut files, &NoGate);
+    Ok(status == 0 && are_written(rt.alloc(), &files, workers)?)
+}
+
+// Whether the report and these certificates, of so many parts, stand there.
+fn are_written(alloc: Global, files: &MemoryFiles, workers: u8) -> Result<bool, AllocError> {
+    for offset in 5..11 {
+        if !is_certificate(alloc, files, offset, workers)? {
+            return Ok(false);
+        }
+    }
+    for offset in [0, 1, 2, 3, 4, 11] {
+        if is_there(alloc, files, offset)? {
+            return Ok(false);
+        }
+    }
+    Ok(printed(files, REPORT))
+}
+
+fn is_certificate(
+    alloc: Global,
+    files: &MemoryFiles,
+    offset: u8,
+    workers: u8,
+) -> Result<bool, AllocError> {
+    let text = certificate(alloc, phase_of(offset), workers)?;
+    holds(alloc, files, offset, &text)
 }
 
 // Files that read and write a byte a call.
 #[test]
 fn writes_the_same_byte_by_byte(rt: HostRuntime) -> Result<(), Fail> {
+    assert!(rt; is_written_byte_by_byte(&rt)?);
+    Ok(())
+}
+
+fn is_written_byte_by_byte<R: Threads + Sync + AllocGlobal>(rt: &R) -> Result<bool, Fail> {
     let line = format!(in rt.alloc(); "{CENTURY_END} 1")?;
     let words = words(rt.alloc(), &line)?;
     let inner = silent(rt.alloc())?;
     let mut files = OneByte { inner };
-    assert_eq!(rt; sweep(&rt, rt.alloc(), &words, &mut files, &NoGate), 0);
-    assert!(rt; printed(&files.inner, REPORT));
-    for offset in 5..11u8 {
-        let text = certificate(rt.alloc(), phase_of(offset), 1)?;
-        assert!(rt; holds(rt.alloc(), &files.inner, offset, &text)?, "{offset}");
-    }
-    Ok(())
+    let status = sweep(rt, rt.alloc(), &words, &mut files, &NoGate);
+    Ok(status == 0 && are_written(rt.alloc(), &files.inner, 1)?)
 }
 
 // What an offset's file holds once this call failed: its certificate is made in call 4 for the least offset, two calls later for
@@ -128,28 +148,35 @@ fn holds_after(
 // configuration is read in two calls and the empty log in one. Then each certificate's file is made in one and written in one, and the
 // report is written in the 16th.
 fn stops_at_calls<R: Threads + Sync + AllocGlobal>(rt: &R, from: u8, to: u8) -> Result<bool, Fail> {
-    let line = format!(in rt.alloc(); "{CENTURY_END} 1")?;
-    let words = words(rt.alloc(), &line)?;
     for call in from..to {
-        let mut files = silent(rt.alloc())?;
-        files.fail(u64::from(call))?;
-        if sweep(rt, rt.alloc(), &words, &mut files, &NoGate) != 6 {
-            return Ok(false);
-        }
-        for offset in 5..11u8 {
-            if !holds_after(rt.alloc(), &files, offset, call)? {
-                return Ok(false);
-            }
-        }
-        let front = files.contents("-").unwrap_or(b"");
-        if !REPORT.as_bytes().starts_with(front) || front.len() >= REPORT.len() {
-            return Ok(false);
-        }
-        if call < 16 && !front.is_empty() {
+        if !stops_at(rt, call)? {
             return Ok(false);
         }
     }
     Ok(true)
+}
+
+fn stops_at<R: Threads + Sync + AllocGlobal>(rt: &R, call: u8) -> Result<bool, Fail> {
+    let line = format!(in rt.alloc(); "{CENTURY_END} 1")?;
+    let words = words(rt.alloc(), &line)?;
+    let mut files = silent(rt.alloc())?;
+    files.fail(u64::from(call))?;
+    let status = sweep(rt, rt.alloc(), &words, &mut files, &NoGate);
+    Ok(status == 6 && are_left(rt.alloc(), &files, call)?)
+}
+
+// Whether each certificate's file and the report are as that call leaves them.
+fn are_left(alloc: Global, files: &MemoryFiles, call: u8) -> Result<bool, AllocError> {
+    for offset in 5..11 {
+        if !holds_after(alloc, files, offset, call)? {
+            return Ok(false);
+        }
+    }
+    let front = files.contents("-").unwrap_or(b"");
+    if call < 16 {
+        return Ok(front.is_empty());
+    }
+    Ok(front.len() < REPORT.len() && REPORT.as_bytes().starts_with(front))
 }
 
 #[test]
@@ -173,16 +200,22 @@ fn stops_at_the_last_calls_that_fail(rt: HostRuntime) -> Result<(), Fail> {
 // A certificate is owed where the bank is loaded, and else the files stay as they are.
 #[test]
 fn leaves_the_files_of_a_refused_bank(rt: HostRuntime) -> Result<(), Fail> {
+    assert!(rt; leaves_the_files(&rt)?);
+    Ok(())
+}
+
+fn leaves_the_files<R: Threads + Sync + AllocGlobal>(rt: &R) -> Result<bool, Fail> {
     let line = format!(in rt.alloc(); "{CENTURY_END} 1")?;
     let words = words(rt.alloc(), &line)?;
     let mut files = silent(rt.alloc())?;
     files.put("k.toml", b"station = 1\n")?;
-    assert_eq!(rt; sweep(&rt, rt.alloc(), &words, &mut files, &NoGate), 4);
-    assert!(rt; printed(&files, "configuration: wrong kind station\n"));
-    for offset in 5..11u8 {
-        assert!(rt; holds(rt.alloc(), &files, offset, BEFORE)?, "{offset}");
+    let status = sweep(rt, rt.alloc(), &words, &mut files, &NoGate);
+    for offset in 5..11 {
+        if !holds(rt.alloc(), &files, offset, BEFORE)? {
+            return Ok(false);
+        }
     }
-    Ok(())
+    Ok(status == 4 && printed(&files, "configuration: wrong kind station\n"))
 }
 
 // A log that begins so late has that phase. No phase is swept below 0 or from 1000 on.
@@ -196,46 +229,64 @@ fn writes_those_of_the_phases_there_are(rt: HostRuntime) -> Result<(), Fail> {
         (950, 0, 9),
         (999, 0, 5),
     ] {
-        let lag = Lag {
-            all: phase,
-            level: b'H',
-            more: 0,
-        };
-        let log = heard(rt.alloc(), &JJY_WAVES, &MINUTES, lag)?;
-        let mut files = files_of(rt.alloc(), JJY, &log)?;
-        let words = words(
-            rt.alloc(),
-            "sweep k.toml --start 0 --seconds 60 --from 2024-06-10T06:10Z --to 2024-06-10T06:19Z --certificate s",
-        )?;
-        assert_eq!(rt; sweep(&rt, rt.alloc(), &words, &mut files, &NoGate), 0);
-        for offset in 0..11u8 {
-            let name = format!(in rt.alloc(); "s.{offset}")?;
-            let moved = phase.saturating_add(offset as u16 * 10).saturating_sub(50);
-            let head = format!(in rt.alloc();
-                "tsbank certificate 1\nstation jjy\nstart 0\nphase {moved}\nseconds 60\n"
-            )?;
-            let swept = files
-                .contents(name.as_str())
-                .is_some_and(|found| found.starts_with(head.as_bytes()));
-            let is_there = files.contents(name.as_str()).is_some();
-            assert!(rt; swept == is_there, "{phase} {offset}");
-            assert!(rt;
-                swept == (offset >= first && offset <= last),
-                "{phase} {offset}"
-            );
-        }
+        assert!(rt; writes_from_to(&rt, phase, first, last)?, "{phase}");
     }
     Ok(())
+}
+
+// Whether a log that begins so late has the certificates of these offsets and of none beside them.
+fn writes_from_to<R: Threads + Sync + AllocGlobal>(
+    rt: &R,
+    phase: u16,
+    first: u8,
+    last: u8,
+) -> Result<bool, Fail> {
+    let lag = Lag {
+        all: phase,
+        level: b'H',
+        more: 0,
+    };
+    let log = heard(rt.alloc(), &JJY_WAVES, &MINUTES, lag)?;
+    let mut files = files_of(rt.alloc(), JJY, &log)?;
+    let words = words(
+        rt.alloc(),
+        "sweep k.toml --start 0 --seconds 60 --from 2024-06-10T06:10Z --to 2024-06-10T06:19Z --certificate s",
+    )?;
+    let status = sweep(rt, rt.alloc(), &words, &mut files, &NoGate);
+    for offset in 0..11 {
+        let is_due = offset >= first && offset <= last;
+        if is_begun(rt.alloc(), &files, phase, offset)? != is_due
+            || is_there(rt.alloc(), &files, offset)? != is_due
+        {
+            return Ok(false);
+        }
+    }
+    Ok(status == 0)
+}
+
+// Whether the file of an offset begins as the certificate of its phase, where that of a decode is this one.
+fn is_begun(
+    alloc: Global,
+    files: &MemoryFiles,
+    phase: u16,
+    offset: u8,
+) -> Result<bool, AllocError> {
+    let name = format!(in alloc; "s.{offset}")?;
+    let moved = phase.saturating_add(offset as u16 * 10).saturating_sub(50);
+    let head = format!(in alloc;
+        "tsbank certificate 1\nstation jjy\nstart 0\nphase {moved}\nseconds 60\n"
+    )?;
+    Ok(
+        files
+            .contents(name.as_str())
+            .is_some_and(|found| found.starts_with(head.as_bytes())),
+    )
 }
 
 // Each certificate names the keys of its own phase under the ceiling of the configuration: 3600 is what a decode finds, at phase 30.
 #[test]
 fn names_the_keys_of_each_phase(rt: HostRuntime) -> Result<(), Fail> {
-    let log = heard(rt.alloc(), &JJY_WAVES, &MINUTES, LATE_RISES)?;
-    let mut files = files_of(rt.alloc(), JJY, &log)?;
-    let line = format!(in rt.alloc(); "{HOUR} --certificate s")?;
-    let words = words(rt.alloc(), &line)?;
-    assert_eq!(rt; sweep(&rt, rt.alloc(), &words, &mut files, &NoGate), 0);
+    let files = sweep_in_files(&rt)?;
     assert!(rt; printed(&files, SWEPT));
     for (name, head) in [
         (
@@ -255,4 +306,17 @@ fn names_the_keys_of_each_phase(rt: HostRuntime) -> Result<(), Fail> {
         );
     }
     Ok(())
+}
+
+// The files of a sweep over the hour with certificates.
+fn sweep_in_files<R: Threads + Sync + AllocGlobal>(rt: &R) -> Result<MemoryFiles, Fail> {
+    let log = heard(rt.alloc(), &JJY_WAVES, &MINUTES, LATE_RISES)?;
+    let mut files = files_of(rt.alloc(), JJY, &log)?;
+    let line = format!(in rt.alloc(); "{HOUR} --certificate s")?;
+    let words = words(rt.alloc(), &line)?;
+    if sweep(rt, rt.alloc(), &words, &mut files, &NoGate) == 0 {
+        Ok(files)
+    } else {
+        Err(Fail::from("not decided"))
+    }
 }

@@ -5,6 +5,7 @@ use certificate_texts::{BadLine, Reader, Told, step_line};
 use certificates::{CertificateLineFault, Kind, Line};
 use definitions::{Block, Span};
 use std::alloc::{AllocError, Global};
+use std::process::Abort;
 use std::test::Fail;
 
 // A text of two parts.
@@ -66,111 +67,117 @@ fn shape_at(line: u32) -> Option<BadLine> {
     })
 }
 
-#[test]
-fn reads_a_text(rt: HostRuntime) -> Result<(), Fail> {
-    let text = text_with(rt.alloc(), 0, "")?;
-    assert_eq!(rt; read(text.as_bytes()), (None, 3));
-    Ok(())
+// The first bad line of the text in which one line is another.
+fn bad_line_with(alloc: Global, number: u32, line: &str) -> Result<Option<BadLine>, AllocError> {
+    let text = text_with(alloc, number, line)?;
+    Ok(read(text.as_bytes()).0)
+}
+
+fn reads_a_text(rt: &impl Abort, bytes: &[u8]) {
+    assert_eq!(rt; read(bytes), (None, 3));
 }
 
 // Each line may be one of these too.
+const OTHER_LINES: [(u32, &str); 14] = [
+    (2, "station jjy"),
+    (3, "start 999999999999"),
+    (4, "phase 999"),
+    (5, "seconds 1200"),
+    (6, "from 0"),
+    (7, "to 52595939"),
+    (8, "ceiling 0"),
+    (9, "first -"),
+    (9, "first 6416711999"),
+    (10, "second 0"),
+    (12, "P Y 1 60 0 52596000 1920000000"),
+    (12, "L M 0 0 52595999 52596000 0"),
+    (12, "E D 1 60 0 1 -"),
+    (12, "worker 1"),
+];
+
 #[test]
 fn reads_other_lines(rt: HostRuntime) -> Result<(), Fail> {
-    for (number, line) in [
-        (2, "station jjy"),
-        (3, "start 999999999999"),
-        (4, "phase 999"),
-        (5, "seconds 1200"),
-        (6, "from 0"),
-        (7, "to 52595939"),
-        (8, "ceiling 0"),
-        (9, "first -"),
-        (9, "first 6416711999"),
-        (10, "second 0"),
-        (12, "P Y 1 60 0 52596000 1920000000"),
-        (12, "L M 0 0 52595999 52596000 0"),
-        (12, "E D 1 60 0 1 -"),
-        (12, "worker 1"),
-    ] {
-        let text = text_with(rt.alloc(), number, line)?;
-        let wanted = if line == "worker 1" {
+    for (number, line) in &OTHER_LINES {
+        let wanted = if *line == "worker 1" {
             shape_at(15)
         } else {
             None
         };
-        assert_eq!(rt; read(text.as_bytes()).0, wanted, "{line}");
+        assert_eq!(rt; bad_line_with(rt.alloc(), *number, line)?, wanted, "{line}");
     }
     Ok(())
 }
 
 // And none of these.
+const BAD_LINES: [(u32, &str); 52] = [
+    (1, ""),
+    (1, "tsbank certificate 2 "),
+    (1, "tsbank certificate 0"),
+    (1, "tsbank certificate 3"),
+    (1, "tsbank certificate 1\r"),
+    (1, "\u{feff}tsbank certificate 1"),
+    (2, "stations dcf77"),
+    (2, "station dcf77 msf"),
+    (2, "station DCF77"),
+    (3, "start 00"),
+    (3, "start +1"),
+    (3, "start -0"),
+    (3, "start -"),
+    (3, "start 1000000000000"),
+    (3, "start 18446744073709551616"),
+    (3, "start 100000000000000000000"),
+    (3, "start 000000000000000000000"),
+    (3, "start  0"),
+    (3, "start 0 "),
+    (3, "start\t0"),
+    (3, "phase 0"),
+    (4, "phase 1000"),
+    (5, "seconds 59"),
+    (5, "seconds 1201"),
+    (6, "from 52596000"),
+    (7, "to 52595938"),
+    (7, "to 52596001"),
+    (8, "ceiling 1920000001"),
+    (9, "first 6416712000"),
+    (9, "first 16492674424750964736"),
+    (9, "first 18446744073709551615"),
+    (11, "worker 1"),
+    (11, "worker 00"),
+    (12, "worker 2"),
+    (12, "O M 0 0 0 1 0"),
+    (12, "L D 0 0 0 1 0"),
+    (12, "E Y 0 0 0 1 0"),
+    (12, "P Y 0 0 0 1 -"),
+    (12, "P Y 0 61 0 1 0"),
+    (12, "P Y 2 0 0 1 0"),
+    (12, "P Y 0 0 1 1 0"),
+    (12, "P Y 0 0 0 52596001 0"),
+    (12, "P Y 0 0 0 1 1920000001"),
+    (12, "P Y 0 0 0 1"),
+    (12, "P Y 0 0 0 1 0 0"),
+    (12, "P  Y 0 0 0 1 0"),
+    (12, "p Y 0 0 0 1 0"),
+    (12, ""),
+    (15, "worker 1 "),
+    (15, "worker 10"),
+    (16, "End"),
+    (16, "en"),
+];
+
 #[test]
 fn refuses_other_lines(rt: HostRuntime) -> Result<(), Fail> {
-    for (number, line) in [
-        (1, ""),
-        (1, "tsbank certificate 2 "),
-        (1, "tsbank certificate 0"),
-        (1, "tsbank certificate 3"),
-        (1, "tsbank certificate 1\r"),
-        (1, "\u{feff}tsbank certificate 1"),
-        (2, "stations dcf77"),
-        (2, "station dcf77 msf"),
-        (2, "station DCF77"),
-        (3, "start 00"),
-        (3, "start +1"),
-        (3, "start -0"),
-        (3, "start -"),
-        (3, "start 1000000000000"),
-        (3, "start 18446744073709551616"),
-        (3, "start 100000000000000000000"),
-        (3, "start 000000000000000000000"),
-        (3, "start  0"),
-        (3, "start 0 "),
-        (3, "start\t0"),
-        (3, "phase 0"),
-        (4, "phase 1000"),
-        (5, "seconds 59"),
-        (5, "seconds 1201"),
-        (6, "from 52596000"),
-        (7, "to 52595938"),
-        (7, "to 52596001"),
-        (8, "ceiling 1920000001"),
-        (9, "first 6416712000"),
-        (9, "first 16492674424750964736"),
-        (9, "first 18446744073709551615"),
-        (11, "worker 1"),
-        (11, "worker 00"),
-        (12, "worker 2"),
-        (12, "O M 0 0 0 1 0"),
-        (12, "L D 0 0 0 1 0"),
-        (12, "E Y 0 0 0 1 0"),
-        (12, "P Y 0 0 0 1 -"),
-        (12, "P Y 0 61 0 1 0"),
-        (12, "P Y 2 0 0 1 0"),
-        (12, "P Y 0 0 1 1 0"),
-        (12, "P Y 0 0 0 52596001 0"),
-        (12, "P Y 0 0 0 1 1920000001"),
-        (12, "P Y 0 0 0 1"),
-        (12, "P Y 0 0 0 1 0 0"),
-        (12, "P  Y 0 0 0 1 0"),
-        (12, "p Y 0 0 0 1 0"),
-        (12, ""),
-        (15, "worker 1 "),
-        (15, "worker 10"),
-        (16, "End"),
-        (16, "en"),
-    ] {
-        let text = text_with(rt.alloc(), number, line)?;
-        assert_eq!(rt; read(text.as_bytes()).0, shape_at(number), "{line}");
+    for (number, line) in &BAD_LINES {
+        assert_eq!(rt;
+            bad_line_with(rt.alloc(), *number, line)?,
+            shape_at(*number),
+            "{line}"
+        );
     }
     Ok(())
 }
 
 // A text that is cut anywhere is refused for the line that isn't whole.
-#[test]
-fn refuses_a_text_that_is_cut(rt: HostRuntime) -> Result<(), Fail> {
-    let text = text_with(rt.alloc(), 0, "")?;
-    let bytes = text.as_bytes();
+fn refuses_a_text_that_is_cut(rt: &impl Abort, bytes: &[u8]) {
     let mut lines: u32 = 0;
     for (i, byte) in bytes.iter().enumerate() {
         assert_eq!(rt;
@@ -182,17 +189,35 @@ fn refuses_a_text_that_is_cut(rt: HostRuntime) -> Result<(), Fail> {
             lines = lines.saturating_add(1);
         }
     }
+}
+
+#[test]
+fn a_text_whole_and_cut(rt: HostRuntime) -> Result<(), Fail> {
+    let text = text_with(rt.alloc(), 0, "")?;
+    reads_a_text(&rt, text.as_bytes());
+    refuses_a_text_that_is_cut(&rt, text.as_bytes());
     Ok(())
+}
+
+// What is read of the text with more behind it.
+fn read_with_more(alloc: Global, more: &str) -> Result<(Option<BadLine>, usize), AllocError> {
+    let mut text = text_with(alloc, 0, "")?;
+    write!(text, "{more}")?;
+    Ok(read(text.as_bytes()))
 }
 
 #[test]
 fn refuses_what_comes_behind_the_end(rt: HostRuntime) -> Result<(), Fail> {
-    for more in ["\n", "x", "\0", "end\n"] {
-        let mut text = text_with(rt.alloc(), 0, "")?;
-        write!(text, "{more}")?;
-        assert_eq!(rt; read(text.as_bytes()), (shape_at(17), 3));
+    for more in &["\n", "x", "\0", "end\n"] {
+        assert_eq!(rt; read_with_more(rt.alloc(), more)?, (shape_at(17), 3));
     }
     Ok(())
+}
+
+// What is read of a byte that stands 100,000 times.
+fn read_many(alloc: Global, byte: u8) -> Result<(Option<BadLine>, usize), AllocError> {
+    let many = vec![in alloc; byte; 100_000]?;
+    Ok(read(&many))
 }
 
 #[test]
@@ -200,10 +225,9 @@ fn refuses_bytes(rt: HostRuntime) -> Result<(), Fail> {
     assert_eq!(rt; read(b""), (shape_at(1), 0));
     assert_eq!(rt; read(&[255, 10]), (shape_at(1), 0));
     assert_eq!(rt; read(&[0, 10]), (shape_at(1), 0));
-    let long = vec![in rt.alloc(); b'x'; 100_000]?;
-    assert_eq!(rt; read(&long), (shape_at(1), 0));
-    let feeds = vec![in rt.alloc(); b'\n'; 100_000]?;
-    assert_eq!(rt; read(&feeds), (shape_at(1), 0));
+    for byte in b"x\n" {
+        assert_eq!(rt; read_many(rt.alloc(), *byte)?, (shape_at(1), 0));
+    }
     Ok(())
 }
 
@@ -282,14 +306,22 @@ fn first_step(bytes: &[u8]) -> Option<Line> {
     None
 }
 
-// Each in the place of the first step.
+// The first step of the text in which this line stands in its place.
+fn first_step_with(alloc: Global, line: &str) -> Result<Option<Line>, AllocError> {
+    let text = text_with(alloc, 12, line)?;
+    Ok(first_step(text.as_bytes()))
+}
+
 #[test]
 fn writes_what_it_reads(rt: HostRuntime) -> Result<(), Fail> {
-    for (text, step) in STEPS {
-        let line = step_line(&step);
-        assert_eq!(rt; line.as_str().trim_end(), text);
-        let whole = text_with(rt.alloc(), 12, text)?;
-        assert_eq!(rt; first_step(whole.as_bytes()), Some(step), "{text}");
+    for (text, step) in &STEPS {
+        let line = step_line(step);
+        assert_eq!(rt; line.as_str().trim_end(), *text);
+        assert_eq!(rt;
+            first_step_with(rt.alloc(), text)?.as_ref(),
+            Some(step),
+            "{text}"
+        );
     }
     Ok(())
 }

@@ -74,69 +74,87 @@ const OUT_OF_ORDER: [&str; 10] = [
 
 // Each value that is a number: the line before it, whether that is of a run, the value, the ends of its range, and the
 // first numbers outside.
-const NUMBERS: [(&str, bool, OptionName, [&str; 2], [&str; 2]); 9] = [
+const NUMBERS: [(&str, bool, OptionName, &str, &str, &str, &str); 9] = [
     (
         "trial",
         true,
         OptionName::Number,
-        ["0", "4294967295"],
-        ["4294967296", "x"],
+        "0",
+        "4294967295",
+        "4294967296",
+        "x",
     ),
     (
         "decode k.toml --start",
         true,
         OptionName::Start,
-        ["0", "999999999999"],
-        ["1000000000000", "x"],
+        "0",
+        "999999999999",
+        "1000000000000",
+        "x",
     ),
     (
         "check k.toml x.cert --seconds",
         true,
         OptionName::Seconds,
-        ["60", "1200"],
-        ["59", "1201"],
+        "60",
+        "1200",
+        "59",
+        "1201",
     ),
     (
         "feed k.toml --workers",
         true,
         OptionName::Workers,
-        ["1", "8"],
-        ["0", "9"],
+        "1",
+        "8",
+        "0",
+        "9",
     ),
     (
         "trial 1 --workers",
         true,
         OptionName::Workers,
-        ["1", "8"],
-        ["0", "9"],
+        "1",
+        "8",
+        "0",
+        "9",
     ),
     (
         "encode msf 2016-12-31T23:58Z --leap",
         true,
         OptionName::Leap,
-        ["0", "1"],
-        ["2", "x"],
+        "0",
+        "1",
+        "2",
+        "x",
     ),
     (
         "follow k.toml --step",
         false,
         OptionName::Step,
-        ["1", "1200"],
-        ["0", "1201"],
+        "1",
+        "1200",
+        "0",
+        "1201",
     ),
     (
         "board k.toml q.txt --count",
         false,
         OptionName::Count,
-        ["1", "1000"],
-        ["0", "1001"],
+        "1",
+        "1000",
+        "0",
+        "1001",
     ),
     (
         "board k.toml q.txt --readers",
         false,
         OptionName::Readers,
-        ["1", "4"],
-        ["0", "5"],
+        "1",
+        "4",
+        "0",
+        "5",
     ),
 ];
 
@@ -292,6 +310,50 @@ const LINES: [(&str, Option<WordFault>); 26] = [
     ("", Some(WordFault::Usage)),
 ];
 
+// A line of a form, of a run or beyond it, with what stands in the places of `C`, `O` and `V`.
+#[derive(Clone, Copy)]
+struct Typed<'a> {
+    of_run: bool,
+    form: &'a str,
+    command: &'a str,
+    option: &'a str,
+    value: &'a str,
+}
+
+impl<'a> Typed<'a> {
+    fn in_form(self, form: &'a str) -> Typed<'a> {
+        Typed { form, ..self }
+    }
+
+    fn with_value(self, value: &'a str) -> Typed<'a> {
+        Typed { value, ..self }
+    }
+}
+
+// A line as it stands.
+fn plain(of_run: bool, line: &str) -> Typed<'_> {
+    Typed {
+        of_run,
+        form: "C",
+        command: line,
+        option: "",
+        value: "",
+    }
+}
+
+fn line_of(alloc: Global, typed: &Typed<'_>) -> Result<String, AllocError> {
+    let mut line = String::new(alloc);
+    for letter in typed.form.chars() {
+        match letter {
+            'C' => line.push_str(typed.command)?,
+            'O' => line.push_str(typed.option)?,
+            'V' => line.push_str(typed.value)?,
+            _ => line.push(letter)?,
+        }
+    }
+    Ok(line)
+}
+
 // The words of a line, parted by single spaces.
 fn words_in(alloc: Global, line: &str) -> Result<Vec<String>, AllocError> {
     let mut words = Vec::new(alloc);
@@ -301,62 +363,64 @@ fn words_in(alloc: Global, line: &str) -> Result<Vec<String>, AllocError> {
     Ok(words)
 }
 
-// What is wrong with a line, of a run or beyond it.
-fn fault_of(alloc: Global, of_run: bool, line: &str) -> Result<Option<WordFault>, AllocError> {
-    let words = words_in(alloc, line)?;
-    if of_run {
+fn words_of(alloc: Global, typed: &Typed<'_>) -> Result<Vec<String>, AllocError> {
+    let line = line_of(alloc, typed)?;
+    words_in(alloc, &line)
+}
+
+// What is wrong with a line.
+fn fault_of(alloc: Global, typed: &Typed<'_>) -> Result<Option<WordFault>, AllocError> {
+    let words = words_of(alloc, typed)?;
+    if typed.of_run {
         Ok(read_words(&words).err())
     } else {
         Ok(read_reach(&words).err())
     }
 }
 
-fn expect(
-    rt: &(impl Abort + AllocGlobal),
-    of_run: bool,
-    line: &str,
-    due: Option<WordFault>,
-) -> Result<(), Fail> {
-    let fault = fault_of(rt.alloc(), of_run, line)?;
-    assert_eq!(rt; fault, due, "{line}");
-    Ok(())
+// What is wrong with no words at all, of a run and beyond it.
+fn faults_of_no_words(alloc: Global) -> (Option<WordFault>, Option<WordFault>) {
+    let none = Vec::new(alloc);
+    (read_words(&none).err(), read_reach(&none).err())
 }
 
-// A line of this form.
-fn line_of(
-    alloc: Global,
-    form: &str,
-    command: &str,
-    option: &str,
-    value: &str,
-) -> Result<String, AllocError> {
-    let mut line = String::new(alloc);
-    for letter in form.chars() {
-        match letter {
-            'C' => line.push_str(command)?,
-            'O' => line.push_str(option)?,
-            'V' => line.push_str(value)?,
-            _ => line.push(letter)?,
-        }
-    }
-    Ok(line)
+// The tests own no line and no words, and go through their tables by reference: what a test owns may be dropped at each of its
+// places, and each of them is proved.
+fn expect(
+    rt: &(impl Abort + AllocGlobal),
+    typed: Typed<'_>,
+    due: Option<WordFault>,
+) -> Result<(), Fail> {
+    let fault = fault_of(rt.alloc(), &typed)?;
+    assert_eq!(rt;
+        fault,
+        due,
+        "{}: {} {} {}",
+        typed.form, typed.command, typed.option, typed.value
+    );
+    Ok(())
 }
 
 // An option behind a command, in its place and out of order.
 fn one_option(
     rt: &(impl Abort + AllocGlobal),
-    command: (&str, bool, &str),
-    option: (&str, &str),
+    command: &(&str, bool, &str),
+    option: &(&str, &str),
 ) -> Result<(), Fail> {
-    let (begin, of_run, options) = command;
-    let (option, value) = option;
+    let (begin, of_run, options) = *command;
+    let (option, value) = *option;
     let taken = options.split(' ').any(|own| own == option);
     let due = if taken { None } else { Some(WordFault::Usage) };
-    let line = line_of(rt.alloc(), "C O V", begin, option, value)?;
-    expect(rt, of_run, &line, due)?;
-    for form in OUT_OF_ORDER {
-        let line = line_of(rt.alloc(), form, begin, option, value)?;
-        expect(rt, of_run, &line, Some(WordFault::Usage))?;
+    let typed = Typed {
+        of_run,
+        form: "C O V",
+        command: begin,
+        option,
+        value,
+    };
+    expect(rt, typed, due)?;
+    for form in &OUT_OF_ORDER {
+        expect(rt, typed.in_form(form), Some(WordFault::Usage))?;
     }
     Ok(())
 }
@@ -364,12 +428,25 @@ fn one_option(
 // Each command with none of the options, and with each of them.
 #[test]
 fn options_of_commands(rt: HostRuntime) -> Result<(), Fail> {
-    for command in COMMANDS {
-        expect(&rt, command.1, command.0, None)?;
-        expect(&rt, !command.1, command.0, Some(WordFault::Usage))?;
-        for option in OPTIONS {
+    for command in &COMMANDS {
+        expect(&rt, plain(command.1, command.0), None)?;
+        expect(&rt, plain(!command.1, command.0), Some(WordFault::Usage))?;
+        for option in &OPTIONS {
             one_option(&rt, command, option)?;
         }
+    }
+    Ok(())
+}
+
+// A number behind a line, and the texts that are made of it and are no number.
+fn one_number(
+    rt: &(impl Abort + AllocGlobal),
+    typed: Typed<'_>,
+    bad: Option<WordFault>,
+) -> Result<(), Fail> {
+    expect(rt, typed, None)?;
+    for form in &NO_NUMBERS {
+        expect(rt, typed.in_form(form), bad)?;
     }
     Ok(())
 }
@@ -377,40 +454,35 @@ fn options_of_commands(rt: HostRuntime) -> Result<(), Fail> {
 // The ends of each range, and what lies outside or is no number.
 #[test]
 fn numbers_of_ranges(rt: HostRuntime) -> Result<(), Fail> {
-    for (begin, of_run, option, ends, outside) in NUMBERS {
-        let bad = Some(WordFault::BadNumber { option });
-        for number in ends {
-            let line = line_of(rt.alloc(), "C V", begin, "", number)?;
-            expect(&rt, of_run, &line, None)?;
-            for form in NO_NUMBERS {
-                let line = line_of(rt.alloc(), form, begin, "", number)?;
-                expect(&rt, of_run, &line, bad)?;
-            }
-        }
-        for number in outside {
-            let line = line_of(rt.alloc(), "C V", begin, "", number)?;
-            expect(&rt, of_run, &line, bad)?;
-        }
+    for (begin, of_run, option, low, high, outside, other) in &NUMBERS {
+        let bad = Some(WordFault::BadNumber { option: *option });
+        let typed = plain(*of_run, begin).in_form("C V");
+        one_number(&rt, typed.with_value(low), bad)?;
+        one_number(&rt, typed.with_value(high), bad)?;
+        expect(&rt, typed.with_value(outside), bad)?;
+        expect(&rt, typed.with_value(other), bad)?;
     }
     Ok(())
 }
 
+// Where a minute may stand.
+const PLACES_OF_MINUTES: [(&str, OptionName); 3] = [
+    ("decode k.toml --from", OptionName::From),
+    ("decode k.toml --to", OptionName::To),
+    ("encode wwvb", OptionName::Minute),
+];
+
 #[test]
 fn minutes_of_the_century(rt: HostRuntime) -> Result<(), Fail> {
-    let places = [
-        ("decode k.toml --from", OptionName::From),
-        ("decode k.toml --to", OptionName::To),
-        ("encode wwvb", OptionName::Minute),
-    ];
-    for (begin, option) in places {
-        for (minute, good) in MINUTES {
-            let line = line_of(rt.alloc(), "C V", begin, "", minute)?;
-            let due = if good {
+    for (begin, option) in &PLACES_OF_MINUTES {
+        for (value, good) in &MINUTES {
+            let due = if *good {
                 None
             } else {
-                Some(WordFault::BadMinute { option })
+                Some(WordFault::BadMinute { option: *option })
             };
-            expect(&rt, true, &line, due)?;
+            let typed = plain(true, begin).in_form("C V").with_value(value);
+            expect(&rt, typed, due)?;
         }
     }
     Ok(())
@@ -420,15 +492,22 @@ fn minutes_of_the_century(rt: HostRuntime) -> Result<(), Fail> {
 // options can't stand there twice.
 #[test]
 fn first_bad_values(rt: HostRuntime) -> Result<(), Fail> {
-    for i in 0..BAD_VALUES.len() {
-        let (first, due) = BAD_VALUES[i];
-        for j in i + 1..BAD_VALUES.len() {
-            let (second, _) = BAD_VALUES[j];
-            if j == BAD_VALUES.len() - 1 && (i == 2 || i == 3) {
+    let values = &BAD_VALUES;
+    for i in 0..values.len() {
+        let (first, due) = values[i];
+        for j in i + 1..values.len() {
+            let (second, _) = values[j];
+            if j == values.len() - 1 && (i == 2 || i == 3) {
                 continue;
             }
-            let line = line_of(rt.alloc(), "CVO", "board k.toml q.txt", first, second)?;
-            expect(&rt, false, &line, Some(due))?;
+            let typed = Typed {
+                of_run: false,
+                form: "CVO",
+                command: "board k.toml q.txt",
+                option: first,
+                value: second,
+            };
+            expect(&rt, typed, Some(due))?;
         }
     }
     Ok(())
@@ -436,11 +515,10 @@ fn first_bad_values(rt: HostRuntime) -> Result<(), Fail> {
 
 #[test]
 fn single_lines(rt: HostRuntime) -> Result<(), Fail> {
-    for (line, due) in LINES {
-        expect(&rt, true, line, due)?;
+    for (line, due) in &LINES {
+        expect(&rt, plain(true, line), *due)?;
     }
-    let none = Vec::new(rt.alloc());
-    assert_eq!(rt; read_words(&none).err(), Some(WordFault::Usage));
-    assert_eq!(rt; read_reach(&none).err(), Some(WordFault::Usage));
+    let usage = Some(WordFault::Usage);
+    assert_eq!(rt; faults_of_no_words(rt.alloc()), (usage, usage));
     Ok(())
 }

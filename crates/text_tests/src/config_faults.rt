@@ -1,8 +1,11 @@
 //! Configurations with one fault, and with each two faults: the one that is judged first decides.
 
-use crate::configurations::{list, missing, out_of_range, read, wrong_kind};
+ghost use Rattle.std.specs.Prelude.{◌<◌};
+
+use crate::configurations::{fault_in, list, missing, out_of_range, wrong_kind};
 use bank_config::{ConfigFault, Key};
 use std::alloc::{AllocError, Global};
+use std::process::Abort;
 use std::test::Fail;
 
 // The places of a configuration's lines, in the order in which they are judged. Each receiver has its name,
@@ -71,7 +74,8 @@ fn line_at<'a>(place: usize, first: BadLine<'a>, second: BadLine<'a>) -> &'a str
     if place == second.place {
         return second.line;
     }
-    if place < PLACES { LINES[place] } else { "" }
+    let lines = &LINES;
+    if place < PLACES { lines[place] } else { "" }
 }
 
 // Adds a header and the lines of some places, unless another value stands in the place of all of them.
@@ -93,6 +97,9 @@ fn push_part<'a>(
     Ok(())
 }
 
+// The places before the first header.
+const AT_THE_TOP: [usize; 5] = [STATION, CEILING, UNKNOWN, TABLE, RECEIVER];
+
 // The configuration with these two faults.
 fn text_of<'a>(
     alloc: Global,
@@ -100,8 +107,8 @@ fn text_of<'a>(
     second: BadLine<'a>,
 ) -> Result<String, AllocError> {
     let mut text = String::new(alloc);
-    for place in [STATION, CEILING, UNKNOWN, TABLE, RECEIVER] {
-        text.push_str(line_at(place, first, second))?;
+    for place in &AT_THE_TOP {
+        text.push_str(line_at(*place, first, second))?;
     }
     let header = "[[receiver]]\n";
     push_part(&mut text, first, second, RECEIVER, header, &FIRST)?;
@@ -113,138 +120,219 @@ fn text_of<'a>(
     Ok(text)
 }
 
-fn bad(place: usize, line: &str, fault: ConfigFault) -> BadLine<'_> {
-    BadLine { place, line, fault }
+// What is wrong with a value.
+#[derive(Clone, Copy)]
+enum Wrong {
+    Missing,
+    Kind,
+    Range,
 }
 
 // What is judged before the receivers. A line without a key stands for one that is missing.
-fn bad_at_the_top<'a>() -> [BadLine<'a>; 14] {
-    [
-        bad(STATION, "\n", missing(Key::Station)),
-        bad(STATION, "station = 1\n", wrong_kind(Key::Station)),
-        bad(STATION, "station = \"bpc\"\n", out_of_range(Key::Station)),
-        bad(CEILING, "ceiling = 1.0\n", wrong_kind(Key::Ceiling)),
-        bad(CEILING, "ceiling = -1\n", out_of_range(Key::Ceiling)),
-        bad(
-            CEILING,
-            "ceiling = 1920000001\n",
-            out_of_range(Key::Ceiling),
-        ),
-        bad(RECEIVER, "\n", missing(Key::Receiver)),
-        bad(RECEIVER, "receiver = 1\n", wrong_kind(Key::Receiver)),
-        bad(RECEIVER, "receiver = {}\n", wrong_kind(Key::Receiver)),
-        bad(RECEIVER, "receiver = [1]\n", wrong_kind(Key::Receiver)),
-        bad(RECEIVER, "receiver = [{}, 1]\n", wrong_kind(Key::Receiver)),
-        bad(
-            RECEIVER,
-            "receiver = [1, 1, 1, 1, 1, 1, 1, 1, 1]\n",
-            wrong_kind(Key::Receiver),
-        ),
-        bad(RECEIVER, "receiver = []\n", out_of_range(Key::Receiver)),
-        bad(
-            RECEIVER,
-            "receiver = [{}, {}, {}, {}, {}, {}, {}, {}, {}]\n",
-            out_of_range(Key::Receiver),
-        ),
-    ]
+const BAD_AT_THE_TOP: [(usize, &str, Wrong, Key); 14] = [
+    (STATION, "\n", Wrong::Missing, Key::Station),
+    (STATION, "station = 1\n", Wrong::Kind, Key::Station),
+    (STATION, "station = \"bpc\"\n", Wrong::Range, Key::Station),
+    (CEILING, "ceiling = 1.0\n", Wrong::Kind, Key::Ceiling),
+    (CEILING, "ceiling = -1\n", Wrong::Range, Key::Ceiling),
+    (
+        CEILING,
+        "ceiling = 1920000001\n",
+        Wrong::Range,
+        Key::Ceiling,
+    ),
+    (RECEIVER, "\n", Wrong::Missing, Key::Receiver),
+    (RECEIVER, "receiver = 1\n", Wrong::Kind, Key::Receiver),
+    (RECEIVER, "receiver = {}\n", Wrong::Kind, Key::Receiver),
+    (RECEIVER, "receiver = [1]\n", Wrong::Kind, Key::Receiver),
+    (RECEIVER, "receiver = [{}, 1]\n", Wrong::Kind, Key::Receiver),
+    (
+        RECEIVER,
+        "receiver = [1, 1, 1, 1, 1, 1, 1, 1, 1]\n",
+        Wrong::Kind,
+        Key::Receiver,
+    ),
+    (RECEIVER, "receiver = []\n", Wrong::Range, Key::Receiver),
+    (
+        RECEIVER,
+        "receiver = [{}, {}, {}, {}, {}, {}, {}, {}, {}]\n",
+        Wrong::Range,
+        Key::Receiver,
+    ),
+];
+
+// The values of a receiver, in the order in which its lines stand.
+const NAME: usize = 0;
+
+const FILE: usize = 1;
+
+const DELAY: usize = 2;
+
+const WEIGHT: usize = 3;
+
+const OWN_STATION: usize = 4;
+
+// What is judged of a receiver.
+const BAD_OF_RECEIVER: [(usize, &str, Wrong); 21] = [
+    (NAME, "\n", Wrong::Missing),
+    (NAME, "name = 1\n", Wrong::Kind),
+    (NAME, "name = \"\"\n", Wrong::Range),
+    (NAME, "name = \"A\"\n", Wrong::Range),
+    (
+        NAME,
+        "name = \"abcdefghijklmnopqrstuvwxyz_-01234\"\n",
+        Wrong::Range,
+    ),
+    (FILE, "\n", Wrong::Missing),
+    (FILE, "log = 1\n", Wrong::Kind),
+    (FILE, "log = \"\"\n", Wrong::Range),
+    (FILE, "log = \"-\"\n", Wrong::Range),
+    (DELAY, "delay_ms = \"1\"\n", Wrong::Kind),
+    (DELAY, "delay_ms = 501\n", Wrong::Range),
+    (DELAY, "delay_ms = -1\n", Wrong::Range),
+    (WEIGHT, "weight = 1.0\n", Wrong::Kind),
+    (WEIGHT, "weight = 0\n", Wrong::Range),
+    (WEIGHT, "weight = 101\n", Wrong::Range),
+    (WEIGHT, "weight = -1\n", Wrong::Range),
+    (WEIGHT, "weight = 9223372036854775807\n", Wrong::Range),
+    (OWN_STATION, "station = 1\n", Wrong::Kind),
+    (OWN_STATION, "station = [\"jjy\"]\n", Wrong::Kind),
+    (OWN_STATION, "station = \"bpc\"\n", Wrong::Range),
+    (OWN_STATION, "station = \"JJY\"\n", Wrong::Range),
+];
+
+// What is judged of the cost table, behind the receivers. The lists that are out of range are made in memory: an empty line
+// stands for them here.
+const BAD_OF_TABLE: [(usize, &str, Wrong, Key); 6] = [
+    (TABLE, "table = 1\n", Wrong::Kind, Key::CostTable),
+    (TABLE, "table = []\n", Wrong::Kind, Key::CostTable),
+    (LOW, "low = 1\n", Wrong::Kind, Key::Low),
+    (LOW, "", Wrong::Range, Key::Low),
+    (HIGH, "high = 1\n", Wrong::Kind, Key::High),
+    (HIGH, "", Wrong::Range, Key::High),
+];
+
+// What is judged last.
+const UNKNOWN_LINES: [(usize, &str); 3] = [
+    (UNKNOWN, "other = {}\n"),
+    (UNKNOWN_OF_RECEIVER, "x = 1\n"),
+    (UNKNOWN_OF_TABLE, "x = 1\n"),
+];
+
+// How many there are, with those of two receivers.
+const BAD_LINES: usize = 65;
+
+fn fault_at(wrong: Wrong, key: Key) -> ConfigFault {
+    match wrong {
+        Wrong::Missing => missing(key),
+        Wrong::Kind => wrong_kind(key),
+        Wrong::Range => out_of_range(key),
+    }
 }
 
 // Of a receiver whose lines have these places.
-fn bad_of_receiver<'a>(at: [usize; 5], receiver: u8) -> [BadLine<'a>; 21] {
-    let (name, file) = (Key::Name { receiver }, Key::File { receiver });
-    let (delay, weight) = (Key::Delay { receiver }, Key::Weight { receiver });
-    let station = Key::ReceiverStation { receiver };
-    [
-        bad(at[0], "\n", missing(name)),
-        bad(at[0], "name = 1\n", wrong_kind(name)),
-        bad(at[0], "name = \"\"\n", out_of_range(name)),
-        bad(at[0], "name = \"A\"\n", out_of_range(name)),
-        bad(
-            at[0],
-            "name = \"abcdefghijklmnopqrstuvwxyz_-01234\"\n",
-            out_of_range(name),
-        ),
-        bad(at[1], "\n", missing(file)),
-        bad(at[1], "log = 1\n", wrong_kind(file)),
-        bad(at[1], "log = \"\"\n", out_of_range(file)),
-        bad(at[1], "log = \"-\"\n", out_of_range(file)),
-        bad(at[2], "delay_ms = \"1\"\n", wrong_kind(delay)),
-        bad(at[2], "delay_ms = 501\n", out_of_range(delay)),
-        bad(at[2], "delay_ms = -1\n", out_of_range(delay)),
-        bad(at[3], "weight = 1.0\n", wrong_kind(weight)),
-        bad(at[3], "weight = 0\n", out_of_range(weight)),
-        bad(at[3], "weight = 101\n", out_of_range(weight)),
-        bad(at[3], "weight = -1\n", out_of_range(weight)),
-        bad(
-            at[3],
-            "weight = 9223372036854775807\n",
-            out_of_range(weight),
-        ),
-        bad(at[4], "station = 1\n", wrong_kind(station)),
-        bad(at[4], "station = [\"jjy\"]\n", wrong_kind(station)),
-        bad(at[4], "station = \"bpc\"\n", out_of_range(station)),
-        bad(at[4], "station = \"JJY\"\n", out_of_range(station)),
-    ]
+fn bad_of_receiver<'a>(at: [usize; 5], receiver: u8, n: usize) -> BadLine<'a>
+    requires { n < 21 }
+{
+    let lines = &BAD_OF_RECEIVER;
+    let (value, line, wrong) = lines[n];
+    let (place, key) = match value {
+        NAME => (at[0], Key::Name { receiver }),
+        FILE => (at[1], Key::File { receiver }),
+        DELAY => (at[2], Key::Delay { receiver }),
+        WEIGHT => (at[3], Key::Weight { receiver }),
+        _ => (at[4], Key::ReceiverStation { receiver }),
+    };
+    BadLine {
+        place,
+        line,
+        fault: fault_at(wrong, key),
+    }
 }
 
-// What is judged behind the receivers.
-fn bad_behind<'a>(low: &'a str, high: &'a str) -> [BadLine<'a>; 9] {
-    [
-        bad(TABLE, "table = 1\n", wrong_kind(Key::CostTable)),
-        bad(TABLE, "table = []\n", wrong_kind(Key::CostTable)),
-        bad(LOW, "low = 1\n", wrong_kind(Key::Low)),
-        bad(LOW, low, out_of_range(Key::Low)),
-        bad(HIGH, "high = 1\n", wrong_kind(Key::High)),
-        bad(HIGH, high, out_of_range(Key::High)),
-        bad(UNKNOWN, "other = {}\n", ConfigFault::UnknownKey),
-        bad(UNKNOWN_OF_RECEIVER, "x = 1\n", ConfigFault::UnknownKey),
-        bad(UNKNOWN_OF_TABLE, "x = 1\n", ConfigFault::UnknownKey),
-    ]
+// The n-th of all of them, in the order in which they are judged.
+fn bad_line<'a>(n: usize, low: &'a str, high: &'a str) -> BadLine<'a>
+    requires { n < 65 }
+{
+    if n < 14 {
+        let lines = &BAD_AT_THE_TOP;
+        let (place, line, wrong, key) = lines[n];
+        let fault = fault_at(wrong, key);
+        return BadLine { place, line, fault };
+    }
+    if n < 35 {
+        return bad_of_receiver(FIRST, 1, n - 14);
+    }
+    if n < 56 {
+        return bad_of_receiver(SECOND, 2, n - 35);
+    }
+    if n < 62 {
+        let lines = &BAD_OF_TABLE;
+        let (place, own, wrong, key) = lines[n - 56];
+        let line = match n {
+            59 => low,
+            61 => high,
+            _ => own,
+        };
+        let fault = fault_at(wrong, key);
+        return BadLine { place, line, fault };
+    }
+    let lines = &UNKNOWN_LINES;
+    let (place, line) = lines[n - 62];
+    BadLine {
+        place,
+        line,
+        fault: ConfigFault::UnknownKey,
+    }
 }
 
-// All of them, in the order in which they are judged.
-fn bad_lines<'a>(
-    alloc: Global,
-    low: &'a str,
-    high: &'a str,
-) -> Result<Vec<BadLine<'a>>, AllocError> {
-    let mut lines = Vec::new(alloc);
-    for line in bad_at_the_top() {
-        lines.push(line)?;
-    }
-    for line in bad_of_receiver(FIRST, 1) {
-        lines.push(line)?;
-    }
-    for line in bad_of_receiver(SECOND, 2) {
-        lines.push(line)?;
-    }
-    for line in bad_behind(low, high) {
-        lines.push(line)?;
-    }
-    Ok(lines)
+// What is told of the configuration with these two faults.
+fn told<'a>(
+    rt: &(impl Abort + AllocGlobal),
+    first: BadLine<'a>,
+    second: BadLine<'a>,
+) -> Result<Option<ConfigFault>, AllocError> {
+    let text = text_of(rt.alloc(), first, second)?;
+    Ok(fault_in(rt, text.as_bytes()))
 }
 
 // Each fault alone, and with each of those that are judged later.
-#[test]
-fn first_fault_decides(rt: HostRuntime) -> Result<(), Fail> {
-    let low = list(rt.alloc(), "low", 100, "201")?;
-    let high = list(rt.alloc(), "high", 100, "201")?;
-    let lines = bad_lines(rt.alloc(), low.as_str(), high.as_str())?;
-    for i in 0..lines.len() {
-        for j in i..lines.len() {
-            let text = text_of(rt.alloc(), lines[i], lines[j])?;
-            let told = read(&rt, text.as_bytes()).err();
-            assert!(rt; told == Some(lines[i].fault), "{text}");
+fn first_of_two_decides(
+    rt: &(impl Abort + AllocGlobal),
+    low: &str,
+    high: &str,
+) -> Result<(), AllocError> {
+    for i in 0..BAD_LINES {
+        let first = bad_line(i, low, high);
+        for j in i..BAD_LINES {
+            let second = bad_line(j, low, high);
+            assert!(rt;
+                told(rt, first, second)? == Some(first.fault),
+                "{} and {}",
+                first.line,
+                second.line
+            );
         }
     }
     Ok(())
 }
 
 #[test]
+fn first_fault_decides(rt: HostRuntime) -> Result<(), Fail> {
+    let low = list(rt.alloc(), "low", 100, "201")?;
+    let high = list(rt.alloc(), "high", 100, "201")?;
+    first_of_two_decides(&rt, &low, &high)?;
+    Ok(())
+}
+
+#[test]
 fn these_lines_have_no_fault(rt: HostRuntime) -> Result<(), Fail> {
-    let nowhere = bad(PLACES, "", ConfigFault::UnknownKey);
-    let text = text_of(rt.alloc(), nowhere, nowhere)?;
-    assert!(rt; read(&rt, text.as_bytes()).is_ok(), "{text}");
+    let nowhere = BadLine {
+        place: PLACES,
+        line: "",
+        fault: ConfigFault::UnknownKey,
+    };
+    assert!(rt; told(&rt, nowhere, nowhere)?.is_none());
     Ok(())
 }
 
@@ -256,7 +344,7 @@ fn refuses_what_is_no_toml(rt: HostRuntime) {
         b"station = \"\xFF\"\n",
         b"station = 9223372036854775808\n",
     ] {
-        assert!(rt; read(&rt, text).err() == Some(ConfigFault::NotToml));
+        assert!(rt; fault_in(&rt, text) == Some(ConfigFault::NotToml));
     }
-    assert!(rt; read(&rt, b"").err() == Some(missing(Key::Station)));
+    assert!(rt; fault_in(&rt, b"") == Some(missing(Key::Station)));
 }

@@ -7,6 +7,8 @@ use civil::Civil;
 use definitions::CENTURY_MINUTES;
 use sequence::{Sequence, walkable};
 use signal_base::MOST_SECONDS;
+use std::alloc::Global;
+use std::process::Abort;
 use std::test::Fail;
 use texts::write_feed;
 
@@ -85,30 +87,61 @@ fn feed<F: Files>(
     Some(write_feed(files, civil, &window, &q))
 }
 
-#[test]
-fn feeds_minutes_by_one_append(rt: HostRuntime) -> Result<(), Fail> {
-    let civil = Civil::make(rt.alloc())?;
-    for (minute, second, announced, seconds, text) in FEEDS {
-        let mut files = one_call(rt.alloc())?;
-        let q = sequence_from(minute, second, announced);
+// What becomes of a feed that is written by one call, and whether it is this text.
+fn fed(
+    alloc: Global,
+    civil: &Civil,
+    q: Option<Sequence>,
+    seconds: u16,
+    text: &str,
+) -> Result<(Option<Result<(), Failed>>, bool), Fail> {
+    let mut files = one_call(alloc)?;
+    let written = feed(&mut files, civil, q, seconds);
+    Ok((written, printed(&files, text)))
+}
+
+fn feeds_minutes_by_one_append(rt: &(impl Abort + AllocGlobal), civil: &Civil) -> Result<(), Fail> {
+    for (minute, second, announced, seconds, text) in &FEEDS {
+        let q = sequence_from(minute, *second, *announced);
         assert_eq!(rt;
-            feed(&mut files, &civil, q, seconds),
-            Some(Ok(())),
+            fed(rt.alloc(), civil, q, *seconds, text)?,
+            (Some(Ok(())), true),
             "{minute} {seconds}"
         );
-        assert!(rt; printed(&files, text), "{minute} {seconds}");
     }
     Ok(())
 }
 
-#[test]
-fn keeps_a_front_where_an_append_fails(rt: HostRuntime) -> Result<(), Fail> {
-    let civil = Civil::make(rt.alloc())?;
-    let mut inner = MemoryFiles::make(rt.alloc());
+// The same where each append takes one byte and the second fails.
+fn fed_by_bytes(
+    alloc: Global,
+    civil: &Civil,
+    q: Option<Sequence>,
+    text: &str,
+) -> Result<(Option<Result<(), Failed>>, bool), Fail> {
+    let mut inner = MemoryFiles::make(alloc);
     inner.fail(2)?;
     let mut files = OneByte { inner };
+    let written = feed(&mut files, civil, q, 180);
+    Ok((written, printed(&files.inner, text)))
+}
+
+fn keeps_a_front_where_an_append_fails(
+    rt: &(impl Abort + AllocGlobal),
+    civil: &Civil,
+) -> Result<(), Fail> {
     let q = sequence_from("2024-03-31T00:58Z", 0, false);
-    assert_eq!(rt; feed(&mut files, &civil, q, 180), Some(Err(Failed)));
-    assert!(rt; printed(&files.inner, "$"));
+    assert_eq!(rt;
+        fed_by_bytes(rt.alloc(), civil, q, "$")?,
+        (Some(Err(Failed)), true)
+    );
+    Ok(())
+}
+
+#[test]
+fn feeds_and_their_appends(rt: HostRuntime) -> Result<(), Fail> {
+    let civil = Civil::make(rt.alloc())?;
+    feeds_minutes_by_one_append(&rt, &civil)?;
+    keeps_a_front_where_an_append_fails(&rt, &civil)?;
     Ok(())
 }

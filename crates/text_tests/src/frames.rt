@@ -25,6 +25,11 @@ fn read(
     read_frames(rt.alloc(), civil, text)
 }
 
+// Why a text is refused.
+fn fault_in(rt: &(impl Abort + AllocGlobal), civil: &Civil, text: &[u8]) -> Option<FrameFault> {
+    read(rt, civil, text).err()
+}
+
 // The frame of the n-th second from 06:16Z on.
 #[tactic(auto, using(irig_frames::proofs::ToldLaws::first_sixty))]
 fn frame_of(n: u16) -> Frame
@@ -50,12 +55,10 @@ fn text_of(rt: &(impl Abort + AllocGlobal), civil: &Civil, count: u16) -> Result
     Ok(text.to_vec(rt.alloc())?)
 }
 
-#[test]
-fn elements_of_a_second(rt: HostRuntime) -> Result<(), Fail> {
-    let civil = Civil::make(rt.alloc())?;
+fn elements_of_a_second(rt: &impl Abort, civil: &Civil) {
     let want =
         b"M00000000M011001000M011000000M010000110M100000000M001000100M000000000M000000000M000001000M001101000M";
-    let found = elements(&civil, MORNING, 0);
+    let found = elements(civil, MORNING, 0);
     for i in 0..100 {
         let sign = match found[i] {
             0 => b'0',
@@ -64,67 +67,73 @@ fn elements_of_a_second(rt: HostRuntime) -> Result<(), Fail> {
         };
         assert_eq!(rt; sign, want[i], "element {i}");
     }
-    Ok(())
 }
 
-#[test]
-fn two_minutes_read_again(rt: HostRuntime) -> Result<(), Fail> {
-    let civil = Civil::make(rt.alloc())?;
-    let text = text_of(&rt, &civil, 120)?;
+fn two_minutes_read_again(rt: &impl Abort, text: &[u8], frames: &[Frame]) {
     assert_eq!(rt; text.iter().filter(|byte| **byte == b'\n').count(), 24_000);
-    assert!(rt; text.as_slice().starts_with(b"0 H\n8 L\n10 H\n12 L\n"));
-    let frames = read(&rt, &civil, &text)?;
+    assert!(rt; text.starts_with(b"0 H\n8 L\n10 H\n12 L\n"));
     assert_eq!(rt; frames.len(), 120);
     for n in 0..120 {
         assert_eq!(rt; frames.get(n as usize), Some(&frame_of(n)));
     }
-    Ok(())
 }
 
-#[test]
-fn refuses_the_first_bad_line(rt: HostRuntime) -> Result<(), Fail> {
-    let civil = Civil::make(rt.alloc())?;
-    let mut text = text_of(&rt, &civil, 120)?;
+fn refuses_the_first_bad_line(rt: &(impl Abort + AllocGlobal), civil: &Civil, text: &mut [u8]) {
     let end = text.len();
     assert!(rt; end > 14);
     // Line 2 is `9 L`.
     text[4] = b'9';
     assert_eq!(rt;
-        read(&rt, &civil, &text).err(),
+        fault_in(rt, civil, text),
         Some(FrameFault::Timing { line: 2 })
     );
     text[4] = b'8';
     // Line 4 is `15 L`.
     text[14] = b'5';
     assert_eq!(rt;
-        read(&rt, &civil, &text).err(),
+        fault_in(rt, civil, text),
         Some(FrameFault::Meaning { line: 200 })
     );
     text[14] = b'2';
     // The last line, `119998 L`, is missing, and then its LF alone.
-    let whole = read(&rt, &civil, &text[..end]);
-    assert!(rt; whole.is_ok());
+    assert_eq!(rt; fault_in(rt, civil, &text[..end]), None);
     assert_eq!(rt;
-        read(&rt, &civil, &text[..end - 9]).err(),
+        fault_in(rt, civil, &text[..end - 9]),
         Some(FrameFault::Shape { line: 24_000 })
     );
     assert_eq!(rt;
-        read(&rt, &civil, &text[..end - 1]).err(),
+        fault_in(rt, civil, &text[..end - 1]),
         Some(FrameFault::Shape { line: 24_000 })
     );
+}
+
+fn two_minutes(rt: &(impl Abort + AllocGlobal), civil: &Civil) -> Result<(), Fail> {
+    let mut text = text_of(rt, civil, 120)?;
+    let frames = read(rt, civil, &text)?;
+    two_minutes_read_again(rt, &text, &frames);
+    refuses_the_first_bad_line(rt, civil, &mut text);
     Ok(())
 }
 
-#[test]
-fn reads_the_most_frames(rt: HostRuntime) -> Result<(), Fail> {
-    let civil = Civil::make(rt.alloc())?;
-    let text = text_of(&rt, &civil, 1_201)?;
+// How many frames are read of the text of so many, or why it is refused.
+fn read_of(
+    rt: &(impl Abort + AllocGlobal),
+    civil: &Civil,
+    count: u16,
+) -> Result<Result<usize, FrameFault>, Fail> {
+    let text = text_of(rt, civil, count)?;
+    match read(rt, civil, &text) {
+        Ok(frames) => Ok(Ok(frames.len())),
+        Err(fault) => Ok(Err(fault)),
+    }
+}
+
+fn reads_the_most_frames(rt: &(impl Abort + AllocGlobal), civil: &Civil) -> Result<(), Fail> {
     assert_eq!(rt;
-        read(&rt, &civil, &text).err(),
-        Some(FrameFault::TooManyFrames { line: 240_001 })
+        read_of(rt, civil, 1_201)?,
+        Err(FrameFault::TooManyFrames { line: 240_001 })
     );
-    let text = text_of(&rt, &civil, 1_200)?;
-    assert_eq!(rt; read(&rt, &civil, &text)?.len(), 1_200);
+    assert_eq!(rt; read_of(rt, civil, 1_200)?, Ok(1_200));
     Ok(())
 }
 
@@ -160,6 +169,16 @@ fn second_in(
     }
 }
 
+// The second that a frame of these elements tells, or why its text is refused.
+fn told_by(
+    rt: &(impl Abort + AllocGlobal),
+    civil: &Civil,
+    elements: &[u8],
+) -> Result<Result<Option<(u32, u8)>, FrameFault>, AllocError> {
+    let text = text_with(rt.alloc(), elements)?;
+    Ok(second_in(rt, civil, text.as_bytes()))
+}
+
 // The elements that tell another day where they are wrong, with what they then are and the minute that is told.
 const OTHER_DAYS: [(usize, u8, u32); 14] = [
     (30, 1, 8_928 * 1_440 + 376),
@@ -180,26 +199,19 @@ const OTHER_DAYS: [(usize, u8, u32); 14] = [
 
 // A wrong element of the time of day is at odds with the straight binary seconds; one of the day or of the year tells
 // another day, where there is such a day.
-#[test]
-fn each_element_wrong_in_turn(rt: HostRuntime) -> Result<(), Fail> {
-    let civil = Civil::make(rt.alloc())?;
-    let mut found = elements(&civil, MORNING, 0);
+fn each_element_wrong_in_turn(rt: &(impl Abort + AllocGlobal), civil: &Civil) -> Result<(), Fail> {
+    let mut found = elements(civil, MORNING, 0);
     for i in 0..100 {
         let right = found[i];
         for wrong in 0..3u8 {
             if wrong != right {
                 found[i] = wrong;
-                let text = text_with(rt.alloc(), &found)?;
                 let other = OTHER_DAYS.iter().find(|day| day.0 == i && day.1 == wrong);
                 let want = match other {
                     Some(day) => Ok(Some((day.2, 0))),
                     None => Err(FrameFault::Meaning { line: 200 }),
                 };
-                assert_eq!(rt;
-                    second_in(&rt, &civil, text.as_bytes()),
-                    want,
-                    "element {i} as {wrong}"
-                );
+                assert_eq!(rt; told_by(rt, civil, &found)?, want, "element {i} as {wrong}");
             }
         }
         found[i] = right;
@@ -256,55 +268,68 @@ const SECONDS: [(&[u8; 100], Option<(u32, u8)>); 11] = [
     ),
 ];
 
-#[test]
-fn seconds_at_the_ends_of_days(rt: HostRuntime) -> Result<(), Fail> {
-    let civil = Civil::make(rt.alloc())?;
-    for (signs, second) in SECONDS {
-        let mut found = [0u8; 100];
-        for i in 0..100 {
-            found[i] = match signs[i] {
-                b'0' => 0,
-                b'1' => 1,
-                _ => 2,
-            };
-        }
-        let text = text_with(rt.alloc(), &found)?;
+// The elements that these signs stand for.
+fn elements_in(signs: &[u8; 100]) -> [u8; 100] {
+    let mut found = [0u8; 100];
+    for i in 0..100 {
+        found[i] = match signs[i] {
+            b'0' => 0,
+            b'1' => 1,
+            _ => 2,
+        };
+    }
+    found
+}
+
+fn seconds_at_the_ends_of_days(rt: &(impl Abort + AllocGlobal), civil: &Civil) -> Result<(), Fail> {
+    for (signs, second) in &SECONDS {
         let want = match second {
-            Some(told) => Ok(Some(told)),
+            Some(told) => Ok(Some(*told)),
             None => Err(FrameFault::Meaning { line: 200 }),
         };
-        assert_eq!(rt; second_in(&rt, &civil, text.as_bytes()), want);
+        assert_eq!(rt; told_by(rt, civil, &elements_in(signs))?, want);
     }
     Ok(())
 }
 
 // Behind each of its lines, and before the end of each. Only whole frames are read.
-#[test]
-fn refuses_a_text_cut_at_every_line(rt: HostRuntime) -> Result<(), Fail> {
-    let civil = Civil::make(rt.alloc())?;
-    let text = text_of(&rt, &civil, 2)?;
+fn refuses_a_text_cut_at_every_line(rt: &(impl Abort + AllocGlobal), civil: &Civil, text: &[u8]) {
     let mut line = 1u32;
     for end in 0..text.len() {
         if text[end] == b'\n' {
-            let unended = read(&rt, &civil, &text[..end]);
             assert_eq!(rt;
-                unended.err(),
+                fault_in(rt, civil, &text[..end]),
                 Some(FrameFault::Shape { line }),
                 "line {line}"
             );
-            let whole = read(&rt, &civil, &text[..end + 1]);
             line = line.saturating_add(1);
-            if line == 201 || line == 401 {
-                assert!(rt; whole.is_ok(), "line {line}");
+            let due = if line == 201 || line == 401 {
+                None
             } else {
-                assert_eq!(rt;
-                    whole.err(),
-                    Some(FrameFault::Shape { line }),
-                    "line {line}"
-                );
-            }
+                Some(FrameFault::Shape { line })
+            };
+            assert_eq!(rt; fault_in(rt, civil, &text[..end + 1]), due, "line {line}");
         }
     }
     assert_eq!(rt; line, 401);
+}
+
+fn two_frames(rt: &(impl Abort + AllocGlobal), civil: &Civil) -> Result<(), Fail> {
+    let text = text_of(rt, civil, 2)?;
+    refuses_a_text_cut_at_every_line(rt, civil, &text);
+    Ok(())
+}
+
+// One table of days is made for all of it, and each function owns little: each place at which what is owned may be dropped is
+// proved.
+#[test]
+fn frames_and_their_texts(rt: HostRuntime) -> Result<(), Fail> {
+    let civil = Civil::make(rt.alloc())?;
+    elements_of_a_second(&rt, &civil);
+    two_minutes(&rt, &civil)?;
+    reads_the_most_frames(&rt, &civil)?;
+    each_element_wrong_in_turn(&rt, &civil)?;
+    seconds_at_the_ends_of_days(&rt, &civil)?;
+    two_frames(&rt, &civil)?;
     Ok(())
 }

@@ -1,17 +1,70 @@
 //! Costs that were worked out by hand, and grids of the largest logs.
 
-ghost use Rattle.std.specs.Prelude.{◌≡◌, length};
+ghost use Rattle.std.specs.Prelude.{◌≡◌, ◌≤◌, IfOk, length};
+ghost use Rattle.std.specs.List.{All};
+ghost use Rattle.signal_base.specs.declared.limits.TheConstants.{MOST_SECONDS};
+ghost use Rattle.signal_base.specs.Limits.{IsPriced, IsTuned};
 
 use crate::made::log_in;
+use pulse_log::{Log, LogFault};
 use signal_base::{CostTable, Station, Tuning};
 use std::alloc::{AllocError, Global};
+use std::process::Abort;
 use std::test::Fail;
 use std::time::Instant;
 use symbol_cost::CostGrid;
 
+// The logs of two texts.
+fn two_logs(
+    rt: &(impl Abort + AllocGlobal),
+    one: &[u8],
+    other: &[u8],
+) -> Result<[Log; 2], LogFault> {
+    Ok([log_in(rt, one)?, log_in(rt, other)?])
+}
+
+// What two receivers with these texts cost from millisecond 0 on.
+fn grid_of_two(
+    rt: &(impl Abort + AllocGlobal),
+    station: Station,
+    tunings: &[Tuning; 2],
+    one: &[u8],
+    other: &[u8],
+    seconds: u16,
+) -> Result<CostGrid, Fail>
+    requires tuned { All IsTuned tunings.now }
+    requires few { seconds ≤ MOST_SECONDS }
+    ensures { IfOk result (λ grid. length grid.rows ≡ seconds) }
+{
+    let logs = two_logs(rt, one, other)?;
+    let table = CostTable::default();
+    Ok(CostGrid::make(rt.alloc(), station, tunings, &table, &logs, 0, 0, seconds)?)
+}
+
 // Of DCF77 a 0 is low in the first tenth, a 1 in the first two, and symbol 2 in none. The first receiver hears 150 low
 // milliseconds, which cost it 50, 50 and 150. The second hears 200 of them 30 ms later and counts three times: 300, 0
 // and 600. Of its tenth from 430 on it doesn't know 20 ms, so the 80 low ones in it cost nothing.
+const TWO_SECONDS: [(u8, u32, u32); 6] = [
+    (1, 350, 400),
+    (2, 50, 800),
+    (4, 750, 0),
+    (5, 350, 0),
+    (7, 50, 0),
+    (255, 0, 0),
+];
+
+fn costs_of_two_seconds(rt: &impl Abort, grid: &CostGrid)
+    requires { length grid.now.rows ≡ 2 }
+{
+    for (set, first, second) in &TWO_SECONDS {
+        assert_eq!(rt;
+            (grid.cost(0, *set), grid.cost(1, *set)),
+            (*first, *second),
+            "set {set} in the two seconds"
+        );
+    }
+}
+
 #[test]
 fn costs_two_seconds_of_two_receivers(rt: HostRuntime) -> Result<(), Fail> {
     let tunings = [
@@ -24,22 +77,10 @@ fn costs_two_seconds_of_two_receivers(rt: HostRuntime) -> Result<(), Fail> {
             weight: 3,
         },
     ];
-    let one = log_in(&rt, b"0 L\n150 H\n3000 L\n")?;
-    let other = log_in(&rt, b"30 L\n230 H\n430 L\n510 X\n530 H\n3000 L\n")?;
-    let logs = [one, other];
-    let table = CostTable::default();
-    let grid = CostGrid::make(rt.alloc(), Station::Dcf77, &tunings, &table, &logs, 0, 0, 2)?;
-    for (set, first, second) in [
-        (1, 350, 400),
-        (2, 50, 800),
-        (4, 750, 0),
-        (5, 350, 0),
-        (7, 50, 0),
-        (255, 0, 0),
-    ] {
-        assert_eq!(rt; grid.cost(0, set), first, "set {set} in the first second");
-        assert_eq!(rt; grid.cost(1, set), second, "set {set} in the second second");
-    }
+    let one = b"0 L\n150 H\n3000 L\n";
+    let other = b"30 L\n230 H\n430 L\n510 X\n530 H\n3000 L\n";
+    let grid = grid_of_two(&rt, Station::Dcf77, &tunings, one, other, 2)?;
+    costs_of_two_seconds(&rt, &grid);
     Ok(())
 }
 
@@ -57,14 +98,11 @@ fn one_symbol_for_all_receivers(rt: HostRuntime) -> Result<(), Fail> {
             weight: 1,
         },
     ];
-    let one = log_in(&rt, b"0 L\n100 H\n1000 L\n")?;
-    let other = log_in(&rt, b"0 L\n100 H\n200 L\n300 H\n1000 L\n")?;
-    let logs = [one, other];
-    let table = CostTable::default();
-    let grid = CostGrid::make(rt.alloc(), Station::Msf, &tunings, &table, &logs, 0, 0, 1)?;
-    assert_eq!(rt; grid.cost(0, 1), 100);
-    assert_eq!(rt; grid.cost(0, 2), 300);
-    assert_eq!(rt; grid.cost(0, 3), 100);
+    let one = b"0 L\n100 H\n1000 L\n";
+    let other = b"0 L\n100 H\n200 L\n300 H\n1000 L\n";
+    let grid = grid_of_two(&rt, Station::Msf, &tunings, one, other, 1)?;
+    let costs = (grid.cost(0, 1), grid.cost(0, 2), grid.cost(0, 3));
+    assert_eq!(rt; costs, (100, 300, 100));
     Ok(())
 }
 
@@ -95,54 +133,84 @@ fn cost_alike(one: &CostGrid, other: &CostGrid) -> bool
     true
 }
 
+// What they cost is asked from millisecond 237 on.
+const PHASE: u16 = 237;
+
+const MOVED_TUNINGS: [Tuning; 2] = [
+    Tuning {
+        delay: 0,
+        weight: 1,
+    },
+    Tuning {
+        delay: 30,
+        weight: 3,
+    },
+];
+
+// A grid of 60 slots of JJY by two logs.
+fn jjy_grid(alloc: Global, logs: &[Log; 2], start: u64) -> Result<CostGrid, Fail>
+    requires { start ≤ 1000000 }
+    ensures slots { IfOk result (λ grid. length grid.rows ≡ 60) }
+    ensures receivers { IfOk result (λ grid. grid.receivers ≡ 2) }
+{
+    let (jjy, table) = (Station::Jjy, CostTable::default());
+    Ok(CostGrid::make(alloc, jjy, &MOVED_TUNINGS, &table, logs, start, PHASE, 60)?)
+}
+
+// Whether such a grid costs what a new one does.
+fn costs_like_a_new_one(
+    alloc: Global,
+    grid: &CostGrid,
+    logs: &[Log; 2],
+    start: u64,
+) -> Result<bool, Fail>
+    requires slots { length grid.now.rows ≡ 60 }
+    requires start { start ≤ 1000000 }
+{
+    let new = jjy_grid(alloc, logs, start)?;
+    Ok(cost_alike(grid, &new))
+}
+
+// Whether a grid costs what new ones do when it is moved by so many slots, and when it is moved once more.
+fn costs_alike_moved(alloc: Global, logs: &[Log; 2], by: u16) -> Result<(bool, bool), Fail>
+    requires { by ≤ 61 }
+{
+    let table = CostTable::default();
+    let step = 1000 * by as u64;
+    let mut grid = jjy_grid(alloc, logs, 1000)?;
+    grid.advance(&MOVED_TUNINGS, &table, logs, 1000, PHASE, by);
+    let once = costs_like_a_new_one(alloc, &grid, logs, 1000 + step)?;
+    grid.advance(&MOVED_TUNINGS, &table, logs, 1000 + step, PHASE, by);
+    let twice = costs_like_a_new_one(alloc, &grid, logs, 1000 + 2 * step)?;
+    Ok((once, twice))
+}
+
+// The logs of the uneven text and of one low pulse.
+fn uneven_logs(rt: &(impl Abort + AllocGlobal)) -> Result<[Log; 2], Fail> {
+    let text = uneven_text(rt.alloc())?;
+    Ok(two_logs(rt, &text, b"0 L\n70 H\n90000 L\n")?)
+}
+
+fn costs_what_new_ones_do(
+    rt: &(impl Abort + AllocGlobal),
+    logs: &[Log; 2],
+    by: u16,
+) -> Result<(), Fail>
+    requires { by ≤ 61 }
+{
+    let alike = costs_alike_moved(rt.alloc(), logs, by)?;
+    assert_eq!(rt; alike, (true, true), "moved by {by}, and by {by} twice");
+    Ok(())
+}
+
 // Moved by one slot, by all but one, by all and by more; and then once more.
 #[test]
 fn moved_grids_cost_what_new_ones_do(rt: HostRuntime) -> Result<(), Fail> {
-    let text = uneven_text(rt.alloc())?;
-    let tunings = [
-        Tuning {
-            delay: 0,
-            weight: 1,
-        },
-        Tuning {
-            delay: 30,
-            weight: 3,
-        },
-    ];
-    let logs = [
-        log_in(&rt, text.as_slice())?,
-        log_in(&rt, b"0 L\n70 H\n90000 L\n")?,
-    ];
-    let table = CostTable::default();
-    let jjy = Station::Jjy;
-    for by in [1u16, 59, 60, 61] {
-        let step = 1000 * by as u64;
-        let mut grid = CostGrid::make(rt.alloc(), jjy, &tunings, &table, &logs, 1000, 237, 60)?;
-        grid.advance(&tunings, &table, &logs, 1000, 237, by);
-        let next = CostGrid::make(
-            rt.alloc(),
-            jjy,
-            &tunings,
-            &table,
-            &logs,
-            1000 + step,
-            237,
-            60,
-        )?;
-        assert!(rt; cost_alike(&grid, &next), "moved by {by}");
-        grid.advance(&tunings, &table, &logs, 1000 + step, 237, by);
-        let last = CostGrid::make(
-            rt.alloc(),
-            jjy,
-            &tunings,
-            &table,
-            &logs,
-            1000 + 2 * step,
-            237,
-            60,
-        )?;
-        assert!(rt; cost_alike(&grid, &last), "moved by {by} twice");
-    }
+    let logs = uneven_logs(&rt)?;
+    costs_what_new_ones_do(&rt, &logs, 1)?;
+    costs_what_new_ones_do(&rt, &logs, 59)?;
+    costs_what_new_ones_do(&rt, &logs, 60)?;
+    costs_what_new_ones_do(&rt, &logs, 61)?;
     Ok(())
 }
 
@@ -156,72 +224,109 @@ fn largest_text(alloc: Global) -> Result<Vec<u8>, AllocError> {
     Ok(text)
 }
 
+const PLAIN: Tuning = Tuning {
+    delay: 0,
+    weight: 1,
+};
+
+// So many logs of it.
+fn largest_logs(rt: &(impl Abort + AllocGlobal), count: usize) -> Result<Vec<Log>, Fail> {
+    let text = largest_text(rt.alloc())?;
+    let mut logs = Vec::new(rt.alloc());
+    for _ in 0..count {
+        logs.push(log_in(rt, &text)?)?;
+    }
+    Ok(logs)
+}
+
+// A second of the grid of eight of them, and one after the end of the logs.
+fn costs_of_the_largest(rt: &HostRuntime, logs: &[Log]) -> Result<(u32, u32), Fail>
+    requires { length logs.now ≡ 8 }
+{
+    let table = CostTable::default();
+    let begin = Instant::now(rt)?;
+    let grid = CostGrid::make(
+        rt.alloc(),
+        Station::Msf,
+        &[PLAIN; 8],
+        &table,
+        logs,
+        0,
+        0,
+        1200,
+    )?;
+    let microseconds = begin.elapsed(rt)?.as_micros();
+    println!(rt; "{microseconds} microseconds")?;
+    Ok((grid.cost(998, 16), grid.cost(1000, 16)))
+}
+
 // Each tenth has 50 low milliseconds, so each of its symbols costs a receiver 50, and a second costs eight of them
 // 4,000. The log ends in second 999. `bench/grid` reads what is printed.
 #[test]
 fn grids_of_the_largest_logs(rt: HostRuntime) -> Result<(), Fail> {
-    let text = largest_text(rt.alloc())?;
-    let text = text.as_slice();
-    let tunings = [Tuning {
-        delay: 0,
-        weight: 1,
-    }; 8];
-    let logs = [
-        log_in(&rt, text)?,
-        log_in(&rt, text)?,
-        log_in(&rt, text)?,
-        log_in(&rt, text)?,
-        log_in(&rt, text)?,
-        log_in(&rt, text)?,
-        log_in(&rt, text)?,
-        log_in(&rt, text)?,
-    ];
-    let table = CostTable::default();
+    let logs = largest_logs(&rt, 8)?;
+    assert!(rt; logs.len() == 8);
     for _ in 0..5u8 {
-        let begin = Instant::now(&rt)?;
-        let grid = CostGrid::make(
-            rt.alloc(),
-            Station::Msf,
-            &tunings,
-            &table,
-            &logs,
-            0,
-            0,
-            1200,
-        )?;
-        let microseconds = begin.elapsed(&rt)?.as_micros();
-        println!(rt; "{microseconds} microseconds")?;
-        assert_eq!(rt; grid.cost(998, 16), 4000);
-        assert_eq!(rt; grid.cost(1000, 16), 0, "after the end of the log");
+        let (heard, after) = costs_of_the_largest(&rt, &logs)?;
+        assert_eq!(rt; heard, 4000);
+        assert_eq!(rt; after, 0, "after the end of the log");
     }
     Ok(())
+}
+
+// Three minutes of one of them from a millisecond on.
+fn three_minutes(
+    alloc: Global,
+    table: &CostTable,
+    logs: &[Log],
+    start: u64,
+) -> Result<CostGrid, Fail>
+    requires priced { IsPriced table.now }
+    requires logs { length logs.now ≡ 1 }
+    requires start { start ≤ 60000 }
+    ensures slots { IfOk result (λ grid. length grid.rows ≡ 180) }
+    ensures receivers { IfOk result (λ grid. grid.receivers ≡ 1) }
+{
+    Ok(CostGrid::make(alloc, Station::Msf, &[PLAIN], table, logs, start, 0, 180)?)
+}
+
+// What some of their seconds cost: the first, those before and behind two minutes, and the last.
+fn costs_of_four(grid: &CostGrid) -> [u32; 4]
+    requires { length grid.now.rows ≡ 180 }
+{
+    [
+        grid.cost(0, 16),
+        grid.cost(119, 16),
+        grid.cost(120, 16),
+        grid.cost(179, 16),
+    ]
+}
+
+// What seconds cost of a grid that is moved by a minute, and of one that is made there.
+fn moved_and_made(rt: &HostRuntime, logs: &[Log]) -> Result<([u32; 4], [u32; 4]), Fail>
+    requires { length logs.now ≡ 1 }
+{
+    let table = CostTable::default();
+    let mut moved = three_minutes(rt.alloc(), &table, logs, 0)?;
+    let begin = Instant::now(rt)?;
+    moved.advance(&[PLAIN], &table, logs, 0, 0, 60);
+    let advancing = begin.elapsed(rt)?.as_nanos();
+    let begin = Instant::now(rt)?;
+    let made = three_minutes(rt.alloc(), &table, logs, 60_000)?;
+    let making = begin.elapsed(rt)?.as_nanos();
+    println!(rt; "{advancing} nanoseconds to move, {making} to make")?;
+    Ok((costs_of_four(&moved), costs_of_four(&made)))
 }
 
 // Three minutes of such a log at one receiver, moved by a minute and made anew: a second costs 500 throughout. `bench/grid` reads what
 // is printed.
 #[test]
 fn grids_moved_by_a_minute(rt: HostRuntime) -> Result<(), Fail> {
-    let text = largest_text(rt.alloc())?;
-    let tunings = [Tuning {
-        delay: 0,
-        weight: 1,
-    }];
-    let logs = [log_in(&rt, text.as_slice())?];
-    let table = CostTable::default();
-    let msf = Station::Msf;
+    let logs = largest_logs(&rt, 1)?;
+    assert!(rt; logs.len() == 1);
     for _ in 0..5u8 {
-        let mut moved = CostGrid::make(rt.alloc(), msf, &tunings, &table, &logs, 0, 0, 180)?;
-        let begin = Instant::now(&rt)?;
-        moved.advance(&tunings, &table, &logs, 0, 0, 60);
-        let advancing = begin.elapsed(&rt)?.as_nanos();
-        let begin = Instant::now(&rt)?;
-        let made = CostGrid::make(rt.alloc(), msf, &tunings, &table, &logs, 60_000, 0, 180)?;
-        let making = begin.elapsed(&rt)?.as_nanos();
-        println!(rt; "{advancing} nanoseconds to move, {making} to make")?;
-        for slot in [0, 119, 120, 179] {
-            assert_eq!(rt; moved.cost(slot, 16), 500);
-            assert_eq!(rt; made.cost(slot, 16), 500);
-        }
+        let costs = moved_and_made(&rt, &logs)?;
+        assert_eq!(rt; costs, ([500; 4], [500; 4]));
     }
     Ok(())
 }

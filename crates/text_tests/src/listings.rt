@@ -5,6 +5,8 @@ use bank_files::{Failed, Files};
 use civil::{Civil, parse_minute};
 use sequence::telegram;
 use signal_base::Station;
+use std::alloc::Global;
+use std::process::Abort;
 use std::test::Fail;
 use texts::write_listing;
 
@@ -62,14 +64,33 @@ fn list<F: Files>(
     Some(write_listing(files, civil, station, t, leap))
 }
 
+// What becomes of a listing that is written by one call, and whether it is this text.
+fn listed(
+    alloc: Global,
+    civil: &Civil,
+    station: Station,
+    minute: &str,
+    leap: bool,
+    text: &str,
+) -> Result<(Option<Result<(), Failed>>, bool), Fail> {
+    let mut files = one_call(alloc)?;
+    let written = list(&mut files, civil, station, minute, leap);
+    Ok((written, printed(&files, text)))
+}
+
+fn lists_minutes(rt: &(impl Abort + AllocGlobal), civil: &Civil) -> Result<(), Fail> {
+    for (station, minute, leap, text) in &LISTINGS {
+        assert_eq!(rt;
+            listed(rt.alloc(), civil, *station, minute, *leap, text)?,
+            (Some(Ok(())), true),
+            "{minute}"
+        );
+    }
+    Ok(())
+}
+
 #[test]
 fn lists_minutes_by_one_append(rt: HostRuntime) -> Result<(), Fail> {
     let civil = Civil::make(rt.alloc())?;
-    for (station, minute, leap, text) in LISTINGS {
-        let mut files = one_call(rt.alloc())?;
-        let written = list(&mut files, &civil, station, minute, leap);
-        assert_eq!(rt; written, Some(Ok(())), "{minute}");
-        assert!(rt; printed(&files, text), "{minute}");
-    }
-    Ok(())
+    lists_minutes(&rt, &civil)
 }

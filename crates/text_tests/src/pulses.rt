@@ -2,8 +2,9 @@
 
 use crate::made::log_in;
 use formats::LOG_LIMIT;
-use pulse_log::{Level, LogFault};
+use pulse_log::{Level, Log, LogFault};
 use std::alloc::{AllocError, Global};
+use std::process::Abort;
 use std::test::Fail;
 
 // A text of this many records, `0 H` to `n - 1 H`.
@@ -16,73 +17,107 @@ fn records_text(alloc: Global, n: u32) -> Result<Vec<u8>, AllocError> {
     Ok(text)
 }
 
+// What is wrong with a text.
+fn fault_in(rt: &(impl Abort + AllocGlobal), text: &[u8]) -> Option<LogFault> {
+    log_in(rt, text).err()
+}
+
+fn fault_of_records(
+    rt: &(impl Abort + AllocGlobal),
+    n: u32,
+) -> Result<Option<LogFault>, AllocError> {
+    let many = records_text(rt.alloc(), n)?;
+    Ok(fault_in(rt, &many))
+}
+
+fn fault_of_digits(
+    rt: &(impl Abort + AllocGlobal),
+    count: usize,
+) -> Result<Option<LogFault>, AllocError> {
+    let digits = vec![in rt.alloc(); b'7'; count]?;
+    Ok(fault_in(rt, &digits))
+}
+
+const SHAPE: LogFault = LogFault::Shape { line: 1 };
+
+const REFUSED: [(&str, LogFault); 9] = [
+    ("12 L\n12 H\n", LogFault::NotRising { line: 2 }),
+    ("0 H\n0 L\n", LogFault::NotRising { line: 2 }),
+    ("# x\n\n5 H\n4 Q", LogFault::Shape { line: 4 }),
+    ("012 L\n", SHAPE),
+    ("1000000000000 H\n", SHAPE),
+    ("5  H\n", SHAPE),
+    ("5 h\n", SHAPE),
+    ("+5 H\n", SHAPE),
+    ("5 H\r\r\n", SHAPE),
+];
+
 #[test]
 fn refuses_the_first_bad_line(rt: HostRuntime) -> Result<(), Fail> {
-    let many = records_text(rt.alloc(), 200_001)?;
-    let digits = vec![in rt.alloc(); b'7'; 7_999_999]?;
-    let shape = LogFault::Shape { line: 1 };
-    let refused = [
-        (b"12 L\n12 H\n".as_slice(), LogFault::NotRising { line: 2 }),
-        (b"0 H\n0 L\n", LogFault::NotRising { line: 2 }),
-        (b"# x\n\n5 H\n4 Q", LogFault::Shape { line: 4 }),
-        (b"012 L\n", shape),
-        (b"1000000000000 H\n", shape),
-        (b"5  H\n", shape),
-        (b"5 h\n", shape),
-        (b"+5 H\n", shape),
-        (b"5 H\r\r\n", shape),
-        (digits.as_slice(), shape),
-        (many.as_slice(), LogFault::TooManyRecords { line: 200_001 }),
-    ];
-    for (text, fault) in refused {
-        assert_eq!(rt;
-            log_in(&rt, text).err(),
-            Some(fault),
-            "a text of {} bytes",
-            text.len()
-        );
+    for (text, fault) in &REFUSED {
+        assert_eq!(rt; fault_in(&rt, text.as_bytes()), Some(*fault), "{text}");
     }
+    assert_eq!(rt; fault_of_digits(&rt, 7_999_999)?, Some(SHAPE));
+    assert_eq!(rt;
+        fault_of_records(&rt, 200_001)?,
+        Some(LogFault::TooManyRecords { line: 200_001 })
+    );
+    Ok(())
+}
+
+fn has_records(rt: &impl Abort, log: &Log, records: &[(u64, Level)]) {
+    assert_eq!(rt; log.len(), records.len());
+    for i in 0..log.len() {
+        assert_eq!(rt; Some(log.entry(i)), records.get(i).copied());
+    }
+}
+
+fn reads(
+    rt: &(impl Abort + AllocGlobal),
+    text: &[u8],
+    records: &[(u64, Level)],
+) -> Result<(), LogFault> {
+    let log = log_in(rt, text)?;
+    has_records(rt, &log, records);
+    Ok(())
+}
+
+// A comment that is as long as a log may be has no records.
+fn reads_a_comment(rt: &(impl Abort + AllocGlobal)) -> Result<(), Fail> {
+    let comment = vec![in rt.alloc(); b'#'; LOG_LIMIT as usize]?;
+    reads(rt, &comment, &[])?;
     Ok(())
 }
 
 #[test]
 fn reads_each_log(rt: HostRuntime) -> Result<(), Fail> {
-    let comment = vec![in rt.alloc(); b'#'; LOG_LIMIT as usize]?;
-    let accepted = [
-        (
-            b"5 H\r\n7 L".as_slice(),
-            [(5, Level::High), (7, Level::Low)].as_slice(),
-        ),
-        (
-            b"#\xff\n\r\n999999999999 H\n",
-            [(999_999_999_999, Level::High)].as_slice(),
-        ),
-        (comment.as_slice(), [].as_slice()),
-    ];
-    for (text, records) in accepted {
-        let log = log_in(&rt, text)?;
-        assert_eq!(rt; log.len(), records.len());
-        for i in 0..log.len() {
-            assert_eq!(rt; Some(log.entry(i)), records.get(i).copied());
-        }
-    }
+    reads(&rt, b"5 H\r\n7 L", &[(5, Level::High), (7, Level::Low)])?;
+    reads(
+        &rt,
+        b"#\xff\n\r\n999999999999 H\n",
+        &[(999_999_999_999, Level::High)],
+    )?;
+    reads_a_comment(&rt)?;
     Ok(())
 }
 
-#[test]
-fn looks_up(rt: HostRuntime) -> Result<(), Fail> {
-    let log = log_in(&rt, b"100 L\n300 H\n350 X\n400 L\n500 H\n")?;
-    for (ms, level) in [
-        (99, Level::Unknown),
-        (100, Level::Low),
-        (299, Level::Low),
-        (300, Level::High),
-        (399, Level::Unknown),
-        (499, Level::Low),
-        (500, Level::Unknown),
-    ] {
-        assert_eq!(rt; log.level(ms), level, "at {ms}");
+const LEVELS: [(u64, Level); 7] = [
+    (99, Level::Unknown),
+    (100, Level::Low),
+    (299, Level::Low),
+    (300, Level::High),
+    (399, Level::Unknown),
+    (499, Level::Low),
+    (500, Level::Unknown),
+];
+
+fn tells_levels(rt: &impl Abort, log: &Log) {
+    for (ms, level) in &LEVELS {
+        assert_eq!(rt; log.level(*ms), *level, "at {ms}");
     }
+}
+
+fn tells_low_milliseconds(rt: &impl Abort, log: &Log) {
     for (from, to, low) in [
         (100, 350, Some(200)),
         (250, 320, Some(50)),
@@ -94,5 +129,12 @@ fn looks_up(rt: HostRuntime) -> Result<(), Fail> {
     ] {
         assert_eq!(rt; log.low_ms(from, to), low, "from {from} to {to}");
     }
+}
+
+#[test]
+fn looks_up(rt: HostRuntime) -> Result<(), Fail> {
+    let log = log_in(&rt, b"100 L\n300 H\n350 X\n400 L\n500 H\n")?;
+    tells_levels(&rt, &log);
+    tells_low_milliseconds(&rt, &log);
     Ok(())
 }

@@ -31,28 +31,31 @@ fn reads_queries(rt: HostRuntime) -> Result<(), Fail> {
     Ok(())
 }
 
+// Texts, and the line that is refused.
+const REFUSED: [(&str, u32); 15] = [
+    ("0\n00\n", 2),
+    ("\n", 1),
+    ("7", 1),
+    ("7\n8", 2),
+    ("7\n\n8\n", 2),
+    ("1000000000000\n", 1),
+    ("0999999999999\n", 1),
+    ("+7\n", 1),
+    ("-7\n", 1),
+    ("7 \n", 1),
+    (" 7\n", 1),
+    ("7\r\n", 1),
+    ("3\n12a\n", 2),
+    ("3\n4\n\0\n", 3),
+    ("99999999999999999999999999\n", 1),
+];
+
 #[test]
 fn refuses_lines(rt: HostRuntime) -> Result<(), Fail> {
-    for (text, line) in [
-        (b"0\n00\n".as_slice(), 2),
-        (b"\n", 1),
-        (b"7", 1),
-        (b"7\n8", 2),
-        (b"7\n\n8\n", 2),
-        (b"1000000000000\n", 1),
-        (b"0999999999999\n", 1),
-        (b"+7\n", 1),
-        (b"-7\n", 1),
-        (b"7 \n", 1),
-        (b" 7\n", 1),
-        (b"7\r\n", 1),
-        (b"3\n12a\n", 2),
-        (b"3\n4\n\0\n", 3),
-        (b"99999999999999999999999999\n", 1),
-    ] {
-        let read = read_queries(rt.alloc(), text);
+    for (text, line) in &REFUSED {
+        let read = read_queries(rt.alloc(), text.as_bytes());
         assert!(rt;
-            read.is_err_and(|fault| fault == QueryFault::Shape { line }),
+            read.is_err_and(|fault| fault == QueryFault::Shape { line: *line }),
             "{line}"
         );
     }

@@ -2,7 +2,9 @@
 //! the words that its reference code prints for state 42 and stream 54, and the stations' descriptions.
 
 use civil::Civil;
+use definitions::Sequence;
 use signal_base::Station;
+use std::process::Abort;
 use std::test::Fail;
 use trial_log::{Trial, make};
 
@@ -85,27 +87,57 @@ fn is_heard(trial: &Trial, expected: &Expected) -> bool {
         && sum == expected.sum
 }
 
-#[test]
-fn makes_logs_of_each_station(rt: HostRuntime) -> Result<(), Fail> {
-    let civil = Civil::make(rt.alloc())?;
+// The station of a number's trial, how many receivers heard it, and whether the expected log is one of theirs.
+fn heard_of(
+    rt: &(impl Abort + AllocGlobal),
+    civil: &Civil,
+    expected: &Expected,
+) -> Result<(Station, usize, bool), Fail> {
+    let trial = make(rt.alloc(), civil, expected.number)?;
+    Ok((trial.station, trial.logs.len(), is_heard(&trial, expected)))
+}
+
+fn makes_logs_of_each_station(rt: &(impl Abort + AllocGlobal), civil: &Civil) -> Result<(), Fail> {
     for expected in &LOGS {
-        let trial = make(rt.alloc(), &civil, expected.number)?;
-        assert_eq!(rt; trial.station, expected.station);
-        assert_eq!(rt; trial.logs.len(), expected.receivers);
-        assert!(rt; is_heard(&trial, expected), "{}", expected.number);
+        let (station, receivers, heard) = heard_of(rt, civil, expected)?;
+        assert_eq!(rt; station, expected.station);
+        assert_eq!(rt; receivers, expected.receivers);
+        assert!(rt; heard, "{}", expected.number);
+    }
+    Ok(())
+}
+
+// Numbers, and the minute and the second that are sent first.
+const SENT: [(u32, u32, u8); 3] = [(0, 0, 0), (5, 5_000_015, 5), (u32::MAX, 2_121_885, 15)];
+
+// What the trial of a number sends, and in how many seconds.
+fn sent(
+    rt: &(impl Abort + AllocGlobal),
+    civil: &Civil,
+    number: u32,
+) -> Result<(Sequence, u16), Fail> {
+    let trial = make(rt.alloc(), civil, number)?;
+    Ok((trial.sequence, trial.seconds))
+}
+
+fn sends_from_the_minute_and_second_of_a_number(
+    rt: &(impl Abort + AllocGlobal),
+    civil: &Civil,
+) -> Result<(), Fail> {
+    for (number, first, second) in &SENT {
+        let (sequence, seconds) = sent(rt, civil, *number)?;
+        assert_eq!(rt; sequence.first, *first);
+        assert_eq!(rt; sequence.second, *second);
+        assert!(rt; !sequence.announced);
+        assert_eq!(rt; seconds, 1_200);
     }
     Ok(())
 }
 
 #[test]
-fn sends_from_the_minute_and_second_of_a_number(rt: HostRuntime) -> Result<(), Fail> {
+fn trials_and_their_logs(rt: HostRuntime) -> Result<(), Fail> {
     let civil = Civil::make(rt.alloc())?;
-    for (number, first, second) in [(0, 0, 0), (5, 5_000_015, 5), (u32::MAX, 2_121_885, 15)] {
-        let trial = make(rt.alloc(), &civil, number)?;
-        assert_eq!(rt; trial.sequence.first, first);
-        assert_eq!(rt; trial.sequence.second, second);
-        assert!(rt; !trial.sequence.announced);
-        assert_eq!(rt; trial.seconds, 1_200);
-    }
+    makes_logs_of_each_station(&rt, &civil)?;
+    sends_from_the_minute_and_second_of_a_number(&rt, &civil)?;
     Ok(())
 }
