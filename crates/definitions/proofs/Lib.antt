@@ -11,6 +11,7 @@ pub mod ListingLaws
 pub mod CheckLaws
 pub mod SetLaws
 pub mod CenturyLaws
+pub mod LastDay
 pub mod SeasonLaws
 pub mod PhaseLaws
 pub mod Dut1Laws

@@ -1,5 +1,5 @@
 -- European summer time lies between its two changes.
-use Rattle.std.proofs.Common.{◌≡◌, ℕ, ◌+◌, ◌-◌, ◌/◌, ◌%◌, ◌<◌, ◌≤◌, Bool, true, false, ◌&&◌, ◌==◌, nat_lt, nat_le, if◌then◌else◌, refl, sym, ap, ◌∙◌, subst, arith, add-one, eqb-true, eq-eqb}
+use Rattle.std.proofs.Common.{◌≡◌, ℕ, ◌+◌, ◌-◌, ◌*◌, ◌/◌, ◌%◌, ◌<◌, ◌≤◌, Bool, true, false, ◌&&◌, ◌||◌, ◌==◌, [], ◌∷◌, nat_lt, nat_le, if◌then◌else◌, refl, sym, ap, ◌∙◌, subst, arith, add-one, eqb-true, eq-eqb}
 use Rattle.std.proofs.lemmas.Bool.{and_parts, ltb-true, ltb-false, leb-true}
 use Rattle.std.proofs.lemmas.Bool.Decides.{nat_tests}
 use Rattle.definitions.specs.declared.day.Day.{Day}
@@ -90,6 +90,15 @@ has_summer i few = record {
   always = λ t lt y from to. always i t few lt y _ refl from to;
 }
 
+-- a day of the year 2000 + i: the season as it begins, whether a change stands on it, the season behind that
+pub around_european : (i n : ℕ) → n < 36525 → year_begin i ≤ n → n < year_begin (i + 1)
+    → (state n).1 ∷ (is_last_sunday 3 (day_at n) || is_last_sunday 10 (day_at n)) ∷ (state (n + 1)).1 ∷ []
+    ≡ (nat_lt (march_day i) n && nat_le n (october_day i)) ∷ (n == march_day i || n == october_day i) ∷ later n (march_day i) (october_day i) ∷ []
+around_european i n lt from to =
+    let k = known n lt in
+    let year : (day_at n).year - 2000 ≡ i = omega (arith, year_of i n lt from to) in
+    rw (later_is n lt, k.season, k.begins_on, k.ends_on, year) refl
+
 pub european_summer_lies_between_its_changes : (year : ℕ) → 2000 ≤ year → year < 2100 → (march : ℕ) × (october : ℕ) × HasSummer year march october
 european_summer_lies_between_its_changes year from to =
     let i = year - 2000 in
@@ -115,6 +124,19 @@ us_code_is i t few lt of_year =
     let k = us_known (t / 1440) (omega arith) in
     let at : (day_at (t / 1440)).year - 2000 ≡ i = omega (arith, of_year) in
     rw (day_of_state us_begins us_ends us_first us_last (t / 1440), k.begins_on, k.ends_on, k.season, at) (coded (t / 1440) (us_first i) (us_last i) (us_order i few).1.0)
+
+-- WWVB's two bits on the day before, on this day and on the day after, all of them in the year 2000 + i
+pub around_american : (i n : ℕ) → i < 100 → year_begin i < n → n + 1 < year_begin (i + 1)
+    → us_code ((n - 1) * 1440) ∷ us_code (n * 1440) ∷ us_code ((n + 1) * 1440) ∷ []
+    ≡ american_code (us_first i) (us_last i) (n - 1) ∷ american_code (us_first i) (us_last i) n ∷ american_code (us_first i) (us_last i) (n + 1) ∷ []
+around_american i n few from to =
+    rw (on (n - 1) (omega arith) (omega arith), on n (omega arith) (omega arith), on (n + 1) (omega arith) (omega arith)) refl
+  where
+    on : (m : ℕ) → year_begin i ≤ m → m < year_begin (i + 1) → us_code (m * 1440) ≡ american_code (us_first i) (us_last i) m
+    on m first last =
+        let there : m * 1440 / 1440 ≡ m = omega arith in
+        let year : (day_at (m * 1440 / 1440)).year ≡ 2000 + i = rw there (year_of i m (omega arith) first last) in
+        us_code_is i (m * 1440) few (omega arith) year ∙ ap (american_code (us_first i) (us_last i)) there
 
 us_summer : (i : ℕ) → i < 100 → HasAmericanSummer (2000 + i) (us_first i) (us_last i)
 us_summer i few =

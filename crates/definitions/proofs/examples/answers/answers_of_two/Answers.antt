@@ -1,5 +1,5 @@
 -- Answers over two sequences.
-use Rattle.std.proofs.Common.{◌≡◌, ◌≢◌, ℕ, ◌<◌, ◌≤◌, inl, inr, refl, ap, arith}
+use Rattle.std.proofs.Common.{◌≡◌, ◌≢◌, ◌≤◌, inl, inr, refl, ap, arith}
 use Rattle.definitions.specs.declared.sequence.Sequence.{Sequence}
 use Rattle.definitions.specs.sequences.Keys.{key_of}
 use Rattle.definitions.specs.examples.Sequences.{IsEither, from_place}

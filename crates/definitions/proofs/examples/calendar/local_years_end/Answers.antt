@@ -1,21 +1,38 @@
 -- Years that end.
-use Rattle.std.proofs.Common.{refl}
-use Rattle.definitions.specs.time.Calendar.{day_at}
-use Rattle.definitions.specs.time.Summer.{season_at}
+use Rattle.std.proofs.Common.{◌≡◌, ◌∙◌, ◌∷◌, ◌-◌, [], ℕ, Bool, true, false, nat_lt, is_some, if◌then◌else◌, Some, None, ap}
+use Rattle.definitions.specs.declared.zone.Zone.{Zone}
+use Rattle.definitions.specs.declared.zone.Zone.TheVariants.{CentralEurope, Japan, Uk, Utc}
+use Rattle.definitions.specs.time.Calendar.{century_minutes}
+use Rattle.definitions.specs.time.Zones.{local_fields, zone_fields}
+use Rattle.definitions.proofs.LastDay.{as_in_winter, year_behind_it, year_of_the_last}
 use Rattle.definitions.proofs.examples.calendar.local_years_end.Goals as goal
 
+told : (zone : Zone) (t : ℕ) → (zone_fields zone t).year ≡ 2099 → is_some (local_fields zone t) ≡ true
+told zone t e =
+    ap (λ (year : ℕ). is_some (if nat_lt year 2100 then Some (zone_fields zone t) else None)) e
+
+untold : (zone : Zone) (t : ℕ) → (zone_fields zone t).year ≡ 2100 → is_some (local_fields zone t) ≡ false
+untold zone t e =
+    ap (λ (year : ℕ). is_some (if nat_lt year 2100 then Some (zone_fields zone t) else None)) e
+
+both : (zone : Zone) (last next : ℕ) → (zone_fields zone last).year ≡ 2099 → (zone_fields zone next).year ≡ 2100
+    → is_some (local_fields zone last) ∷ is_some (local_fields zone next) ∷ [] ≡ true ∷ false ∷ []
+both zone last next a b =
+    ap (λ (x : Bool). x ∷ is_some (local_fields zone next) ∷ []) (told zone last a)
+    ∙ ap (λ (x : Bool). true ∷ x ∷ []) (untold zone next b)
+
 pub returns-clause-utc : goal.returns-clause-utc
-unfolding day_at season_at
-returns-clause-utc c = refl
+returns-clause-utc c = both Utc (century_minutes - 1) century_minutes year_of_the_last year_behind_it
 
 pub returns-clause-europe : goal.returns-clause-europe
-unfolding day_at season_at
-returns-clause-europe c = refl
+returns-clause-europe c =
+    both CentralEurope (century_minutes - 61) (century_minutes - 60)
+    (as_in_winter (century_minutes - 61) 120 60 ∙ year_of_the_last) (as_in_winter (century_minutes - 60) 120 60 ∙ year_behind_it)
 
 pub returns-clause-uk : goal.returns-clause-uk
-unfolding day_at season_at
-returns-clause-uk c = refl
+returns-clause-uk c =
+    both Uk (century_minutes - 1) century_minutes
+    (as_in_winter (century_minutes - 1) 60 0 ∙ year_of_the_last) (as_in_winter century_minutes 60 0 ∙ year_behind_it)
 
 pub returns-clause-japan : goal.returns-clause-japan
-unfolding day_at season_at
-returns-clause-japan c = refl
+returns-clause-japan c = both Japan (century_minutes - 541) (century_minutes - 540) year_of_the_last year_behind_it
