@@ -15,9 +15,6 @@ use bank_files::{Failed, Files, OUTPUT};
 use std::alloc::Global;
 use std::io;
 
-#[cfg(test)]
-mod tests;
-
 /// The files of a machine by their names, and its standard output under the name `-`. What is told of a file is
 /// what the machine's disk tells. One count of faults serves for all names, for reading and for writing: it is
 /// raised at each failure of the machine, and stands still at the greatest u64.
