@@ -1,6 +1,7 @@
 //! Texts of certificates that are read byte by byte: one that can be read, and where others first go wrong. Which lines may stand
 //! where is worked out by hand from docs/FORMATS.md.
 
+use crate::made::{check_at, check_row};
 use certificate_texts::{BadLine, Reader, Told, step_line};
 use certificates::{CertificateLineFault, Kind, Line};
 use definitions::{Block, Span};
@@ -74,7 +75,7 @@ fn bad_line_with(alloc: Global, number: u32, line: &str) -> Result<Option<BadLin
 }
 
 fn reads_a_text(rt: &impl Abort, bytes: &[u8]) {
-    assert_eq!(rt; read(bytes), (None, 3));
+    assert!(rt; read(bytes) == (None, 3));
 }
 
 // Each line may be one of these too.
@@ -103,7 +104,11 @@ fn reads_other_lines(rt: HostRuntime) -> Result<(), Fail> {
         } else {
             None
         };
-        assert_eq!(rt; bad_line_with(rt.alloc(), *number, line)?, wanted, "{line}");
+        check_row(
+            &rt,
+            bad_line_with(rt.alloc(), *number, line)? == wanted,
+            line,
+        );
     }
     Ok(())
 }
@@ -167,11 +172,8 @@ const BAD_LINES: [(u32, &str); 52] = [
 #[test]
 fn refuses_other_lines(rt: HostRuntime) -> Result<(), Fail> {
     for (number, line) in &BAD_LINES {
-        assert_eq!(rt;
-            bad_line_with(rt.alloc(), *number, line)?,
-            shape_at(*number),
-            "{line}"
-        );
+        let found = bad_line_with(rt.alloc(), *number, line)?;
+        check_row(&rt, found == shape_at(*number), line);
     }
     Ok(())
 }
@@ -180,11 +182,8 @@ fn refuses_other_lines(rt: HostRuntime) -> Result<(), Fail> {
 fn refuses_a_text_that_is_cut(rt: &impl Abort, bytes: &[u8]) {
     let mut lines: u32 = 0;
     for (i, byte) in bytes.iter().enumerate() {
-        assert_eq!(rt;
-            read(&bytes[..i]).0,
-            shape_at(lines.saturating_add(1)),
-            "byte {i}"
-        );
+        let found = read(&bytes[..i]).0;
+        check_at(rt, found == shape_at(lines.saturating_add(1)), i as u64);
         if *byte == b'\n' && lines < 1_000 {
             lines = lines.saturating_add(1);
         }
@@ -202,14 +201,18 @@ fn a_text_whole_and_cut(rt: HostRuntime) -> Result<(), Fail> {
 // What is read of the text with more behind it.
 fn read_with_more(alloc: Global, more: &str) -> Result<(Option<BadLine>, usize), AllocError> {
     let mut text = text_with(alloc, 0, "")?;
-    write!(text, "{more}")?;
+    text.push_str(more)?;
     Ok(read(text.as_bytes()))
 }
 
 #[test]
 fn refuses_what_comes_behind_the_end(rt: HostRuntime) -> Result<(), Fail> {
     for more in &["\n", "x", "\0", "end\n"] {
-        assert_eq!(rt; read_with_more(rt.alloc(), more)?, (shape_at(17), 3));
+        check_row(
+            &rt,
+            read_with_more(rt.alloc(), more)? == (shape_at(17), 3),
+            more,
+        );
     }
     Ok(())
 }
@@ -222,11 +225,11 @@ fn read_many(alloc: Global, byte: u8) -> Result<(Option<BadLine>, usize), AllocE
 
 #[test]
 fn refuses_bytes(rt: HostRuntime) -> Result<(), Fail> {
-    assert_eq!(rt; read(b""), (shape_at(1), 0));
-    assert_eq!(rt; read(&[255, 10]), (shape_at(1), 0));
-    assert_eq!(rt; read(&[0, 10]), (shape_at(1), 0));
+    for bytes in [b"".as_slice(), &[255, 10], &[0, 10]] {
+        assert!(rt; read(bytes) == (shape_at(1), 0));
+    }
     for byte in b"x\n" {
-        assert_eq!(rt; read_many(rt.alloc(), *byte)?, (shape_at(1), 0));
+        assert!(rt; read_many(rt.alloc(), *byte)? == (shape_at(1), 0));
     }
     Ok(())
 }
@@ -312,16 +315,17 @@ fn first_step_with(alloc: Global, line: &str) -> Result<Option<Line>, AllocError
     Ok(first_step(text.as_bytes()))
 }
 
+fn is_written_as(step: &Line, text: &str) -> bool {
+    let line = step_line(step);
+    line.as_str().trim_end() == text
+}
+
 #[test]
 fn writes_what_it_reads(rt: HostRuntime) -> Result<(), Fail> {
     for (text, step) in &STEPS {
-        let line = step_line(step);
-        assert_eq!(rt; line.as_str().trim_end(), *text);
-        assert_eq!(rt;
-            first_step_with(rt.alloc(), text)?.as_ref(),
-            Some(step),
-            "{text}"
-        );
+        check_row(&rt, is_written_as(step, text), text);
+        let found = first_step_with(rt.alloc(), text)?;
+        check_row(&rt, found == Some(*step), text);
     }
     Ok(())
 }

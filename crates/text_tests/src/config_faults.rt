@@ -1,7 +1,5 @@
 //! Configurations with one fault, and with each two faults: the one that is judged first decides.
 
-ghost use Rattle.std.specs.Prelude.{◌<◌};
-
 use crate::configurations::{fault_in, list, missing, out_of_range, wrong_kind};
 use bank_config::{ConfigFault, Key};
 use std::alloc::{AllocError, Global};
@@ -100,6 +98,29 @@ fn push_part<'a>(
 // The places before the first header.
 const AT_THE_TOP: [usize; 5] = [STATION, CEILING, UNKNOWN, TABLE, RECEIVER];
 
+// The other parts: the place where another value may stand for all of it, the header, and the places below that.
+const PARTS: [(usize, &str, &[usize]); 4] = [
+    (RECEIVER, "[[receiver]]\n", &FIRST),
+    (RECEIVER, "[[receiver]]\n", &SECOND),
+    (RECEIVER, "", &[UNKNOWN_OF_RECEIVER]),
+    (TABLE, "[table]\n", &[LOW, HIGH, UNKNOWN_OF_TABLE]),
+];
+
+// Adds the lines of each part.
+fn push_parts<'a>(
+    text: &mut String,
+    first: BadLine<'a>,
+    second: BadLine<'a>,
+) -> Result<(), AllocError> {
+    for place in &AT_THE_TOP {
+        text.push_str(line_at(*place, first, second))?;
+    }
+    for (whole, header, places) in &PARTS {
+        push_part(text, first, second, *whole, header, places)?;
+    }
+    Ok(())
+}
+
 // The configuration with these two faults.
 fn text_of<'a>(
     alloc: Global,
@@ -107,16 +128,7 @@ fn text_of<'a>(
     second: BadLine<'a>,
 ) -> Result<String, AllocError> {
     let mut text = String::new(alloc);
-    for place in &AT_THE_TOP {
-        text.push_str(line_at(*place, first, second))?;
-    }
-    let header = "[[receiver]]\n";
-    push_part(&mut text, first, second, RECEIVER, header, &FIRST)?;
-    push_part(&mut text, first, second, RECEIVER, header, &SECOND)?;
-    let unknown = [UNKNOWN_OF_RECEIVER];
-    push_part(&mut text, first, second, RECEIVER, "", &unknown)?;
-    let table = [LOW, HIGH, UNKNOWN_OF_TABLE];
-    push_part(&mut text, first, second, TABLE, "[table]\n", &table)?;
+    push_parts(&mut text, first, second)?;
     Ok(text)
 }
 
@@ -219,9 +231,6 @@ const UNKNOWN_LINES: [(usize, &str); 3] = [
     (UNKNOWN_OF_TABLE, "x = 1\n"),
 ];
 
-// How many there are, with those of two receivers.
-const BAD_LINES: usize = 65;
-
 fn fault_at(wrong: Wrong, key: Key) -> ConfigFault {
     match wrong {
         Wrong::Missing => missing(key),
@@ -230,60 +239,89 @@ fn fault_at(wrong: Wrong, key: Key) -> ConfigFault {
     }
 }
 
-// Of a receiver whose lines have these places.
-fn bad_of_receiver<'a>(at: [usize; 5], receiver: u8, n: usize) -> BadLine<'a>
-    requires { n < 21 }
-{
-    let lines = &BAD_OF_RECEIVER;
-    let (value, line, wrong) = lines[n];
-    let (place, key) = match value {
-        NAME => (at[0], Key::Name { receiver }),
-        FILE => (at[1], Key::File { receiver }),
-        DELAY => (at[2], Key::Delay { receiver }),
-        WEIGHT => (at[3], Key::Weight { receiver }),
-        _ => (at[4], Key::ReceiverStation { receiver }),
-    };
-    BadLine {
-        place,
-        line,
-        fault: fault_at(wrong, key),
+// Adds what is judged before the receivers.
+fn push_at_the_top<'a>(lines: &mut Vec<BadLine<'a>>) -> Result<(), AllocError> {
+    for (place, line, wrong, key) in &BAD_AT_THE_TOP {
+        let fault = fault_at(*wrong, *key);
+        lines.push(BadLine {
+            place: *place,
+            line,
+            fault,
+        })?;
     }
+    Ok(())
 }
 
-// The n-th of all of them, in the order in which they are judged.
-fn bad_line<'a>(n: usize, low: &'a str, high: &'a str) -> BadLine<'a>
-    requires { n < 65 }
-{
-    if n < 14 {
-        let lines = &BAD_AT_THE_TOP;
-        let (place, line, wrong, key) = lines[n];
-        let fault = fault_at(wrong, key);
-        return BadLine { place, line, fault };
-    }
-    if n < 35 {
-        return bad_of_receiver(FIRST, 1, n - 14);
-    }
-    if n < 56 {
-        return bad_of_receiver(SECOND, 2, n - 35);
-    }
-    if n < 62 {
-        let lines = &BAD_OF_TABLE;
-        let (place, own, wrong, key) = lines[n - 56];
-        let line = match n {
-            59 => low,
-            61 => high,
-            _ => own,
+// Adds what is judged of a receiver whose lines have these places.
+fn push_of_receiver<'a>(
+    lines: &mut Vec<BadLine<'a>>,
+    at: &[usize; 5],
+    receiver: u8,
+) -> Result<(), AllocError> {
+    for (value, line, wrong) in &BAD_OF_RECEIVER {
+        let (place, key) = match *value {
+            NAME => (at[0], Key::Name { receiver }),
+            FILE => (at[1], Key::File { receiver }),
+            DELAY => (at[2], Key::Delay { receiver }),
+            WEIGHT => (at[3], Key::Weight { receiver }),
+            _ => (at[4], Key::ReceiverStation { receiver }),
         };
-        let fault = fault_at(wrong, key);
-        return BadLine { place, line, fault };
+        let fault = fault_at(*wrong, key);
+        lines.push(BadLine { place, line, fault })?;
     }
-    let lines = &UNKNOWN_LINES;
-    let (place, line) = lines[n - 62];
-    BadLine {
-        place,
-        line,
-        fault: ConfigFault::UnknownKey,
+    Ok(())
+}
+
+// Adds what is judged of the cost table, with these lists out of range.
+fn push_of_table<'a>(
+    lines: &mut Vec<BadLine<'a>>,
+    low: &'a str,
+    high: &'a str,
+) -> Result<(), AllocError> {
+    for (place, own, wrong, key) in &BAD_OF_TABLE {
+        let line = if !own.is_empty() {
+            *own
+        } else if *place == LOW {
+            low
+        } else {
+            high
+        };
+        let fault = fault_at(*wrong, *key);
+        lines.push(BadLine {
+            place: *place,
+            line,
+            fault,
+        })?;
     }
+    Ok(())
+}
+
+// Adds what is judged last.
+fn push_unknown<'a>(lines: &mut Vec<BadLine<'a>>) -> Result<(), AllocError> {
+    for (place, line) in &UNKNOWN_LINES {
+        let fault = ConfigFault::UnknownKey;
+        lines.push(BadLine {
+            place: *place,
+            line,
+            fault,
+        })?;
+    }
+    Ok(())
+}
+
+// All of them, in the order in which they are judged.
+fn bad_lines<'a>(
+    alloc: Global,
+    low: &'a str,
+    high: &'a str,
+) -> Result<Vec<BadLine<'a>>, AllocError> {
+    let mut lines = Vec::new(alloc);
+    push_at_the_top(&mut lines)?;
+    push_of_receiver(&mut lines, &FIRST, 1)?;
+    push_of_receiver(&mut lines, &SECOND, 2)?;
+    push_of_table(&mut lines, low, high)?;
+    push_unknown(&mut lines)?;
+    Ok(lines)
 }
 
 // What is told of the configuration with these two faults.
@@ -296,22 +334,30 @@ fn told<'a>(
     Ok(fault_in(rt, text.as_bytes()))
 }
 
+fn first_decides(
+    rt: &(impl Abort + AllocGlobal),
+    first: BadLine<'_>,
+    second: BadLine<'_>,
+) -> Result<(), AllocError> {
+    let fault = told(rt, first, second)?;
+    assert!(rt;
+        fault == Some(first.fault),
+        "{} and {}",
+        first.line,
+        second.line
+    );
+    Ok(())
+}
+
 // Each fault alone, and with each of those that are judged later.
 fn first_of_two_decides(
     rt: &(impl Abort + AllocGlobal),
-    low: &str,
-    high: &str,
+    lines: &[BadLine<'_>],
 ) -> Result<(), AllocError> {
-    for i in 0..BAD_LINES {
-        let first = bad_line(i, low, high);
-        for j in i..BAD_LINES {
-            let second = bad_line(j, low, high);
-            assert!(rt;
-                told(rt, first, second)? == Some(first.fault),
-                "{} and {}",
-                first.line,
-                second.line
-            );
+    for i in 0..lines.len() {
+        let first = lines[i];
+        for second in &lines[i..] {
+            first_decides(rt, first, *second)?;
         }
     }
     Ok(())
@@ -321,7 +367,8 @@ fn first_of_two_decides(
 fn first_fault_decides(rt: HostRuntime) -> Result<(), Fail> {
     let low = list(rt.alloc(), "low", 100, "201")?;
     let high = list(rt.alloc(), "high", 100, "201")?;
-    first_of_two_decides(&rt, &low, &high)?;
+    let lines = bad_lines(rt.alloc(), &low, &high)?;
+    first_of_two_decides(&rt, &lines)?;
     Ok(())
 }
 

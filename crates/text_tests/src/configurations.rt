@@ -1,5 +1,6 @@
 //! Worked configurations, and what becomes of each.
 
+use crate::made::check_row;
 use bank_config::{CONFIG_LIMIT, Config, ConfigFault, Key, Receiver, read_config};
 use signal_base::{CostTable, Station};
 use std::alloc::{AllocError, Global};
@@ -29,14 +30,14 @@ pub(crate) fn out_of_range(key: Key) -> ConfigFault {
 }
 
 // `KEY = [1, 1, ..]` with so many numbers, and then the last.
-pub(crate) fn list(alloc: Global, key: &str, ones: u32, last: &str) -> Result<String, AllocError> {
-    let mut text = format!(in alloc; "{key} = [")?;
-    for _ in 0..ones {
-        text.push_str("1, ")?;
-    }
-    text.push_str(last)?;
-    text.push_str("]\n")?;
-    Ok(text)
+pub(crate) fn list(
+    alloc: Global,
+    key: &str,
+    ones: usize,
+    last: &str,
+) -> Result<String, AllocError> {
+    let ones = "1, ".repeat(alloc, ones)?;
+    format!(in alloc; "{key} = [{ones}{last}]\n")
 }
 
 // What stands before the lists of a cost table.
@@ -46,7 +47,7 @@ const BEFORE_LISTS: &str = "station = \"jjy\"\nreceiver = [{name = \"a\", log = 
 fn fault_of_list(
     rt: &(impl Abort + AllocGlobal),
     key: &str,
-    ones: u32,
+    ones: usize,
     last: &str,
 ) -> Result<Option<ConfigFault>, AllocError> {
     let list = list(rt.alloc(), key, ones, last)?;
@@ -63,7 +64,7 @@ fn fault_of_both_lists(rt: &(impl Abort + AllocGlobal)) -> Result<Option<ConfigF
 }
 
 // A list by its key, how many ones it has, its last number, and what is wrong with it.
-const LISTS: [(&str, u32, &str, Option<ConfigFault>); 9] = [
+const LISTS: [(&str, usize, &str, Option<ConfigFault>); 9] = [
     (
         "low",
         99,
@@ -184,9 +185,10 @@ const UNITS: [(&str, &str, usize); 7] = [
 #[test]
 fn ends_on_a_million_bytes(rt: HostRuntime) -> Result<(), Fail> {
     for (head, unit, count) in &UNITS {
-        assert!(rt;
+        check_row(
+            &rt,
             fault_of_units(&rt, head, unit, *count)?.is_some(),
-            "{unit}"
+            unit,
         );
     }
     assert!(rt; fault_of_units(&rt, "", "#", CONFIG_LIMIT)? == Some(missing(Key::Station)));
@@ -233,10 +235,8 @@ const NAMES_AND_LOGS: [(&str, usize, &str, usize, Option<ConfigFault>); 8] = [
 #[test]
 fn judges_names_and_logs(rt: HostRuntime) -> Result<(), Fail> {
     for (name, times, log, log_times, fault) in &NAMES_AND_LOGS {
-        assert!(rt;
-            fault_of_named(&rt, (name, *times), (log, *log_times))? == *fault,
-            "{name} and {log}"
-        );
+        let found = fault_of_named(&rt, (name, *times), (log, *log_times))?;
+        check_row(&rt, found == *fault, name);
     }
     Ok(())
 }
@@ -279,10 +279,8 @@ fn knows_none(
     behind: &str,
 ) -> Result<(), AllocError> {
     for key in keys {
-        assert!(rt;
-            fault_of_key(rt, before, key, behind)? == Some(ConfigFault::UnknownKey),
-            "{before}{key} = 1\n{behind}"
-        );
+        let fault = fault_of_key(rt, before, key, behind)?;
+        check_row(rt, fault == Some(ConfigFault::UnknownKey), key);
     }
     Ok(())
 }
@@ -305,23 +303,15 @@ fn knows_keys_in_their_places(rt: HostRuntime) -> Result<(), Fail> {
 }
 
 // A list of so many empty tables, behind a comment that is no table.
-fn tables(alloc: Global, count: u32) -> Result<String, AllocError> {
-    let mut text = String::new(alloc);
-    text.push_str(" # ")?;
-    for _ in 0..count {
-        text.push_str("[")?;
-    }
-    text.push_str("\nx = [")?;
-    for _ in 0..count {
-        text.push_str("{},")?;
-    }
-    text.push_str("]\n")?;
-    Ok(text)
+fn tables(alloc: Global, count: usize) -> Result<String, AllocError> {
+    let opened = "[".repeat(alloc, count)?;
+    let empty = "{},".repeat(alloc, count)?;
+    format!(in alloc; " # {opened}\nx = [{empty}]\n")
 }
 
 fn fault_of_tables(
     rt: &(impl Abort + AllocGlobal),
-    count: u32,
+    count: usize,
 ) -> Result<Option<ConfigFault>, AllocError> {
     let text = tables(rt.alloc(), count)?;
     Ok(fault_in(rt, text.as_bytes()))

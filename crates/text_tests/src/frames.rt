@@ -5,7 +5,8 @@ ghost use Rattle.std.specs.Prelude.{◌<◌};
 ghost use Rattle.formats.specs.declared.frame.TheConstants.{FRAME_LIMIT};
 ghost use Rattle.formats.specs.FrameTexts.{IsSecond};
 
-use bank_files::{MemoryFiles, OUTPUT};
+use crate::made::check_at;
+use bank_files::{Failed, MemoryFiles, OUTPUT};
 use civil::Civil;
 use formats::FRAMES_LIMIT;
 use irig_frames::{Frame, FrameFault, elements, read_frames, write_frame};
@@ -43,16 +44,26 @@ fn frame_of(n: u16) -> Frame
     }
 }
 
-// The text of this many of them.
-fn text_of(rt: &(impl Abort + AllocGlobal), civil: &Civil, count: u16) -> Result<Vec<u8>, Fail> {
-    let mut files = MemoryFiles::make(rt.alloc());
+// Writes the first so many of them.
+fn write_frames(files: &mut MemoryFiles, civil: &Civil, count: u16) -> Result<(), Failed> {
     for n in 0..count {
-        write_frame(&mut files, OUTPUT, civil, &frame_of(n))?;
+        write_frame(files, OUTPUT, civil, &frame_of(n))?;
     }
-    let Some(text) = files.contents(OUTPUT) else {
-        return Ok(Vec::new(rt.alloc()));
-    };
-    Ok(text.to_vec(rt.alloc())?)
+    Ok(())
+}
+
+fn written(alloc: Global, files: &MemoryFiles) -> Result<Vec<u8>, AllocError> {
+    match files.contents(OUTPUT) {
+        Some(text) => text.to_vec(alloc),
+        None => Ok(Vec::new(alloc)),
+    }
+}
+
+// The text of this many of them.
+fn text_of(alloc: Global, civil: &Civil, count: u16) -> Result<Vec<u8>, Fail> {
+    let mut files = MemoryFiles::make(alloc);
+    write_frames(&mut files, civil, count)?;
+    Ok(written(alloc, &files)?)
 }
 
 fn elements_of_a_second(rt: &impl Abort, civil: &Civil) {
@@ -65,53 +76,77 @@ fn elements_of_a_second(rt: &impl Abort, civil: &Civil) {
             1 => b'1',
             _ => b'M',
         };
-        assert_eq!(rt; sign, want[i], "element {i}");
+        check_at(rt, sign == want[i], i as u64);
+    }
+}
+
+fn count_of_lines(text: &[u8]) -> usize {
+    text.iter().filter(|byte| **byte == b'\n').count()
+}
+
+fn has_the_first(rt: &impl Abort, frames: &[Frame]) {
+    for n in 0..120 {
+        check_at(rt, frames.get(n as usize) == Some(&frame_of(n)), n as u64);
     }
 }
 
 fn two_minutes_read_again(rt: &impl Abort, text: &[u8], frames: &[Frame]) {
-    assert_eq!(rt; text.iter().filter(|byte| **byte == b'\n').count(), 24_000);
+    assert!(rt; count_of_lines(text) == 24_000);
     assert!(rt; text.starts_with(b"0 H\n8 L\n10 H\n12 L\n"));
-    assert_eq!(rt; frames.len(), 120);
-    for n in 0..120 {
-        assert_eq!(rt; frames.get(n as usize), Some(&frame_of(n)));
+    assert!(rt; frames.len() == 120);
+    has_the_first(rt, frames);
+}
+
+// What becomes of the text where one byte is another.
+fn fault_with(
+    rt: &(impl Abort + AllocGlobal),
+    civil: &Civil,
+    text: &mut [u8],
+    at: usize,
+    byte: u8,
+) -> Option<FrameFault> {
+    assert!(rt; at < text.len());
+    let own = text[at];
+    text[at] = byte;
+    let fault = fault_in(rt, civil, text);
+    text[at] = own;
+    fault
+}
+
+// What becomes of the text without so many bytes at its end.
+fn fault_without(
+    rt: &(impl Abort + AllocGlobal),
+    civil: &Civil,
+    text: &[u8],
+    bytes: usize,
+) -> Option<FrameFault> {
+    assert!(rt; bytes <= text.len());
+    fault_in(rt, civil, &text[..text.len() - bytes])
+}
+
+// Line 2 is `9 L`, and line 4 `15 L`.
+fn refuses_the_first_bad_line(rt: &(impl Abort + AllocGlobal), civil: &Civil, text: &mut [u8]) {
+    let timing = fault_with(rt, civil, text, 4, b'9');
+    assert!(rt; timing == Some(FrameFault::Timing { line: 2 }));
+    let meaning = fault_with(rt, civil, text, 14, b'5');
+    assert!(rt; meaning == Some(FrameFault::Meaning { line: 200 }));
+}
+
+// The last line, `119998 L`, is missing, and then its LF alone.
+fn refuses_a_missing_line(rt: &(impl Abort + AllocGlobal), civil: &Civil, text: &[u8]) {
+    let shape = Some(FrameFault::Shape { line: 24_000 });
+    for (bytes, due) in [(0, None), (9, shape), (1, shape)] {
+        let fault = fault_without(rt, civil, text, bytes);
+        check_at(rt, fault == due, bytes as u64);
     }
 }
 
-fn refuses_the_first_bad_line(rt: &(impl Abort + AllocGlobal), civil: &Civil, text: &mut [u8]) {
-    let end = text.len();
-    assert!(rt; end > 14);
-    // Line 2 is `9 L`.
-    text[4] = b'9';
-    assert_eq!(rt;
-        fault_in(rt, civil, text),
-        Some(FrameFault::Timing { line: 2 })
-    );
-    text[4] = b'8';
-    // Line 4 is `15 L`.
-    text[14] = b'5';
-    assert_eq!(rt;
-        fault_in(rt, civil, text),
-        Some(FrameFault::Meaning { line: 200 })
-    );
-    text[14] = b'2';
-    // The last line, `119998 L`, is missing, and then its LF alone.
-    assert_eq!(rt; fault_in(rt, civil, &text[..end]), None);
-    assert_eq!(rt;
-        fault_in(rt, civil, &text[..end - 9]),
-        Some(FrameFault::Shape { line: 24_000 })
-    );
-    assert_eq!(rt;
-        fault_in(rt, civil, &text[..end - 1]),
-        Some(FrameFault::Shape { line: 24_000 })
-    );
-}
-
 fn two_minutes(rt: &(impl Abort + AllocGlobal), civil: &Civil) -> Result<(), Fail> {
-    let mut text = text_of(rt, civil, 120)?;
+    let mut text = text_of(rt.alloc(), civil, 120)?;
     let frames = read(rt, civil, &text)?;
     two_minutes_read_again(rt, &text, &frames);
     refuses_the_first_bad_line(rt, civil, &mut text);
+    refuses_a_missing_line(rt, civil, &text);
     Ok(())
 }
 
@@ -121,7 +156,7 @@ fn read_of(
     civil: &Civil,
     count: u16,
 ) -> Result<Result<usize, FrameFault>, Fail> {
-    let text = text_of(rt, civil, count)?;
+    let text = text_of(rt.alloc(), civil, count)?;
     match read(rt, civil, &text) {
         Ok(frames) => Ok(Ok(frames.len())),
         Err(fault) => Ok(Err(fault)),
@@ -129,11 +164,9 @@ fn read_of(
 }
 
 fn reads_the_most_frames(rt: &(impl Abort + AllocGlobal), civil: &Civil) -> Result<(), Fail> {
-    assert_eq!(rt;
-        read_of(rt, civil, 1_201)?,
-        Err(FrameFault::TooManyFrames { line: 240_001 })
-    );
-    assert_eq!(rt; read_of(rt, civil, 1_200)?, Ok(1_200));
+    let too_many = FrameFault::TooManyFrames { line: 240_001 };
+    assert!(rt; read_of(rt, civil, 1_201)? == Err(too_many));
+    assert!(rt; read_of(rt, civil, 1_200)? == Ok(1_200));
     Ok(())
 }
 
@@ -142,17 +175,13 @@ fn text_with(alloc: Global, elements: &[u8]) -> Result<String, AllocError> {
     let mut text = String::new(alloc);
     let mut ms = 0u64;
     for element in elements {
-        // Never reached: it bounds the sums.
-        if ms > 2_000 {
-            return Ok(text);
-        }
-        let fall = match *element {
-            0 => ms + 2,
-            1 => ms + 5,
-            _ => ms + 8,
+        let high: u64 = match *element {
+            0 => 2,
+            1 => 5,
+            _ => 8,
         };
-        write!(text, "{ms} H\n{fall} L\n")?;
-        ms += 10;
+        write!(text, "{ms} H\n{} L\n", ms.saturating_add(high))?;
+        ms = ms.saturating_add(10);
     }
     Ok(text)
 }
@@ -211,7 +240,7 @@ fn each_element_wrong_in_turn(rt: &(impl Abort + AllocGlobal), civil: &Civil) ->
                     Some(day) => Ok(Some((day.2, 0))),
                     None => Err(FrameFault::Meaning { line: 200 }),
                 };
-                assert_eq!(rt; told_by(rt, civil, &found)?, want, "element {i} as {wrong}");
+                check_at(rt, told_by(rt, civil, &found)? == want, i as u64);
             }
         }
         found[i] = right;
@@ -287,7 +316,7 @@ fn seconds_at_the_ends_of_days(rt: &(impl Abort + AllocGlobal), civil: &Civil) -
             Some(told) => Ok(Some(*told)),
             None => Err(FrameFault::Meaning { line: 200 }),
         };
-        assert_eq!(rt; told_by(rt, civil, &elements_in(signs))?, want);
+        assert!(rt; told_by(rt, civil, &elements_in(signs))? == want);
     }
     Ok(())
 }
@@ -297,26 +326,37 @@ fn refuses_a_text_cut_at_every_line(rt: &(impl Abort + AllocGlobal), civil: &Civ
     let mut line = 1u32;
     for end in 0..text.len() {
         if text[end] == b'\n' {
-            assert_eq!(rt;
-                fault_in(rt, civil, &text[..end]),
-                Some(FrameFault::Shape { line }),
-                "line {line}"
-            );
+            let shape = Some(FrameFault::Shape { line });
+            check_at(rt, fault_in(rt, civil, &text[..end]) == shape, line as u64);
             line = line.saturating_add(1);
             let due = if line == 201 || line == 401 {
                 None
             } else {
                 Some(FrameFault::Shape { line })
             };
-            assert_eq!(rt; fault_in(rt, civil, &text[..end + 1]), due, "line {line}");
+            check_at(
+                rt,
+                fault_in(rt, civil, &text[..end + 1]) == due,
+                line as u64,
+            );
         }
     }
-    assert_eq!(rt; line, 401);
+    assert!(rt; line == 401);
 }
 
 fn two_frames(rt: &(impl Abort + AllocGlobal), civil: &Civil) -> Result<(), Fail> {
-    let text = text_of(rt, civil, 2)?;
+    let text = text_of(rt.alloc(), civil, 2)?;
     refuses_a_text_cut_at_every_line(rt, civil, &text);
+    Ok(())
+}
+
+fn check_frames(rt: &(impl Abort + AllocGlobal), civil: &Civil) -> Result<(), Fail> {
+    elements_of_a_second(rt, civil);
+    two_minutes(rt, civil)?;
+    reads_the_most_frames(rt, civil)?;
+    each_element_wrong_in_turn(rt, civil)?;
+    seconds_at_the_ends_of_days(rt, civil)?;
+    two_frames(rt, civil)?;
     Ok(())
 }
 
@@ -325,11 +365,5 @@ fn two_frames(rt: &(impl Abort + AllocGlobal), civil: &Civil) -> Result<(), Fail
 #[test]
 fn frames_and_their_texts(rt: HostRuntime) -> Result<(), Fail> {
     let civil = Civil::make(rt.alloc())?;
-    elements_of_a_second(&rt, &civil);
-    two_minutes(&rt, &civil)?;
-    reads_the_most_frames(&rt, &civil)?;
-    each_element_wrong_in_turn(&rt, &civil)?;
-    seconds_at_the_ends_of_days(&rt, &civil)?;
-    two_frames(&rt, &civil)?;
-    Ok(())
+    check_frames(&rt, &civil)
 }

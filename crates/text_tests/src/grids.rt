@@ -5,7 +5,7 @@ ghost use Rattle.std.specs.List.{All};
 ghost use Rattle.signal_base.specs.declared.limits.TheConstants.{MOST_SECONDS};
 ghost use Rattle.signal_base.specs.Limits.{IsPriced, IsTuned};
 
-use crate::made::log_in;
+use crate::made::{check_at, log_in};
 use pulse_log::{Log, LogFault};
 use signal_base::{CostTable, Station, Tuning};
 use std::alloc::{AllocError, Global};
@@ -57,11 +57,8 @@ fn costs_of_two_seconds(rt: &impl Abort, grid: &CostGrid)
     requires { length grid.now.rows ≡ 2 }
 {
     for (set, first, second) in &TWO_SECONDS {
-        assert_eq!(rt;
-            (grid.cost(0, *set), grid.cost(1, *set)),
-            (*first, *second),
-            "set {set} in the two seconds"
-        );
+        let costs = (grid.cost(0, *set), grid.cost(1, *set));
+        check_at(rt, costs == (*first, *second), *set as u64);
     }
 }
 
@@ -102,18 +99,17 @@ fn one_symbol_for_all_receivers(rt: HostRuntime) -> Result<(), Fail> {
     let other = b"0 L\n100 H\n200 L\n300 H\n1000 L\n";
     let grid = grid_of_two(&rt, Station::Msf, &tunings, one, other, 1)?;
     let costs = (grid.cost(0, 1), grid.cost(0, 2), grid.cost(0, 3));
-    assert_eq!(rt; costs, (100, 300, 100));
+    assert!(rt; costs == (100, 300, 100));
     Ok(())
 }
 
 // A text of 200 seconds of which no two are alike.
-fn uneven_text(alloc: Global) -> Result<Vec<u8>, AllocError> {
-    let mut text = Vec::new(alloc);
+fn uneven_text(alloc: Global) -> Result<String, AllocError> {
+    let mut text = String::new(alloc);
     for n in 0..200u32 {
         let low = 1000 * n + 37 * n % 400;
         let high = 1000 * n + 500 + 53 * n % 400;
-        let line = format!(in alloc; "{low} L\n{high} H\n")?;
-        text.extend_from_slice(line.as_str().as_bytes())?;
+        write!(text, "{low} L\n{high} H\n")?;
     }
     Ok(text)
 }
@@ -188,7 +184,7 @@ fn costs_alike_moved(alloc: Global, logs: &[Log; 2], by: u16) -> Result<(bool, b
 // The logs of the uneven text and of one low pulse.
 fn uneven_logs(rt: &(impl Abort + AllocGlobal)) -> Result<[Log; 2], Fail> {
     let text = uneven_text(rt.alloc())?;
-    Ok(two_logs(rt, &text, b"0 L\n70 H\n90000 L\n")?)
+    Ok(two_logs(rt, text.as_bytes(), b"0 L\n70 H\n90000 L\n")?)
 }
 
 fn costs_what_new_ones_do(
@@ -199,7 +195,7 @@ fn costs_what_new_ones_do(
     requires { by ≤ 61 }
 {
     let alike = costs_alike_moved(rt.alloc(), logs, by)?;
-    assert_eq!(rt; alike, (true, true), "moved by {by}, and by {by} twice");
+    check_at(rt, alike == (true, true), by as u64);
     Ok(())
 }
 
@@ -215,11 +211,10 @@ fn moved_grids_cost_what_new_ones_do(rt: HostRuntime) -> Result<(), Fail> {
 }
 
 // A text of 200,000 records, of which one is 5 ms after the other: low, high, low and so on.
-fn largest_text(alloc: Global) -> Result<Vec<u8>, AllocError> {
-    let mut text = Vec::new(alloc);
+fn largest_text(alloc: Global) -> Result<String, AllocError> {
+    let mut text = String::new(alloc);
     for n in 0..100_000u32 {
-        let line = format!(in alloc; "{} L\n{} H\n", 10 * n, 10 * n + 5)?;
-        text.extend_from_slice(line.as_str().as_bytes())?;
+        write!(text, "{} L\n{} H\n", 10 * n, 10 * n + 5)?;
     }
     Ok(text)
 }
@@ -229,14 +224,23 @@ const PLAIN: Tuning = Tuning {
     weight: 1,
 };
 
-// So many logs of it.
-fn largest_logs(rt: &(impl Abort + AllocGlobal), count: usize) -> Result<Vec<Log>, Fail> {
-    let text = largest_text(rt.alloc())?;
+// So many logs of a text.
+fn logs_in(
+    rt: &(impl Abort + AllocGlobal),
+    text: &[u8],
+    count: usize,
+) -> Result<Vec<Log>, LogFault> {
     let mut logs = Vec::new(rt.alloc());
     for _ in 0..count {
-        logs.push(log_in(rt, &text)?)?;
+        logs.push(log_in(rt, text)?)?;
     }
     Ok(logs)
+}
+
+// So many logs of the largest text.
+fn largest_logs(rt: &(impl Abort + AllocGlobal), count: usize) -> Result<Vec<Log>, Fail> {
+    let text = largest_text(rt.alloc())?;
+    Ok(logs_in(rt, text.as_bytes(), count)?)
 }
 
 // A second of the grid of eight of them, and one after the end of the logs.
@@ -267,9 +271,7 @@ fn grids_of_the_largest_logs(rt: HostRuntime) -> Result<(), Fail> {
     let logs = largest_logs(&rt, 8)?;
     assert!(rt; logs.len() == 8);
     for _ in 0..5u8 {
-        let (heard, after) = costs_of_the_largest(&rt, &logs)?;
-        assert_eq!(rt; heard, 4000);
-        assert_eq!(rt; after, 0, "after the end of the log");
+        assert!(rt; costs_of_the_largest(&rt, &logs)? == (4000, 0));
     }
     Ok(())
 }
@@ -325,8 +327,7 @@ fn grids_moved_by_a_minute(rt: HostRuntime) -> Result<(), Fail> {
     let logs = largest_logs(&rt, 1)?;
     assert!(rt; logs.len() == 1);
     for _ in 0..5u8 {
-        let costs = moved_and_made(&rt, &logs)?;
-        assert_eq!(rt; costs, ([500; 4], [500; 4]));
+        assert!(rt; moved_and_made(&rt, &logs)? == ([500; 4], [500; 4]));
     }
     Ok(())
 }

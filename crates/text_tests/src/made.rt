@@ -59,3 +59,21 @@ pub(crate) fn printed(files: &MemoryFiles, text: &str) -> bool {
         .contents(OUTPUT)
         .is_some_and(|bytes| bytes == text.as_bytes())
 }
+
+// The two parts of a row of a table.
+pub(crate) fn parted<'a>(rt: &impl Abort, row: &'a str) -> (&'a str, &'a str) {
+    match row.split_once('|') {
+        Some(parts) => parts,
+        None => panic!(rt; "no row: {row}"),
+    }
+}
+
+// Ends a test where what is due of a row isn't so. Its text is proved here alone, and not in each test.
+pub(crate) fn check_row(rt: &impl Abort, is_so: bool, row: &str) {
+    assert!(rt; is_so, "at '{row}'");
+}
+
+// The same of what has a number.
+pub(crate) fn check_at(rt: &impl Abort, is_so: bool, number: u64) {
+    assert!(rt; is_so, "at {number}");
+}

@@ -1,6 +1,6 @@
 //! Worked logs, and what becomes of each.
 
-use crate::made::log_in;
+use crate::made::{check_at, check_row, log_in};
 use formats::LOG_LIMIT;
 use pulse_log::{Level, Log, LogFault};
 use std::alloc::{AllocError, Global};
@@ -8,11 +8,10 @@ use std::process::Abort;
 use std::test::Fail;
 
 // A text of this many records, `0 H` to `n - 1 H`.
-fn records_text(alloc: Global, n: u32) -> Result<Vec<u8>, AllocError> {
-    let mut text = Vec::new(alloc);
+fn records_text(alloc: Global, n: u32) -> Result<String, AllocError> {
+    let mut text = String::new(alloc);
     for time in 0..n {
-        let line = format!(in alloc; "{time} H\n")?;
-        text.extend_from_slice(line.as_str().as_bytes())?;
+        write!(text, "{time} H\n")?;
     }
     Ok(text)
 }
@@ -27,7 +26,7 @@ fn fault_of_records(
     n: u32,
 ) -> Result<Option<LogFault>, AllocError> {
     let many = records_text(rt.alloc(), n)?;
-    Ok(fault_in(rt, &many))
+    Ok(fault_in(rt, many.as_bytes()))
 }
 
 fn fault_of_digits(
@@ -55,20 +54,18 @@ const REFUSED: [(&str, LogFault); 9] = [
 #[test]
 fn refuses_the_first_bad_line(rt: HostRuntime) -> Result<(), Fail> {
     for (text, fault) in &REFUSED {
-        assert_eq!(rt; fault_in(&rt, text.as_bytes()), Some(*fault), "{text}");
+        check_row(&rt, fault_in(&rt, text.as_bytes()) == Some(*fault), text);
     }
-    assert_eq!(rt; fault_of_digits(&rt, 7_999_999)?, Some(SHAPE));
-    assert_eq!(rt;
-        fault_of_records(&rt, 200_001)?,
-        Some(LogFault::TooManyRecords { line: 200_001 })
-    );
+    assert!(rt; fault_of_digits(&rt, 7_999_999)? == Some(SHAPE));
+    let too_many = Some(LogFault::TooManyRecords { line: 200_001 });
+    assert!(rt; fault_of_records(&rt, 200_001)? == too_many);
     Ok(())
 }
 
 fn has_records(rt: &impl Abort, log: &Log, records: &[(u64, Level)]) {
-    assert_eq!(rt; log.len(), records.len());
+    assert!(rt; log.len() == records.len());
     for i in 0..log.len() {
-        assert_eq!(rt; Some(log.entry(i)), records.get(i).copied());
+        check_at(rt, Some(log.entry(i)) == records.get(i).copied(), i as u64);
     }
 }
 
@@ -113,7 +110,7 @@ const LEVELS: [(u64, Level); 7] = [
 
 fn tells_levels(rt: &impl Abort, log: &Log) {
     for (ms, level) in &LEVELS {
-        assert_eq!(rt; log.level(*ms), *level, "at {ms}");
+        check_at(rt, log.level(*ms) == *level, *ms);
     }
 }
 
@@ -127,7 +124,7 @@ fn tells_low_milliseconds(rt: &impl Abort, log: &Log) {
         (400, 500, Some(100)),
         (400, 501, None),
     ] {
-        assert_eq!(rt; log.low_ms(from, to), low, "from {from} to {to}");
+        assert!(rt; log.low_ms(from, to) == low, "from {from} to {to}");
     }
 }
 

@@ -1,5 +1,6 @@
 //! Texts of queries, accepted and refused. Where a text is refused is counted by hand.
 
+use crate::made::check_row;
 use board_queries::{MOST_QUERIES, QUERIES_LIMIT, QueryFault, read_queries};
 use std::alloc::{AllocError, Global};
 use std::test::Fail;
@@ -14,8 +15,31 @@ fn sevens(alloc: Global, count: usize) -> Result<Vec<u8>, AllocError> {
     Ok(text)
 }
 
+// What is read of a text that isn't too large.
+fn read(alloc: Global, text: &[u8]) -> Option<Result<Vec<u64>, QueryFault>> {
+    if text.len() > QUERIES_LIMIT {
+        return None;
+    }
+    Some(read_queries(alloc, text))
+}
+
+fn is_read(alloc: Global, text: &[u8], queries: &[u64]) -> bool {
+    match read(alloc, text) {
+        Some(Ok(found)) => found.as_slice() == queries,
+        _ => false,
+    }
+}
+
+// How many queries a text has, or why it is refused.
+fn count_in(alloc: Global, text: &[u8]) -> Option<Result<usize, QueryFault>> {
+    match read(alloc, text)? {
+        Ok(found) => Some(Ok(found.len())),
+        Err(fault) => Some(Err(fault)),
+    }
+}
+
 #[test]
-fn reads_queries(rt: HostRuntime) -> Result<(), Fail> {
+fn reads_queries(rt: HostRuntime) {
     for (text, queries) in [
         (b"".as_slice(), [].as_slice()),
         (b"0\n", &[0]),
@@ -25,10 +49,8 @@ fn reads_queries(rt: HostRuntime) -> Result<(), Fail> {
         ),
         (b"999999999999\n5\n5\n", &[999_999_999_999, 5, 5]),
     ] {
-        let read = read_queries(rt.alloc(), text);
-        assert!(rt; read.is_ok_and(|found| found.as_slice() == queries));
+        assert!(rt; is_read(rt.alloc(), text, queries));
     }
-    Ok(())
 }
 
 // Texts, and the line that is refused.
@@ -50,36 +72,32 @@ const REFUSED: [(&str, u32); 15] = [
     ("99999999999999999999999999\n", 1),
 ];
 
-#[test]
-fn refuses_lines(rt: HostRuntime) -> Result<(), Fail> {
-    for (text, line) in &REFUSED {
-        let read = read_queries(rt.alloc(), text.as_bytes());
-        assert!(rt;
-            read.is_err_and(|fault| fault == QueryFault::Shape { line: *line }),
-            "{line}"
-        );
-    }
-    Ok(())
+fn refused_at(line: u32) -> Option<Result<usize, QueryFault>> {
+    Some(Err(QueryFault::Shape { line }))
 }
 
-// What is read of a text that isn't too large.
-fn read(alloc: Global, text: &[u8]) -> Option<Result<Vec<u64>, QueryFault>> {
-    if text.len() > QUERIES_LIMIT {
-        return None;
+#[test]
+fn refuses_lines(rt: HostRuntime) {
+    for (text, line) in &REFUSED {
+        let found = count_in(rt.alloc(), text.as_bytes());
+        check_row(&rt, found == refused_at(*line), text);
     }
-    Some(read_queries(alloc, text))
+}
+
+// What becomes of so many lines `7`, and a line `8`.
+fn count_in_sevens(
+    alloc: Global,
+    count: usize,
+) -> Result<Option<Result<usize, QueryFault>>, AllocError> {
+    let text = sevens(alloc, count)?;
+    Ok(count_in(alloc, &text))
 }
 
 #[test]
 fn reads_ten_thousand_lines(rt: HostRuntime) -> Result<(), Fail> {
-    let most = sevens(rt.alloc(), MOST_QUERIES - 1)?;
-    let found = read(rt.alloc(), &most);
-    assert!(rt; found.is_some_and(|read| read.is_ok_and(|list| list.len() == MOST_QUERIES)));
-    let more = sevens(rt.alloc(), MOST_QUERIES)?;
-    let refused = read(rt.alloc(), &more);
-    assert!(rt;
-        refused.is_some_and(|read| read.is_err_and(|fault| fault
-            == QueryFault::Shape { line: 10_001 }))
-    );
+    let most = count_in_sevens(rt.alloc(), MOST_QUERIES - 1)?;
+    assert!(rt; most == Some(Ok(MOST_QUERIES)));
+    let more = count_in_sevens(rt.alloc(), MOST_QUERIES)?;
+    assert!(rt; more == refused_at(10_001));
     Ok(())
 }

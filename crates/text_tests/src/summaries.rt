@@ -9,6 +9,7 @@ use civil::Civil;
 use sequence::{Answer, Sequence};
 use signal_base::Station;
 use std::alloc::Global;
+use std::process::Abort;
 use std::test::Fail;
 use texts::write_trial;
 
@@ -49,9 +50,7 @@ fn is_summed_up(alloc: Global, civil: &Civil, answer: &Answer, lines: &str) -> R
     Ok(written == Ok(()) && text == Some(lines.as_bytes()))
 }
 
-#[test]
-fn sums_up_trials(rt: HostRuntime) -> Result<(), Fail> {
-    let civil = Civil::make(rt.alloc())?;
+fn check_summaries(rt: &(impl Abort + AllocGlobal), civil: &Civil) -> Result<(), Fail> {
     let decided = Answer::Decided {
         cost: 17,
         sequence: sent(),
@@ -64,8 +63,14 @@ fn sums_up_trials(rt: HostRuntime) -> Result<(), Fail> {
     };
     let first = "decided\nfirst 2009-07-04T05:35Z 5 no\n";
     let two = "undecided\nfirst 2009-07-04T05:35Z 5 no\nother 2015-06-30T23:59Z 60 yes\n";
-    assert!(rt; is_summed_up(rt.alloc(), &civil, &decided, first)?);
-    assert!(rt; is_summed_up(rt.alloc(), &civil, &undecided, two)?);
-    assert!(rt; is_summed_up(rt.alloc(), &civil, &Answer::Nothing, "none\n")?);
+    assert!(rt; is_summed_up(rt.alloc(), civil, &decided, first)?);
+    assert!(rt; is_summed_up(rt.alloc(), civil, &undecided, two)?);
+    assert!(rt; is_summed_up(rt.alloc(), civil, &Answer::Nothing, "none\n")?);
     Ok(())
+}
+
+#[test]
+fn sums_up_trials(rt: HostRuntime) -> Result<(), Fail> {
+    let civil = Civil::make(rt.alloc())?;
+    check_summaries(&rt, &civil)
 }
