@@ -19,8 +19,6 @@ mod limit;
 mod publishing;
 mod ring;
 mod run;
-#[cfg(test)]
-mod tests;
 
 use clock_board::MOST_READERS;
 use fault::Fault;

@@ -7,7 +7,7 @@ use std::convert::Infallible;
 use workers::Recorder;
 
 /// How many blocks a search came to.
-#[derive(Clone, Copy, Debug, Drop)]
+#[derive(Clone, Copy, Drop)]
 pub struct Counts {
     /// Years.
     pub years: u64,

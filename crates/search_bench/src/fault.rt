@@ -11,7 +11,7 @@ use std::alloc::{AllocError, AllocFailed};
 use std::{fmt, io};
 
 /// Why the program stops.
-#[derive(Debug, Drop)]
+#[derive(Drop)]
 pub enum Fault {
     /// The words of the command line aren't in order.
     Words,
@@ -62,7 +62,7 @@ impl fmt::Display for Fault {
     fn fmt<W: fmt::Write>(&self, f: &mut fmt::Formatter<W>) -> fmt::Result {
         match self {
             Fault::Words => f.write_str(
-                "usage: search_bench compare [SEED] | floors [SEED] | costs STATION | measure SECONDS FROM TO STATION=LOG..",
+                "usage: search_bench compare [SEED] | floors [SEED] | measure SECONDS FROM TO STATION=LOG..",
             ),
             Fault::NoLog => f.write_str("a file is no log"),
             Fault::NoMemory => f.write_str("out of memory"),

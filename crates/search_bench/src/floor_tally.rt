@@ -4,7 +4,7 @@ use definitions::{Block, MINUTES_PER_DAY};
 use std::fmt;
 
 /// How many floors were compared.
-#[derive(Clone, Copy, Debug)]
+#[derive(Clone, Copy)]
 pub struct FloorTally {
     days: u32,
     whole: u32,
@@ -84,7 +84,7 @@ impl fmt::Display for FloorTally {
 }
 
 /// A tally that shows how near the floors come.
-#[derive(Clone, Copy, Debug)]
+#[derive(Clone, Copy)]
 pub struct Nearness(FloorTally);
 
 impl fmt::Display for Nearness {

@@ -20,7 +20,7 @@ const HALF_HOUR: u32 = 30;
 const CALL_SIGN: u32 = 15;
 
 /// Where windows are compared.
-#[derive(Clone, Copy, Debug, PartialEq, Eq)]
+#[derive(Clone, Copy, PartialEq, Eq)]
 pub enum Place {
     /// Anywhere in the century.
     Anywhere,

@@ -5,7 +5,7 @@ use definitions::{Block, Span};
 use std::fmt;
 
 /// How much of each kind was compared.
-#[derive(Clone, Copy, Debug)]
+#[derive(Clone, Copy)]
 pub struct Tally {
     windows: u32,
     minutes: u32,
