@@ -7,19 +7,16 @@ use Rattle.definitions.specs.time.Zones.{local_fields, zone_fields}
 use Rattle.definitions.proofs.LastDay.{as_in_winter, year_behind_it, year_of_the_last}
 use Rattle.definitions.proofs.examples.calendar.local_years_end.Goals as goal
 
-told : (zone : Zone) (t : ℕ) → (zone_fields zone t).year ≡ 2099 → is_some (local_fields zone t) ≡ true
-told zone t e =
-    ap (λ (year : ℕ). is_some (if nat_lt year 2100 then Some (zone_fields zone t) else None)) e
-
-untold : (zone : Zone) (t : ℕ) → (zone_fields zone t).year ≡ 2100 → is_some (local_fields zone t) ≡ false
-untold zone t e =
-    ap (λ (year : ℕ). is_some (if nat_lt year 2100 then Some (zone_fields zone t) else None)) e
+-- local time is told of a minute in a year before 2100
+told : (zone : Zone) (t year : ℕ) → (zone_fields zone t).year ≡ year
+    → is_some (local_fields zone t) ≡ is_some (if nat_lt year 2100 then Some (zone_fields zone t) else None)
+told zone t year e = ap (λ (of_t : ℕ). is_some (if nat_lt of_t 2100 then Some (zone_fields zone t) else None)) e
 
 both : (zone : Zone) (last next : ℕ) → (zone_fields zone last).year ≡ 2099 → (zone_fields zone next).year ≡ 2100
     → is_some (local_fields zone last) ∷ is_some (local_fields zone next) ∷ [] ≡ true ∷ false ∷ []
 both zone last next a b =
-    ap (λ (x : Bool). x ∷ is_some (local_fields zone next) ∷ []) (told zone last a)
-    ∙ ap (λ (x : Bool). true ∷ x ∷ []) (untold zone next b)
+    ap (λ (x : Bool). x ∷ is_some (local_fields zone next) ∷ []) (told zone last 2099 a)
+    ∙ ap (λ (x : Bool). true ∷ x ∷ []) (told zone next 2100 b)
 
 pub returns-clause-utc : goal.returns-clause-utc
 returns-clause-utc c = both Utc (century_minutes - 1) century_minutes year_of_the_last year_behind_it
