@@ -1,4 +1,4 @@
-//! The parts of each station where memory is ample: how many runs there are, where they end, and a minute that is known.
+//! The parts of each station where memory is ample: how many runs there are, and where they end.
 
 use civil::Civil;
 use definitions::CENTURY_MINUTES;
@@ -35,41 +35,4 @@ fn runs_are_as_few_as_can_be(rt: HostRuntime) {
     let jjy = parts_of(&rt, Station::Jjy);
     assert_eq!(rt; jjy.runs(), 36_525 + 200 * 2 - 1);
     assert_eq!(rt; jjy.end(), CENTURY_MINUTES - 540);
-}
-
-// 2024-06-10T06:45Z is 15:45 on Monday, the 162nd day of the year, in Japan. The call sign is sent.
-#[test]
-fn jjy_at_quarter_to_four(rt: HostRuntime) {
-    let parts = parts_of(&rt, Station::Jjy);
-    let minute = 12_855_285;
-    assert!(rt; minute < parts.end());
-    let number = parts.run_of(minute);
-    let run = parts.run(number);
-    assert_eq!(rt; run.first, 12_854_340);
-    assert_eq!(rt; parts.run_end(number), 12_854_340 + 1440);
-    assert_eq!(rt; run.shift, 540);
-    assert_eq!(rt;
-        *parts.time_part(15 * 60 + 45),
-        [
-            0, 2, 1, 1, 0, 1, 2, 1, 2, 0, //
-            0, 0, 1, 2, 0, 1, 2, 1, 2, 0, //
-            0, 0, 0, 0, 0, 0, 0, 0, 0, 0, //
-            0, 0, 0, 0, 0, 0, 2, 2, 0, 0, //
-            255, 255, 255, 255, 255, 255, 255, 255, 255, 0, //
-            3, 3, 3, 3, 3, 3, 0, 0, 0, 0,
-        ]
-    );
-    let date = [
-        4, 0, 0, 0, 1, 0, 0, 0, 0, 4, //
-        1, 1, 0, 0, 1, 0, 0, 0, 0, 4, //
-        1, 1, 1, 2, 1, 1, 2, 2, 1, 4, //
-        1, 1, 2, 1, 1, 1, 0, 0, 1, 4, //
-        1, 1, 1, 2, 1, 1, 2, 1, 1, 4, //
-        1, 1, 2, 1, 1, 1, 1, 1, 1, 4,
-    ];
-    assert_eq!(rt; run.unannounced, date);
-    let mut warned = date;
-    warned[53] = 2;
-    warned[54] = 2;
-    assert_eq!(rt; run.announced, warned);
 }

@@ -1,12 +1,11 @@
-//! Walks of which four seconds are known, whose costs were worked out by hand.
+//! Floors of walks of which four seconds are known, worked out by hand: that they say as much as they can, no clause says.
 
-ghost use Rattle.std.specs.Prelude.{◌≡◌, ℕ, ◌≤◌, ◌<◌, IsFalse, false, length};
+ghost use Rattle.std.specs.Prelude.{◌≤◌, length};
 ghost use Rattle.signal_base.specs.Limits.{IsPriced};
-ghost use Rattle.definitions.specs.time.Calendar.{century_minutes, is_leap_end};
 
-use crate::known_slots::{SOME_SLOTS, unions};
 use civil::Civil;
 use definitions::CENTURY_MINUTES;
+use minute_parts::{Parts, Unions};
 use sample_grids::{grid, table};
 use signal_base::{CostTable, Station};
 use slot_columns::SECONDS_PER_MINUTE;
@@ -15,38 +14,21 @@ use std::process::Abort;
 use std::test::Fail;
 use walk_costs::StationWalks;
 
+// The slots 0, 2, 60 and 61 are known, and the others cost nothing.
+const SOME_SLOTS: &[u8] = b"0 H\n1000 X\n2000 H\n3000 X\n60000 H\n62000 H\n";
+
 // 2024-06-10T06:45Z, at which JJY sends its call sign, in a run of 1,440 minutes.
 const CALL: u32 = 12_855_285;
 
 const RUN_END: u32 = 12_854_340 + 1440;
 
-// A low tenth costs 20 and a high one 10, so 0, 1 and a marker cost 120, 150 and 180. The seconds 40 to 48 carry 000100100,
-// for the year 24. The run ends at midnight in Japan; in the minutes 58 and 59 second 1 is a 1 and second 2 a 0.
-fn the_call_sign_costs_nothing(rt: &impl Abort, civil: &Civil, walks: &StationWalks) {
-    for (second, minute, cost) in [
-        (40, CALL, Some(120 + 120)),
-        (40, CALL - 1, Some(120 + 120)),
-        (40, CALL + 1, Some(4 * 120)),
-        (43, CALL + 1, Some(150 + 120 + 150 + 120)),
-        (60, CALL, None),
-        (0, RUN_END - 2, Some(180 + 120 + 180 + 150)),
-        (0, RUN_END - 1, None),
-    ] {
-        assert_eq!(rt;
-            walks.cost(civil, false, second, minute),
-            cost,
-            "second {second} of {minute}"
-        );
-    }
-}
-
 // Friday's run ends so many minutes later: 2024-06-14T15:00Z.
 const FRIDAY: u32 = 4 * 1440;
 
-// One walk goes on from the run to the next. From second 0 on both dates tell a marker in it, and the time of day 0 twice.
-// In second 33 they tell the lowest bit of the day of the year, 0 for day 162 and 1 for day 163, which costs 120 or more each
-// time; the seconds 34 and 35 are 0. From second 50 on Friday tells 101 and Saturday 110: both a 1, and each other bit is 0
-// on one of the days.
+// A low tenth costs 20 and a high one 10, so JJY's 0, 1 and marker cost 120, 150 and 180. One walk goes on from the run to the
+// next. From second 0 on both dates tell a marker in it, and the time of day 0 twice. In second 33 they tell the lowest bit of
+// the day of the year, 0 for day 162 and 1 for day 163, which costs 120 or more each time; the seconds 34 and 35 are 0. From
+// second 50 on Friday tells 101 and Saturday 110: both a 1, and each other bit is 0 on one of the days.
 fn a_walk_to_the_next_run_costs_no_less(rt: &impl Abort, walks: &StationWalks) {
     for (second, minute, least) in [
         (0, RUN_END - 1, 180 + 120 + 180 + 120),
@@ -79,19 +61,6 @@ fn least_across(walks: &StationWalks, p: u8, t: u32) -> Option<u32> {
         return None;
     }
     Some(walks.least_across(false, p, run, t, t + 1))
-}
-
-// A low tenth costs 10 and a high one 20, so 0 and 1 cost 190 and 180. The known slots are the seconds 8 and 10 of the one
-// minute and 8 and 9 of the next. Each of them can be a 1, but DUT1 has ones up to second 8 or from second 9 on.
-fn one_value_of_dut1_is_told_in_a_day(rt: &impl Abort, civil: &Civil, walks: &StationWalks) {
-    // 2024-01-10T10:00Z, and the last minute of that day.
-    for (minute, cost) in [(12_636_600, 180 + 190 + 180 + 190), (12_637_439, 4 * 180)] {
-        assert_eq!(rt;
-            walks.cost(civil, false, 8, minute),
-            Some(cost),
-            "at {minute}"
-        );
-    }
 }
 
 // The minute before the two that tell of summer time first: 2024-03-31T00:58Z.
@@ -143,79 +112,8 @@ fn least_over(walks: &StationWalks, p: u8, t: u32) -> Option<u32> {
     Some(walks.floor_over(&over, t))
 }
 
-// JJY tells of a leap second in the seconds 53 and 54, but not in the minutes of its call sign. Of 62 slots from second 55
-// on, these seconds come once, in the next minute.
-fn the_call_sign_hides_the_announcement(rt: &impl Abort, civil: &Civil, walks: &StationWalks) {
-    for (second, minute, shown) in [
-        (40, CALL, Some(false)),
-        (40, CALL - 1, Some(true)),
-        (55, CALL, Some(true)),
-        (55, CALL - 1, Some(false)),
-        (53, CALL, Some(true)),
-        // 2024-05-10, in a month at whose end no leap second can come.
-        (40, CALL - 1 - 31 * 1440, Some(false)),
-        (40, RUN_END - 1, None),
-    ] {
-        assert_eq!(rt;
-            shows(walks, civil, second, minute),
-            shown,
-            "second {second} of {minute}"
-        );
-    }
-}
-
-fn shows(walks: &StationWalks, civil: &Civil, p: u8, t0: u32) -> Option<bool> {
-    match walks.run_of_walk(civil, true, p, t0) {
-        Some(run) => Some(walks.shows(p, run, t0)),
-        None => None,
-    }
-}
-
 // JJY warns of a leap second from the second UTC day of June on: 2024-06-02T00:00Z.
 const WARNED: u32 = 12_843_360;
-
-// Of 62 slots from second 51 on, the last is second 52 of the next minute.
-fn walks_through_two_runs_show_it(rt: &impl Abort, civil: &Civil, walks: &StationWalks) {
-    for (second, minute, shown) in [
-        (51, WARNED - 1, Some(false)),
-        (52, WARNED - 1, Some(true)),
-        (0, WARNED - 1, Some(false)),
-        (0, WARNED, Some(true)),
-        (40, CALL, Some(false)),
-        (40, CALL - 1, Some(true)),
-        (60, CALL, None),
-    ] {
-        assert_eq!(rt;
-            shows_over_runs(walks, civil, second, minute),
-            shown,
-            "second {second} of {minute}"
-        );
-    }
-}
-
-fn shows_over_runs(walks: &StationWalks, civil: &Civil, p: u8, t0: u32) -> Option<bool> {
-    if p as usize >= SECONDS_PER_MINUTE || t0 >= CENTURY_MINUTES {
-        return None;
-    }
-    let last = t0 + walks.later_minutes(p);
-    if last >= CENTURY_MINUTES || last >= walks.parts().end() || meets_leap_end(civil, t0, last) {
-        return None;
-    }
-    Some(walks.shows_by_minutes(p, t0))
-}
-
-// Whether one of these minutes is the last one of a 30 June or a 31 December.
-fn meets_leap_end(civil: &Civil, first: u32, last: u32) -> bool
-    requires { last < century_minutes }
-    ensures { IsFalse result → (t : ℕ) → first ≤ t → t ≤ last → is_leap_end t ≡ false }
-{
-    for t in first..=last {
-        if civil.leap_end(t) {
-            return true;
-        }
-    }
-    false
-}
 
 // The date tells of no leap second on 2024-06-01, and of one from the next day on.
 fn hours_before_the_warning_never_show_it(rt: &impl Abort, walks: &StationWalks) {
@@ -337,7 +235,6 @@ fn lesser(one: Option<u32>, other: Option<u32>) -> Option<u32> {
 enum Check {
     Dcf77,
     Year,
-    Msf,
     Jjy,
 }
 
@@ -348,12 +245,8 @@ fn check_walks(rt: &impl Abort, civil: &Civil, walks: &StationWalks, check: Chec
             a_floor_is_what_the_cheapest_walk_costs(rt, civil, walks, 20, CALL);
         }
         Check::Year => the_floor_of_a_year_is_what_its_dates_cost(rt, civil, walks),
-        Check::Msf => one_value_of_dut1_is_told_in_a_day(rt, civil, walks),
         Check::Jjy => {
-            the_call_sign_costs_nothing(rt, civil, walks);
             a_walk_to_the_next_run_costs_no_less(rt, walks);
-            the_call_sign_hides_the_announcement(rt, civil, walks);
-            walks_through_two_runs_show_it(rt, civil, walks);
             hours_before_the_warning_never_show_it(rt, walks);
             floors_of_jjy(rt, civil, walks);
         }
@@ -372,7 +265,7 @@ fn check_walks_of(
     requires short { length pulses.now ≤ 1000 }
 {
     let civil = Civil::make(rt.alloc())?;
-    let unions = unions(rt.alloc(), &civil, station)?;
+    let unions = Unions::make(rt.alloc(), Parts::make(rt.alloc(), &civil, station)?)?;
     let grid = grid(rt.alloc(), station, table, pulses, 62)?;
     let walks = StationWalks::make(rt.alloc(), &unions, &grid)?;
     check_walks(rt, &civil, &walks, check);
@@ -389,12 +282,6 @@ fn walks_of_dcf77(rt: HostRuntime) -> Result<(), Fail> {
 fn walks_of_a_year(rt: HostRuntime) -> Result<(), Fail> {
     let table = CostTable::default();
     check_walks_of(&rt, Station::Dcf77, &table, TOLD, Check::Year)
-}
-
-#[test]
-fn walks_of_msf(rt: HostRuntime) -> Result<(), Fail> {
-    let table = table(10, 20);
-    check_walks_of(&rt, Station::Msf, &table, SOME_SLOTS, Check::Msf)
 }
 
 #[test]

@@ -1,23 +1,21 @@
 -- The last minutes that stations send in the century.
-use Rattle.std.proofs.Common.{◌≡◌, ℕ, ◌≤◌, true, false, refl, ap, arith}
+use Rattle.std.proofs.Common.{◌≡◌, ◌∙◌, ◌-◌, ℕ, ◌≤◌, true, false, refl, ap, arith}
 use Rattle.signal_base.specs.declared.station.Station.{Station}
 use Rattle.signal_base.specs.declared.station.Station.TheVariants.{Dcf77, Msf, Wwvb, Jjy}
 use Rattle.definitions.specs.declared.sequence.Sequence.{Sequence}
-use Rattle.definitions.specs.time.Calendar.{day_at}
-use Rattle.definitions.specs.time.Summer.{season_at}
+use Rattle.definitions.specs.time.Calendar.{century_minutes}
 use Rattle.definitions.specs.codes.Allowed.{encoded_year, has_station}
 use Rattle.definitions.specs.sequences.Walks.{place_at, IsWalkable}
 use Rattle.definitions.specs.examples.Sequences.{from_place, window_of}
+use Rattle.definitions.proofs.LastDay.{as_in_winter, year_behind_it, year_of_the_last}
 use Rattle.definitions.proofs.PlaceLaws.{place_at-plain}
 use Rattle.definitions.proofs.MinuteLaws.{walkable}
 
 year : encoded_year Dcf77 52595938 ≡ 2099
-unfolding day_at season_at
-year = refl
+year = as_in_winter (century_minutes - 61) 120 60 ∙ year_of_the_last
 
 next_year : encoded_year Dcf77 52595939 ≡ 2100
-unfolding day_at season_at
-next_year = refl
+next_year = as_in_winter (century_minutes - 60) 120 60 ∙ year_behind_it
 
 alone : (station : Station) → has_station (window_of 1 52595938 52595939).stations station ≡ true → encoded_year station 52595938 ≤ 2099
 alone Dcf77 has = omega (arith, year)

@@ -7,10 +7,6 @@ mod machine;
 #[cfg(test)]
 mod made;
 #[cfg(test)]
-mod memory;
-#[cfg(test)]
 mod one_byte;
-#[cfg(test)]
-mod sure;
 #[cfg(test)]
 mod whole;

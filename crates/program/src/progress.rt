@@ -172,107 +172,160 @@ impl<S: Clock + Eprint> PhaseGate for Progress<'_, S> {
 mod tests {
     use super::*;
     use crate::fake::Screen;
+    use std::alloc::Global;
     use std::thread;
+    use std::thread::Threads;
+
+    // What is checked of the progress that a screen shows. They are made in one place, since what owns them takes long to prove.
+    #[derive(Clone, Copy)]
+    enum Check {
+        NoTerminal,
+        Items,
+        Windows,
+        Phases,
+        OneWindow,
+        Short,
+    }
+
+    // Whether that holds of a screen that counts how often this text is shown.
+    fn holds(rt: &HostRuntime, text: &'static str, check: Check) -> bool {
+        let screen = Screen::new(rt.alloc(), text);
+        let progress = Progress::new(&screen, !matches!(check, Check::NoTerminal));
+        match check {
+            Check::NoTerminal => shows_nothing(&screen, &progress),
+            Check::Items => shows_items(&screen, &progress),
+            Check::Windows => shows_windows(&screen, &progress),
+            Check::Phases => shows_phases(&screen, &progress),
+            Check::OneWindow => shows_items_of_one_window(&screen, &progress),
+            Check::Short => shows_nothing_within_a_second(&screen, &progress),
+        }
+    }
+
+    // Whether so many lines were shown once the worker passed with that number.
+    fn passes(
+        screen: &Screen,
+        progress: &Progress<'_, Screen>,
+        worker: u32,
+        number: u64,
+        lines: u64,
+    ) -> bool {
+        progress.pass(worker, number);
+        screen.printed() == lines
+    }
+
+    // The same once it has ended.
+    fn ends(screen: &Screen, progress: &Progress<'_, Screen>, lines: u64) -> bool {
+        progress.end();
+        screen.printed() == lines
+    }
+
+    // The same once it came to a window of 1,000.
+    fn comes_to(screen: &Screen, progress: &Progress<'_, Screen>, window: u16, lines: u64) -> bool {
+        progress.come_to(window, 1000);
+        screen.printed() == lines
+    }
+
+    // The same once it came to a phase of 11.
+    fn comes_to_phase(
+        screen: &Screen,
+        progress: &Progress<'_, Screen>,
+        phase: u8,
+        lines: u64,
+    ) -> bool {
+        progress.come_to_phase(phase, 11);
+        screen.printed() == lines
+    }
 
     #[test]
     fn shows_nothing_without_a_terminal(rt: HostRuntime) {
-        let screen = Screen::new(rt.alloc(), "");
-        let progress = Progress::new(&screen, false);
+        assert!(rt; holds(&rt, "", Check::NoTerminal));
+    }
+
+    fn shows_nothing(screen: &Screen, progress: &Progress<'_, Screen>) -> bool {
         for number in 0..20 {
             progress.pass(0, number);
         }
-        progress.end();
-        assert_eq!(rt; screen.printed(), 0);
-        assert_eq!(rt; screen.millis.load(Ordering::SeqCst), 0);
+        ends(screen, progress, 0) && screen.millis.load(Ordering::SeqCst) == 0
     }
 
-    // It begins at 0, and passes at 300, 600, 900, 1200 and so on.
     #[test]
     fn shows_a_search_of_more_than_a_second(rt: HostRuntime) {
-        let screen = Screen::new(rt.alloc(), "\rtsbank: 1234 items searched");
-        let progress = Progress::new(&screen, true);
-        for number in [5, 700, 900] {
-            progress.pass(0, number);
-            assert_eq!(rt; screen.printed(), 0, "{number}");
-        }
-        progress.pass(0, 1234);
-        assert_eq!(rt; screen.printed(), 1);
-        assert_eq!(rt; screen.found(), 1);
-        // A number that was drawn before the one that was shown.
-        progress.pass(1, 1233);
-        assert_eq!(rt; screen.printed(), 1);
-        progress.pass(0, 2000);
-        assert_eq!(rt; screen.printed(), 2);
-        progress.end();
-        assert_eq!(rt; screen.printed(), 3);
-        progress.end();
-        assert_eq!(rt; screen.printed(), 3);
+        assert!(rt; holds(&rt, "\rtsbank: 1234 items searched", Check::Items));
     }
 
-    // It begins at 0, and looks at 300, 600, 900, 1200 and so on.
+    // It begins at 0, and passes at 300, 600, 900, 1200 and so on. The number 1233 was drawn before the one that is shown.
+    fn shows_items(screen: &Screen, progress: &Progress<'_, Screen>) -> bool {
+        passes(screen, progress, 0, 5, 0)
+            && passes(screen, progress, 0, 700, 0)
+            && passes(screen, progress, 0, 900, 0)
+            && passes(screen, progress, 0, 1234, 1)
+            && screen.found() == 1
+            && passes(screen, progress, 1, 1233, 1)
+            && passes(screen, progress, 0, 2000, 2)
+            && ends(screen, progress, 3)
+            && ends(screen, progress, 3)
+    }
+
     #[test]
     fn shows_which_window_is_searched(rt: HostRuntime) {
-        let screen = Screen::new(rt.alloc(), "\rtsbank: window 12 of 1000");
-        let progress = Progress::new(&screen, true);
-        progress.come_to(10, 1000);
-        progress.pass(0, 7000);
-        progress.come_to(11, 1000);
-        assert_eq!(rt; screen.printed(), 0);
-        progress.come_to(12, 1000);
-        assert_eq!(rt; screen.printed(), 1);
-        assert_eq!(rt; screen.found(), 1);
-        // It is shown already.
-        progress.pass(0, 7001);
-        assert_eq!(rt; screen.printed(), 1);
-        progress.come_to(13, 1000);
-        assert_eq!(rt; screen.printed(), 2);
-        progress.end();
-        assert_eq!(rt; screen.printed(), 3);
-        assert!(rt; !screen.shows_a_line());
+        assert!(rt; holds(&rt, "\rtsbank: window 12 of 1000", Check::Windows));
     }
 
-    // It begins at 0, and looks at 300, 600, 900, 1200 and so on.
+    // It begins at 0, and looks at 300, 600, 900, 1200 and so on. As 7001 is passed the window is shown already.
+    fn shows_windows(screen: &Screen, progress: &Progress<'_, Screen>) -> bool {
+        comes_to(screen, progress, 10, 0)
+            && passes(screen, progress, 0, 7000, 0)
+            && comes_to(screen, progress, 11, 0)
+            && comes_to(screen, progress, 12, 1)
+            && screen.found() == 1
+            && passes(screen, progress, 0, 7001, 1)
+            && comes_to(screen, progress, 13, 2)
+            && ends(screen, progress, 3)
+            && !screen.shows_a_line()
+    }
+
     #[test]
     fn shows_which_phase_is_searched(rt: HostRuntime) {
-        let screen = Screen::new(rt.alloc(), "\rtsbank: phase 3 of 11");
-        let progress = Progress::new(&screen, true);
-        progress.come_to_phase(1, 11);
-        progress.pass(0, 7000);
-        progress.come_to_phase(2, 11);
-        assert_eq!(rt; screen.printed(), 0);
-        progress.come_to_phase(3, 11);
-        assert_eq!(rt; screen.found(), 1);
-        // It is shown already.
-        progress.pass(0, 7001);
-        assert_eq!(rt; screen.printed(), 1);
-        progress.come_to_phase(4, 11);
-        progress.end();
-        assert_eq!(rt; screen.printed(), 3);
-        assert!(rt; !screen.shows_a_line());
+        assert!(rt; holds(&rt, "\rtsbank: phase 3 of 11", Check::Phases));
+    }
+
+    // It begins at 0, and looks at 300, 600, 900, 1200 and so on. As 7001 is passed the phase is shown already.
+    fn shows_phases(screen: &Screen, progress: &Progress<'_, Screen>) -> bool {
+        comes_to_phase(screen, progress, 1, 0)
+            && passes(screen, progress, 0, 7000, 0)
+            && comes_to_phase(screen, progress, 2, 0)
+            && comes_to_phase(screen, progress, 3, 1)
+            && screen.found() == 1
+            && passes(screen, progress, 0, 7001, 1)
+            && comes_to_phase(screen, progress, 4, 2)
+            && ends(screen, progress, 3)
+            && !screen.shows_a_line()
+    }
+
+    #[test]
+    fn shows_the_search_of_one_window(rt: HostRuntime) {
+        assert!(rt; holds(&rt, "\rtsbank: 1234 items searched", Check::OneWindow));
     }
 
     // One window is a search like that of a decode.
-    #[test]
-    fn shows_the_search_of_one_window(rt: HostRuntime) {
-        let screen = Screen::new(rt.alloc(), "\rtsbank: 1234 items searched");
-        let progress = Progress::new(&screen, true);
+    fn shows_items_of_one_window(screen: &Screen, progress: &Progress<'_, Screen>) -> bool {
         progress.come_to(1, 1);
-        for number in [5, 700, 900] {
-            progress.pass(0, number);
-        }
-        assert_eq!(rt; screen.printed(), 0);
-        progress.pass(0, 1234);
-        assert_eq!(rt; screen.found(), 1);
+        passes(screen, progress, 0, 5, 0)
+            && passes(screen, progress, 0, 700, 0)
+            && passes(screen, progress, 0, 900, 0)
+            && passes(screen, progress, 0, 1234, 1)
+            && screen.found() == 1
     }
 
     #[test]
     fn a_short_search_shows_nothing(rt: HostRuntime) {
-        let screen = Screen::new(rt.alloc(), "");
-        let progress = Progress::new(&screen, true);
-        progress.pass(0, 1);
-        progress.pass(1, 2);
-        progress.end();
-        assert_eq!(rt; screen.printed(), 0);
+        assert!(rt; holds(&rt, "", Check::Short));
+    }
+
+    fn shows_nothing_within_a_second(screen: &Screen, progress: &Progress<'_, Screen>) -> bool {
+        passes(screen, progress, 0, 1, 0)
+            && passes(screen, progress, 1, 2, 0)
+            && ends(screen, progress, 0)
     }
 
     // Passes with the odd numbers or with the even ones below 40.
@@ -282,17 +335,21 @@ mod tests {
         }
     }
 
-    // 40 passes are 12 seconds by this clock, so at least the last pass of each is late enough; how many lines are shown
-    // depends on who comes first.
     #[test]
     fn two_threads_share_it(rt: HostRuntime) {
-        let screen = Screen::new(rt.alloc(), BLANK);
+        assert!(rt; two_threads_pass(&rt, rt.alloc()));
+    }
+
+    // 40 passes are 12 seconds by this clock, so at least the last pass of each is late enough; how many lines are shown
+    // depends on who comes first.
+    fn two_threads_pass<R: Threads>(rt: &R, alloc: Global) -> bool {
+        let screen = Screen::new(alloc, BLANK);
         let progress = Progress::new(&screen, true);
-        thread::join(&rt, || pass_all(&progress, 0), || pass_all(&progress, 1));
+        thread::join(rt, || pass_all(&progress, 0), || pass_all(&progress, 1));
         let lines = screen.printed();
-        assert!(rt; 0 < lines && lines <= 40);
-        progress.end();
-        assert_eq!(rt; screen.printed(), lines + 1);
-        assert_eq!(rt; screen.found(), 1);
+        0 < lines
+            && lines <= 40
+            && ends(&screen, &progress, lines.saturating_add(1))
+            && screen.found() == 1
     }
 }

@@ -1,17 +1,16 @@
 //! Runs of the whole program, over made-up words. The texts are worked out from docs/FORMATS.md.
+//!
+//! What a run makes is owned by one function, which the tests share: what owns it takes long to prove.
 use crate::command_line::{HostLine, NoWords};
 use crate::fake::{Fake, holds};
 use crate::machine::HostMachine;
 use crate::messages::{Speaker, explain, explain_no_words, explain_steps};
 use crate::progress::Progress;
-use crate::running::answer;
-use bank_files::MemoryFiles;
 use due::Status;
 use std::rt::Clock;
 use std::sync::Wait;
 use std::test::Fail;
 use std::thread::Threads;
-use workers::NoGate;
 
 // More than standard output gets in any of these runs.
 const AMPLE: usize = 1000;
@@ -30,6 +29,33 @@ fn status_shown<R: Threads + Wait + Sync, S: Clock + Eprint + Sync>(
     let machine = HostMachine::new(fake, progress);
     let ended = crate::status(rt, fake.alloc(), &HostLine(fake), machine, fake, progress);
     ended.status
+}
+
+// Whether a run of these words, whose standard output takes so many bytes, ends with this status, and writes these texts to standard
+// output and to standard error.
+fn writes_within<R: Threads + Wait + Clock + Eprint + Sync>(
+    rt: &R,
+    host: &HostRuntime,
+    words: &[&[u8]],
+    room: usize,
+    ended: u8,
+    output: &str,
+    error: &str,
+) -> bool {
+    let fake = Fake::new(host, words, room);
+    status(rt, &fake) == ended && holds(&fake.output, output) && holds(&fake.error, error)
+}
+
+// The same, and standard output takes all.
+fn writes<R: Threads + Wait + Clock + Eprint + Sync>(
+    rt: &R,
+    host: &HostRuntime,
+    words: &[&[u8]],
+    ended: u8,
+    output: &str,
+    error: &str,
+) -> bool {
+    writes_within(rt, host, words, AMPLE, ended, output, error)
 }
 
 const USAGE: &str =
@@ -87,41 +113,45 @@ fn refuses_words(rt: HostRuntime) {
             "words: bad --seconds\n",
         ),
     ] {
-        let fake = Fake::new(&rt, words, AMPLE);
-        assert_eq!(rt; status(&rt, &fake), 3);
-        assert!(rt; holds(&fake.output, text), "{text}");
-        assert!(rt; holds(&fake.error, USAGE));
+        assert!(rt; writes(&rt, &rt, words, 3, text, USAGE), "{text}");
     }
 }
 
 #[test]
 fn refuses_a_word_that_is_no_text(rt: HostRuntime) -> Result<(), Fail> {
     let words = [b"tsbank".as_slice(), b"decode", b"\xff"];
-    let fake = Fake::new(&rt, &words, AMPLE);
-    assert_eq!(rt; status(&rt, &fake), 3);
-    assert!(rt; holds(&fake.output, ""));
     let text = format!(in rt.alloc(); "tsbank: a word isn't UTF-8\n{USAGE}")?;
-    assert!(rt; holds(&fake.error, text.as_str()));
+    assert!(rt; writes(&rt, &rt, &words, 3, "", &text));
     Ok(())
+}
+
+// Whether this is said of a run without words.
+fn says_without_words(rt: &HostRuntime, why: NoWords, text: &str) -> bool {
+    let fake = Fake::new(rt, &[], AMPLE);
+    explain_no_words(&fake, Speaker::Tsbank, why);
+    holds(&fake.error, text)
 }
 
 #[test]
 fn ends_without_memory_for_its_words(rt: HostRuntime) {
-    let fake = Fake::new(&rt, &[], AMPLE);
-    explain_no_words(&fake, Speaker::Tsbank, NoWords::NoMemory);
-    assert!(rt; holds(&fake.error, "tsbank: out of memory\n"));
-    assert_eq!(rt; NoWords::NoMemory.status(), Status::NoMemory);
+    assert!(rt; says_without_words(&rt, NoWords::NoMemory, "tsbank: out of memory\n"));
+    assert!(rt; NoWords::NoMemory.status() == Status::NoMemory);
+}
+
+// Whether this is said of a certificate with so many steps.
+fn says_of_steps(rt: &HostRuntime, steps: u64, text: &str) -> bool {
+    let fake = Fake::new(rt, &[], AMPLE);
+    explain_steps(&fake, steps);
+    holds(&fake.error, text)
 }
 
 #[test]
 fn tells_of_a_certificate_that_no_check_takes(rt: HostRuntime) {
-    let fake = Fake::new(&rt, &[], AMPLE);
-    explain_steps(&fake, 2_000_000);
-    assert!(rt; holds(&fake.error, ""));
-    explain_steps(&fake, 2_000_001);
+    assert!(rt; says_of_steps(&rt, 2_000_000, ""));
     assert!(rt;
-        holds(
-            &fake.error,
+        says_of_steps(
+            &rt,
+            2_000_001,
             "tsbank: a certificate has 2000001 steps, and check refuses more than 2000000: a narrower range, a second receiver or a lower ceiling makes fewer\n"
         )
     );
@@ -135,161 +165,80 @@ fn lists_and_is_silent(rt: HostRuntime) {
         b"wwvb",
         b"2024-02-29T12:34Z",
     ];
-    let fake = Fake::new(&rt, &words, AMPLE);
-    assert_eq!(rt; status(&rt, &fake), 0);
-    assert!(rt; holds(&fake.output, LISTING));
-    assert!(rt; holds(&fake.error, ""));
+    assert!(rt; writes(&rt, &rt, &words, 0, LISTING, ""));
 }
 
 #[test]
 fn reads_a_file_without_frames(rt: HostRuntime) {
     let words = [b"tsbank".as_slice(), b"irig-read", b"/dev/null"];
-    let fake = Fake::new(&rt, &words, AMPLE);
-    assert_eq!(rt; status(&rt, &fake), 0);
-    assert!(rt; holds(&fake.output, ""));
-    assert!(rt; holds(&fake.error, ""));
+    assert!(rt; writes(&rt, &rt, &words, 0, "", ""));
 }
 
 #[test]
 fn refuses_an_empty_configuration(rt: HostRuntime) {
     for command in [b"decode".as_slice(), b"follow", b"sweep"] {
         let words = [b"tsbank".as_slice(), command, b"/dev/null"];
-        let fake = Fake::new(&rt, &words, AMPLE);
-        assert_eq!(rt; status(&rt, &fake), 4);
-        assert!(rt; holds(&fake.output, "configuration: missing station\n"));
-        assert!(rt; holds(&fake.error, ""));
+        assert!(rt; writes(&rt, &rt, &words, 4, "configuration: missing station\n", ""));
     }
 }
-
-// Whether a run of these words over a log in which nothing was heard, two certificates without a byte and one query ends with this
-// status, and prints this text.
-fn ends<R: Threads + Wait + Sync + AllocGlobal>(
-    rt: &R,
-    line: &str,
-    status: u8,
-    text: &str,
-) -> Result<bool, Fail> {
-    let mut files = MemoryFiles::make(rt.alloc());
-    let config = b"station = \"jjy\"\n[[receiver]]\nname = \"a\"\nlog = \"a.log\"\n";
-    files.put("k.toml", config)?;
-    files.put("a.log", b"")?;
-    files.put("x.cert", b"")?;
-    files.put("x.5", b"")?;
-    files.put("q.txt", b"0\n")?;
-    let mut words = Vec::new(rt.alloc());
-    for word in line.split(' ') {
-        words.push(word.to_string(rt.alloc())?)?;
-    }
-    let ended = answer(rt, rt.alloc(), &words, &mut files, &NoGate);
-    let printed = files
-        .contents("-")
-        .is_some_and(|found| found == text.as_bytes());
-    Ok(ended == status && printed)
-}
-
-#[test]
-fn follows_a_log_in_memory(rt: HostRuntime) -> Result<(), Fail> {
-    let line = "follow k.toml --count 2 --to 2000-01-01T00:59Z";
-    assert!(rt; ends(&rt, line, 1, FOLLOWED)?);
-    Ok(())
-}
-
-// The phases 0, 10 .. 50 cost the same, and the least is told.
-#[test]
-fn sweeps_a_log_in_memory(rt: HostRuntime) -> Result<(), Fail> {
-    let line = "sweep k.toml --to 2000-01-01T00:59Z";
-    assert!(rt; ends(&rt, line, 1, SWEPT)?);
-    Ok(())
-}
-
-#[test]
-fn checks_a_certificate_in_memory(rt: HostRuntime) -> Result<(), Fail> {
-    let line = "check k.toml x.cert";
-    assert!(rt; ends(&rt, line, 8, "certificate: line 1: shape\n")?);
-    Ok(())
-}
-
-// Where nothing was heard the phase of a decode is 0, so that the first certificate is that of offset 5.
-#[test]
-fn judges_certificates_in_memory(rt: HostRuntime) -> Result<(), Fail> {
-    let line = "judge k.toml x";
-    assert!(rt; ends(&rt, line, 8, "certificate 5: line 1: shape\n")?);
-    Ok(())
-}
-
-#[test]
-fn asks_a_board_in_memory(rt: HostRuntime) -> Result<(), Fail> {
-    let line = "board k.toml q.txt --count 2 --to 2000-01-01T00:59Z";
-    let text = "live 0 unknown of 0\nat 0 unknown\n";
-    assert!(rt; ends(&rt, line, 0, text)?);
-    Ok(())
-}
-
-const SWEPT: &str =
-    "undecided 0\nphase 0\nsequence 2000-01-01T00:00Z 0 no\nsequence 2000-01-01T00:01Z 0 no\n";
-
-const FOLLOWED: &str =
-    "window 0\nundecided 0\nphase 0\nsequence 2000-01-01T00:00Z 0 no\nsequence 2000-01-01T00:01Z 0 no\nwindow 60000\nundecided 0\nphase 0\nsequence 2000-01-01T00:00Z 0 no\nsequence 2000-01-01T00:01Z 0 no\n";
 
 #[test]
 fn names_the_file_that_failed(rt: HostRuntime) {
     let words = [b"tsbank".as_slice(), b"decode", b"/dev/null/k.toml"];
-    let fake = Fake::new(&rt, &words, AMPLE);
-    assert_eq!(rt; status(&rt, &fake), 6);
-    assert!(rt; holds(&fake.output, ""));
-    assert!(rt;
-        holds(
-            &fake.error,
-            "tsbank: /dev/null/k.toml: Not a directory (os error 20)\n"
-        )
-    );
+    let error = "tsbank: /dev/null/k.toml: Not a directory (os error 20)\n";
+    assert!(rt; writes(&rt, &rt, &words, 6, "", error));
 }
 
 #[test]
 fn names_standard_output_that_failed(rt: HostRuntime) {
+    let error = "tsbank: standard output: No space left on device (os error 28)\n";
     for (room, front) in [(0, ""), (7, "words: "), (12, "words: usage")] {
-        let fake = Fake::new(&rt, &[], room);
-        assert_eq!(rt; status(&rt, &fake), 6, "{room}");
-        assert!(rt; holds(&fake.output, front), "{room}");
         assert!(rt;
-            holds(
-                &fake.error,
-                "tsbank: standard output: No space left on device (os error 28)\n"
-            ),
+            writes_within(&rt, &rt, &[], room, 6, front, error),
             "{room}"
         );
     }
 }
 
+// Whether this is said of a run that ended with a status, and of which no file is known to have failed.
+fn says_after(rt: &HostRuntime, status: u8, text: &str) -> bool {
+    let fake = Fake::new(rt, &[], AMPLE);
+    explain(&fake, Speaker::Tsbank, status, None);
+    holds(&fake.error, text)
+}
+
 #[test]
 fn says_nothing_of_answers_and_refused_logs(rt: HostRuntime) {
-    for (status, text) in [
-        (0, ""),
-        (1, ""),
-        (2, ""),
-        (4, ""),
-        (5, ""),
-        (6, ""),
-        (7, "tsbank: out of memory\n"),
-    ] {
-        let fake = Fake::new(&rt, &[], AMPLE);
-        explain(&fake, Speaker::Tsbank, status, None);
-        assert!(rt; holds(&fake.error, text), "{status}");
+    for status in [0, 1, 2, 4, 5, 6] {
+        assert!(rt; says_after(&rt, status, ""), "{status}");
     }
+    assert!(rt; says_after(&rt, 7, "tsbank: out of memory\n"));
 }
 
 // By the terminal's clock each search of more than some draws takes longer than a second.
 #[test]
 fn a_report_has_a_line_of_its_own(rt: HostRuntime) {
     let words = [b"tsbank".as_slice(), b"trial", b"5"];
-    let fake = Fake::new(&rt, &words, AMPLE);
+    assert!(rt; is_reported_below_progress(&rt, &rt, &words));
+}
+
+fn is_reported_below_progress<R: Threads + Wait + Sync>(
+    rt: &R,
+    host: &HostRuntime,
+    words: &[&[u8]],
+) -> bool {
+    let fake = Fake::new(host, words, AMPLE);
     let progress = Progress::new(&fake.screen, true);
-    assert_eq!(rt; status_shown(&rt, &fake, &progress), 0);
-    assert!(rt; holds(&fake.output, TRIAL));
-    assert!(rt; fake.screen.printed() > 1);
-    assert_eq!(rt; fake.screen.found(), 1);
-    assert!(rt; !fake.screen.shows_a_line());
-    assert!(rt; !fake.glued.get());
+    status_shown(rt, &fake, &progress) == 0 && is_reported(&fake)
+}
+
+// The trial's report was printed, and what showed progress before it was blanked.
+fn is_reported(fake: &Fake<'_>) -> bool {
+    holds(&fake.output, TRIAL)
+        && fake.screen.printed() > 1
+        && fake.screen.found() == 1
+        && !fake.screen.shows_a_line()
+        && !fake.glued.get()
 }
 
 // What the trial's number stands for, by docs/FORMATS.md.

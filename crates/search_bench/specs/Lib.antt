@@ -1,4 +1,3 @@
 pub mod Receivers
 pub mod Counting
-pub mod Floors
 pub mod Stations

@@ -8,7 +8,6 @@ ghost use Rattle.field_tables.specs.Grids.{AreGrids};
 ghost use Rattle.formats.specs.OrderRanges.{IsAsked};
 ghost use Rattle.signal_base.specs.declared.limits.TheConstants.{MOST_RECEIVERS};
 
-use crate::case::{Case, slots_of};
 use crate::chance::Chance;
 use crate::draw::{draw_block, draw_item, draw_sequence, draw_slot};
 use crate::fault::Fault;
@@ -16,7 +15,7 @@ use crate::floor_tally::FloorTally;
 use crate::floors::compare_floors;
 use crate::noise::noisy_bank;
 use crate::places::{PLACES, Place, minute_at};
-use crate::plain::{plain_bound, plain_union};
+use crate::slots::{plain_union, slots_of};
 use crate::tally::Tally;
 use crate::windows::{
     STATION_SETS, STATIONS_ALONE, asked_for_days, asked_near, name_of, stations, year_from,
@@ -27,6 +26,7 @@ use civil::Civil;
 use definitions::{Block, MINUTES_PER_DAY, Sequence};
 use field_tables::{Tables, parts_of};
 use formats::Asked;
+use plain_bounds::{Case, plain_bound};
 use plain_costs::plain_cost;
 use sequence::{legal, walkable};
 use signal_base::{Station, Window};
@@ -58,17 +58,26 @@ enum Extent {
 
 /// Compares, and prints how much. Nothing that is printed hangs on how near floors come.
 pub fn compare<R: Print + AllocGlobal>(rt: &R, seed: u64) -> Result<(), Fault> {
-    let alloc = rt.alloc();
-    let civil = Civil::make(alloc)?;
+    let civil = Civil::make(rt.alloc())?;
     let mut chance = Chance::new(seed);
+    compare_all(rt, &civil, &mut chance)
+}
+
+// The same by a calendar.
+fn compare_all<R: Print + AllocGlobal>(
+    rt: &R,
+    civil: &Civil,
+    chance: &mut Chance,
+) -> Result<(), Fault> {
+    let alloc = rt.alloc();
     for place in PLACES {
-        let tally = parts_at(alloc, &civil, &mut chance, place)?;
+        let tally = parts_at(alloc, civil, chance, place)?;
         println!(rt; "{place}: {tally}")?;
     }
-    let tally = whole_years(alloc, &civil, &mut chance)?;
+    let tally = whole_years(alloc, civil, chance)?;
     println!(rt; "whole years: {tally}")?;
     for place in PLACES {
-        let floors = floors_at(alloc, &civil, &mut chance, place)?;
+        let floors = floors_at(alloc, civil, chance, place)?;
         println!(rt; "{place}: {floors}")?;
     }
     Ok(())
@@ -123,13 +132,23 @@ fn floors_at(
 
 /// Compares floors of days, and prints how near they come.
 pub fn measure_floors<R: Print + AllocGlobal>(rt: &R, seed: u64) -> Result<(), Fault> {
-    let alloc = rt.alloc();
-    let civil = Civil::make(alloc)?;
+    let civil = Civil::make(rt.alloc())?;
     let mut chance = Chance::new(seed);
     for set in 0..STATION_SETS {
-        for place in PLACES {
-            measure_floors_at(rt, &civil, &mut chance, place, set)?;
-        }
+        measure_floors_of(rt, &civil, &mut chance, set)?;
+    }
+    Ok(())
+}
+
+// The same of a set of stations.
+fn measure_floors_of<R: Print + AllocGlobal>(
+    rt: &R,
+    civil: &Civil,
+    chance: &mut Chance,
+    set: u8,
+) -> Result<(), Fault> {
+    for place in PLACES {
+        measure_floors_at(rt, civil, chance, place, set)?;
     }
     Ok(())
 }
@@ -205,10 +224,26 @@ fn compare_window(
     let bank = noisy_bank(alloc, chance, stations, asked.seconds)?;
     let window = window_of(&bank, asked);
     let grids = grids_of(alloc, &bank, &window)?;
-    let parts = parts_of(alloc, civil, &window)?;
-    let tables = Tables::make(alloc, &parts, &grids, civil, &window)?;
     tally.count_window();
-    compare_by(alloc, civil, &grids, &tables, window, chance, extent, tally)
+    compare_heard(alloc, civil, &grids, window, chance, extent, tally)
+}
+
+// The same by the grids of a window's stations.
+fn compare_heard(
+    alloc: Global,
+    civil: &Civil,
+    grids: &[CostGrid],
+    window: Window,
+    chance: &mut Chance,
+    extent: Extent,
+    tally: &mut Tally,
+) -> Result<(), Fault>
+    requires window { IsWindow window }
+    requires grids { AreGrids window grids.now }
+{
+    let parts = parts_of(alloc, civil, &window)?;
+    let tables = Tables::make(alloc, &parts, grids, civil, &window)?;
+    compare_by(alloc, civil, grids, &tables, window, chance, extent, tally)
 }
 
 // The same by the tables of the window.

@@ -1,18 +1,18 @@
 //! The floors of days compared with what their legal sequences cost at the least.
 
-ghost use Rattle.std.specs.Prelude.{◌≡◌, ◌↔◌, IsTrue, MatchResult};
+ghost use Rattle.std.specs.Prelude.{◌≡◌, MatchResult};
 ghost use Rattle.definitions.specs.answers.Blocks.{IsBlock};
 ghost use Rattle.definitions.specs.declared.block.Span.TheVariants.{Day};
-ghost use Rattle.search_bench.specs.Floors.{IsTooHigh};
+ghost use Rattle.plain_bounds.specs.Floors.{IsTooHigh};
 
-use crate::case::{Case, slots_of};
 use crate::chance::Chance;
 use crate::draw::draw_day;
 use crate::fault::Fault;
 use crate::floor_tally::FloorTally;
-use crate::plain::least_cost;
+use crate::slots::slots_of;
 use bounds::items;
 use definitions::Block;
+use plain_bounds::{Case, is_too_high, least_cost};
 use signal_base::GREATEST_COST;
 use std::alloc::Global;
 
@@ -66,17 +66,4 @@ fn judge(day: &Block, floor: Option<u32>, least: Option<u32>) -> Result<(), Faul
         });
     }
     Ok(())
-}
-
-// Whether a floor is above the least cost. None stands above each cost.
-fn is_too_high(floor: Option<u32>, least: Option<u32>) -> bool
-    ensures { IsTrue result ↔ IsTooHigh floor least }
-{
-    let Some(lowest) = least else {
-        return false;
-    };
-    let Some(height) = floor else {
-        return true;
-    };
-    height > lowest
 }

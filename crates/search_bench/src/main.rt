@@ -10,7 +10,6 @@
 //! | `measure SECONDS FROM TO STATION=LOG..` | counts and times what a search of the logs visits |
 #![tactic(auto)]
 
-mod case;
 mod chance;
 mod compare;
 mod counts;
@@ -23,11 +22,11 @@ mod measure;
 mod noise;
 mod order;
 mod places;
-mod plain;
 mod pricing;
 mod receivers;
 mod sample;
 mod searching;
+mod slots;
 mod tally;
 mod times;
 mod windows;

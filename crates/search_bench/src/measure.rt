@@ -7,7 +7,6 @@ ghost use Rattle.field_tables.specs.Grids.{AreGrids};
 ghost use Rattle.field_tables.specs.Scopes.{scopes_of};
 ghost use Rattle.formats.specs.OrderRanges.{IsAsked};
 
-use crate::case::Case;
 use crate::fault::Fault;
 use crate::load::load;
 use crate::order::search_order;
@@ -19,6 +18,7 @@ use civil::Civil;
 use definitions::CENTURY_MINUTES;
 use field_tables::{StationParts, Tables, parts_of};
 use formats::Asked;
+use plain_bounds::Case;
 use signal_base::{LEAST_SECONDS, MOST_SECONDS, Window};
 use std::rt::{Clock, Files};
 use std::thread::Threads;

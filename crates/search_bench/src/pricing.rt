@@ -8,13 +8,12 @@ ghost use Rattle.definitions.specs.sequences.Walks.{IsSequence, IsWalkable};
 ghost use Rattle.signal_base.specs.declared.limits.TheConstants.{MOST_SECONDS};
 ghost use Rattle.std.specs.Prelude.{true};
 
-use crate::case::Case;
 use crate::fault::Fault;
-use crate::plain::first_of;
 use crate::sample::parts;
 use crate::times::{nanoseconds, tell, tell_each};
 use bounds::bound;
 use definitions::{Block, Sequence};
+use plain_bounds::{Case, first_of};
 use plain_costs::{Sets, plain_cost, unions_of};
 use sequence::walkable;
 use std::alloc::{AllocError, Global};
@@ -47,17 +46,49 @@ pub fn measure_bounds<R: Clock + Print + AllocGlobal>(
 ) -> Result<(), Fault>
     requires { AllByRecursion (IsBlock case.now.window) items.now }
 {
-    let alloc = rt.alloc();
-    let days = parts(alloc, case.tables, items, 1, YEARS)?;
-    let hours = parts(alloc, case.tables, &days, EVERY, MOST_PARTED)?;
-    let minutes = parts(alloc, case.tables, &hours, EVERY, MOST_PARTED)?;
-    time_bounds(rt, "quick_day_ps", case, &days)?;
-    time_bounds(rt, "quick_hour_ps", case, &hours)?;
-    time_bounds(rt, "quick_minute_ps", case, &minutes)?;
-    time_sums(rt, "plain_day_ps", case, &days)?;
-    time_sums(rt, "plain_hour_ps", case, &hours)?;
-    time_sums(rt, "summed_minute_ps", case, &minutes)?;
-    let sequences = walkable_sequences(alloc, case, &minutes)?;
+    let days = parts(rt.alloc(), case.tables, items, 1, YEARS)?;
+    measure_days(rt, case, &days)
+}
+
+// The same of these days, and of hours and minutes of them.
+fn measure_days<R: Clock + Print + AllocGlobal>(
+    rt: &R,
+    case: &Case,
+    days: &[Block],
+) -> Result<(), Fault>
+    requires { AllByRecursion (IsBlock case.now.window) days.now }
+{
+    time_bounds(rt, "quick_day_ps", case, days)?;
+    time_sums(rt, "plain_day_ps", case, days)?;
+    let hours = parts(rt.alloc(), case.tables, days, EVERY, MOST_PARTED)?;
+    measure_hours(rt, case, &hours)
+}
+
+// The same of these hours, and of minutes of them.
+fn measure_hours<R: Clock + Print + AllocGlobal>(
+    rt: &R,
+    case: &Case,
+    hours: &[Block],
+) -> Result<(), Fault>
+    requires { AllByRecursion (IsBlock case.now.window) hours.now }
+{
+    time_bounds(rt, "quick_hour_ps", case, hours)?;
+    time_sums(rt, "plain_hour_ps", case, hours)?;
+    let minutes = parts(rt.alloc(), case.tables, hours, EVERY, MOST_PARTED)?;
+    measure_minutes(rt, case, &minutes)
+}
+
+// The same of these minutes, and what their walks cost slot by slot.
+fn measure_minutes<R: Clock + Print + AllocGlobal>(
+    rt: &R,
+    case: &Case,
+    minutes: &[Block],
+) -> Result<(), Fault>
+    requires { AllByRecursion (IsBlock case.now.window) minutes.now }
+{
+    time_bounds(rt, "quick_minute_ps", case, minutes)?;
+    time_sums(rt, "summed_minute_ps", case, minutes)?;
+    let sequences = walkable_sequences(rt.alloc(), case, minutes)?;
     time_costs(rt, "plain_minute_ps", case, &sequences)
 }
 
@@ -154,23 +185,27 @@ fn time_sums<R: Clock + Print + AllocGlobal>(
 {
     let mut all = 0u64;
     let mut count = 0u64;
-    let mut mixed = 0u32;
     for grid in case.grids {
-        if !case.window.stations.has(grid.station()) {
-            continue;
+        if case.window.stations.has(grid.station()) {
+            let unions = unions_in(rt.alloc(), case, grid, blocks)?;
+            all = all.saturating_add(least_of_sums(rt, grid, &unions)?);
+            count = unions.len() as u64;
         }
-        let unions = unions_in(rt.alloc(), case, grid, blocks)?;
-        let mut least = u64::MAX;
-        for _ in 0..ROUNDS {
-            let begin = Instant::now(rt)?;
-            mixed = mix_sums(grid, &unions, mixed);
-            least = least.min(nanoseconds(rt, begin)?);
-        }
-        all = all.saturating_add(least);
-        count = unions.len() as u64;
     }
-    tell_each(rt, name, all, count)?;
-    tell(rt, "mixed", mixed as u64)
+    tell_each(rt, name, all, count)
+}
+
+// The least time that sums take of what these sets cost. What they come to is printed, so that it is worked out.
+fn least_of_sums<R: Clock + Print>(rt: &R, grid: &CostGrid, unions: &[Sets]) -> Result<u64, Fault> {
+    let mut least = u64::MAX;
+    let mut mixed = 0u32;
+    for _ in 0..ROUNDS {
+        let begin = Instant::now(rt)?;
+        mixed = mix_sums(grid, unions, mixed);
+        least = least.min(nanoseconds(rt, begin)?);
+    }
+    tell(rt, "mixed", mixed as u64)?;
+    Ok(least)
 }
 
 fn mix_sums(grid: &CostGrid, unions: &[Sets], before: u32) -> u32 {

@@ -7,12 +7,11 @@ ghost use Rattle.definitions.specs.answers.Blocks.{IsBlock, items};
 ghost use Rattle.definitions.specs.sequences.Windows.{IsWindow};
 ghost use Rattle.field_tables.specs.Grids.{AreGrids};
 
-use crate::floors::{announced_years_have_no_floor, four_days_cost_100, keys_are_found_each_way};
+use crate::floors::{announced_years_have_no_floor, four_days_cost_100};
 use crate::judged::first_wrong;
 use crate::order::years_are_ranked;
 use crate::searches::{
-    days_are_passed_over, each_crew_finds, each_workers_steps_count, few_steps_are_kept,
-    two_workers_meet, visits_go_by_offers,
+    days_are_passed_over, few_steps_are_kept, two_workers_meet, visits_go_by_offers,
 };
 use crate::silence::costly_sequences;
 use crate::steps::first_step;
@@ -31,14 +30,10 @@ use symbol_cost::CostGrid;
 /// One for each test.
 #[derive(Clone, Copy)]
 pub(crate) enum Check {
-    /// With these first two keys.
-    EachCrew(Option<u64>, Option<u64>),
     Meeting,
     Visit,
     Day,
     FewSteps,
-    EachWorker,
-    Keys,
     FourDays,
     QuietDays,
     Order,
@@ -79,13 +74,10 @@ fn check_tables<R: Threads + Abort + Sync>(
     requires blocks { AllByRecursion (IsBlock tables.now.window) list.now }
 {
     match check {
-        Check::EachCrew(first, second) => each_crew_finds(rt, alloc, tables, list, first, second),
         Check::Meeting => two_workers_meet(rt, alloc, tables, list),
         Check::Visit => visits_go_by_offers(rt, alloc, tables, list),
         Check::Day => days_are_passed_over(rt, alloc, tables, list),
         Check::FewSteps => few_steps_are_kept(rt, alloc, tables, list),
-        Check::EachWorker => each_workers_steps_count(rt, alloc, tables, list),
-        Check::Keys => keys_are_found_each_way(rt, alloc, tables, list),
         Check::FourDays => four_days_cost_100(rt, tables, list),
         Check::QuietDays => {
             announced_years_have_no_floor(rt, tables, list);

@@ -1,131 +1,17 @@
-//! Searches by floors and without: they find the same keys.
+//! How much the floors of days and years say, which no clause does.
 
-ghost use Rattle.std.specs.Prelude.{◌≡◌, ◌≤◌, length};
+ghost use Rattle.std.specs.Prelude.{◌≡◌};
 ghost use Rattle.definitions.specs.answers.Blocks.{IsBlock, items};
 
 use crate::checks::{Check, check_window};
 use crate::items::item;
-use crate::searches::Counter;
 use bounds::bounded_children;
 use definitions::Block;
 use field_tables::Tables;
-use race_words::Race;
-use sample_grids::{YEAR_2001, dcf77, jjy, minute_grid, silent_grid, window};
-use signal_base::{GREATEST_COST, Station, Stations};
-use std::alloc::Global;
+use sample_grids::{YEAR_2001, dcf77, minute_grid, silent_grid, window};
+use signal_base::{Station, Stations};
 use std::process::Abort;
 use std::test::Fail;
-use std::thread::Threads;
-use workers::{Found, NoGate, finish, search_with};
-
-// A log of noise for twenty seconds. Afterwards nothing is known.
-const NOISE: &[u8] = b"0 H\n310 L\n870 H\n1009 L\n1560 H\n1730 L\n2480 H\n2611 L\n2790 H\n3335 L\n\
-3500 H\n4120 L\n4240 H\n4900 L\n5610 H\n5740 L\n6333 H\n6980 L\n7090 H\n7712 L\n8390 H\n8530 L\n\
-9170 H\n9900 L\n10040 H\n10680 L\n11290 H\n11920 L\n12020 H\n12610 L\n13350 H\n13470 L\n14210 H\n\
-14890 L\n15000 H\n15555 L\n16170 H\n16840 L\n17460 H\n17580 L\n18230 H\n19010 L\n20000 X\n";
-
-// The first two keys under a ceiling by so many workers, where all steps are told or those that no floor passes over.
-fn found_with<R: Threads + Sync>(
-    rt: &R,
-    alloc: Global,
-    tables: &Tables,
-    list: &[Block],
-    ceiling: u32,
-    workers: u8,
-    needs_all: bool,
-) -> Result<Found, Fail>
-    requires workers { (1 ≤ workers) × (workers ≤ 8) }
-    requires items { list.now ≡ items tables.now.window }
-    requires ceiling { ceiling ≤ GREATEST_COST }
-{
-    let (race, mut seat) = Race::make(alloc, workers)?;
-    let mut counter = Counter {
-        needs_all,
-        blocks: 0,
-    };
-    match search_with(
-        rt,
-        &race,
-        &mut seat,
-        tables,
-        list,
-        ceiling,
-        workers,
-        &NoGate,
-        &mut counter,
-    ) {
-        Ok(()) => Ok(finish(race, seat, tables, list, ceiling)),
-    }
-}
-
-// The first two keys under a ceiling, which are the same for one worker and four, with each day's own step and without.
-fn found_each_way<R: Threads + Abort + Sync>(
-    rt: &R,
-    alloc: Global,
-    tables: &Tables,
-    list: &[Block],
-    ceiling: u32,
-) -> Result<Found, Fail>
-    requires items { list.now ≡ items tables.now.window }
-    requires ceiling { ceiling ≤ GREATEST_COST }
-{
-    let keys = found_with(rt, alloc, tables, list, ceiling, 1, true)?;
-    let others = found_with(rt, alloc, tables, list, ceiling, 1, false)?;
-    assert_eq!(rt; others, keys, "one worker");
-    let others = found_with(rt, alloc, tables, list, ceiling, 4, true)?;
-    assert_eq!(rt; others, keys, "four workers");
-    let others = found_with(rt, alloc, tables, list, ceiling, 4, false)?;
-    assert_eq!(rt; others, keys, "four workers, by floors");
-    Ok(keys)
-}
-
-// Floors change no key, under any ceiling and under those about the least cost.
-pub(crate) fn keys_are_found_each_way<R: Threads + Abort + Sync>(
-    rt: &R,
-    alloc: Global,
-    tables: &Tables,
-    list: &[Block],
-) -> Result<(), Fail>
-    requires { list.now ≡ items tables.now.window }
-{
-    let found = found_each_way(rt, alloc, tables, list, GREATEST_COST)?;
-    let Some(first) = found.first else {
-        return Ok(());
-    };
-
-    // At the very cost of the first sequence it is found again, and below it nothing is.
-    let cost = GREATEST_COST.min((first >> 33) as u32);
-    let again = found_each_way(rt, alloc, tables, list, cost)?;
-    assert_eq!(rt; again.first, Some(first));
-    if cost > 0 {
-        let none = found_each_way(rt, alloc, tables, list, cost - 1)?;
-        assert_eq!(rt; none.first, None);
-    }
-    Ok(())
-}
-
-// The same of three days at the end of a year, by this log.
-fn floors_change_no_key<R: Threads + Abort + Sync>(
-    rt: &R,
-    alloc: Global,
-    text: &[u8],
-) -> Result<(), Fail>
-    requires { length text.now ≤ 1000 }
-{
-    let window = jjy(YEAR_2001 - 2880, YEAR_2001 + 1440);
-    let grids = [minute_grid(alloc, Station::Jjy, text)?];
-    check_window(rt, alloc, &window, &grids, Check::Keys)
-}
-
-#[test]
-fn floors_change_no_key_of_noise(rt: HostRuntime) -> Result<(), Fail> {
-    floors_change_no_key(&rt, rt.alloc(), NOISE)
-}
-
-#[test]
-fn floors_change_no_key_of_silence(rt: HostRuntime) -> Result<(), Fail> {
-    floors_change_no_key(&rt, rt.alloc(), b"")
-}
 
 // The last bit of the minute: MSF tells 1, of the minute that comes, and WWVB tells 1, of the minute that is. A wrong one costs 100 at
 // MSF, and 300 at WWVB.

@@ -1,12 +1,11 @@
-//! The years of the century, and of its last minutes, and their order.
+//! The years of the century's last minutes, and their order.
 
 ghost use Rattle.std.specs.List.{AllByRecursion};
 ghost use Rattle.definitions.specs.answers.Blocks.{IsBlock};
 
 use crate::checks::{Check, check_window};
 use crate::last_minutes::FROM;
-use bounds::{Block, Span, announced_last, items, ranked};
-use civil::Civil;
+use bounds::{Block, Span, announced_last, ranked};
 use definitions::CENTURY_MINUTES;
 use field_tables::Tables;
 use sample_grids::{dcf77, grid, table};
@@ -14,33 +13,6 @@ use signal_base::Station;
 use std::alloc::Global;
 use std::process::Abort;
 use std::test::Fail;
-
-// The minutes of 2000, which is a leap year, and of 2099, which isn't.
-const YEAR_2000: u32 = 527_040;
-
-const YEAR_2099: u32 = 525_600;
-
-fn year(announced: bool, second: u8, lo: u32, hi: u32) -> Block {
-    Block {
-        announced,
-        second,
-        span: Span::Year,
-        lo,
-        hi,
-    }
-}
-
-#[test]
-fn lists_the_years_of_the_century(rt: HostRuntime) -> Result<(), Fail> {
-    let civil = Civil::make(rt.alloc())?;
-    let list = items(rt.alloc(), &civil, &dcf77(0, CENTURY_MINUTES))?;
-    let first = year(false, 0, 0, YEAR_2000);
-    let last = year(true, 60, CENTURY_MINUTES - YEAR_2099, CENTURY_MINUTES);
-    assert_eq!(rt; list.len(), 12_100);
-    assert_eq!(rt; list.first().copied(), Some(first));
-    assert_eq!(rt; list.last().copied(), Some(last));
-    Ok(())
-}
 
 #[test]
 fn ranks_the_years_of_the_last_minutes(rt: HostRuntime) -> Result<(), Fail> {

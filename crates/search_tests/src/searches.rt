@@ -1,16 +1,15 @@
-//! What no clause says: that workers take part beside each other, that a visit goes by what others offered, and small
-//! searches from end to end.
+//! What no clause says: that workers take part beside each other, that a visit goes by what others offered, and that a search ends
+//! where its steps can't be kept.
 
-ghost use Rattle.std.specs.Prelude.{◌≡◌, ◌≤◌};
+ghost use Rattle.std.specs.Prelude.{◌≡◌};
 ghost use Rattle.definitions.specs.answers.Blocks.{items};
 
 use crate::checks::{Check, check_window};
 use crate::items::item;
-use crate::last_minutes::FROM;
-use definitions::{Block, CENTURY_MINUTES, Span};
+use definitions::{Block, Span};
 use field_tables::Tables;
 use race_words::{Race, Seat};
-use sample_grids::{YEAR_2001, dcf77, jjy, silent_grid};
+use sample_grids::{YEAR_2001, jjy, silent_grid};
 use signal_base::{GREATEST_COST, Station};
 use std::alloc::Global;
 use std::convert::Infallible;
@@ -19,73 +18,10 @@ use std::sync::atomic::{AtomicBool, Ordering};
 use std::test::Fail;
 use std::thread;
 use std::thread::Threads;
-use workers::{Found, Gate, NoGate, Recorder, finish, search, search_with, visit_with};
+use workers::{Gate, NoGate, Recorder, search, search_with, visit_with};
 
 // How often a worker who is held looks for the other.
 const TURNS: u32 = 10_000_000;
-
-fn found<R: Threads + Sync>(
-    rt: &R,
-    alloc: Global,
-    tables: &Tables,
-    list: &[Block],
-    workers: u8,
-) -> Result<Found, Fail>
-    requires workers { (1 ≤ workers) × (workers ≤ 8) }
-    requires items { list.now ≡ items tables.now.window }
-{
-    let (race, mut seat) = Race::make(alloc, workers)?;
-    search(
-        rt,
-        &race,
-        &mut seat,
-        tables,
-        list,
-        GREATEST_COST,
-        workers,
-        &NoGate,
-    );
-    Ok(finish(race, seat, tables, list, GREATEST_COST))
-}
-
-// However many workers search, these are the first two keys.
-pub(crate) fn each_crew_finds<R: Threads + Abort + Sync>(
-    rt: &R,
-    alloc: Global,
-    tables: &Tables,
-    list: &[Block],
-    first: Option<u64>,
-    second: Option<u64>,
-) -> Result<(), Fail>
-    requires { list.now ≡ items tables.now.window }
-{
-    for workers in 1..=8 {
-        let found = found(rt, alloc, tables, list, workers)?;
-        assert_eq!(rt; (found.first, found.second), (first, second), "{workers}");
-    }
-    Ok(())
-}
-
-#[test]
-fn one_sequence_is_left_at_the_end_of_the_century(rt: HostRuntime) -> Result<(), Fail> {
-    // From 22:59Z on the year that DCF77 encodes is 2100, and a walk of 60 seconds ends there unless it begins with second 0.
-    let grids = [silent_grid(rt.alloc(), Station::Dcf77)?];
-    let check = Check::EachCrew(Some(52_595_938), None);
-    check_window(
-        &rt,
-        rt.alloc(),
-        &dcf77(FROM, CENTURY_MINUTES),
-        &grids,
-        check,
-    )
-}
-
-#[test]
-fn a_silent_hour_ties(rt: HostRuntime) -> Result<(), Fail> {
-    let grids = [silent_grid(rt.alloc(), Station::Jjy)?];
-    let check = Check::EachCrew(Some(0), Some(1));
-    check_window(&rt, rt.alloc(), &jjy(0, 60), &grids, check)
-}
 
 // Holds each of two workers at its first pass until both have made one.
 #[derive(Drop)]
@@ -310,37 +246,6 @@ pub(crate) fn days_are_passed_over(
     Ok(())
 }
 
-// How many blocks so many workers come to.
-fn blocks_of_all<R: Threads + Sync>(
-    rt: &R,
-    alloc: Global,
-    tables: &Tables,
-    list: &[Block],
-    workers: u8,
-) -> Result<u32, Fail>
-    requires workers { (1 ≤ workers) × (workers ≤ 8) }
-    requires items { list.now ≡ items tables.now.window }
-{
-    let (race, mut seat) = Race::make(alloc, workers)?;
-    let mut counter = Counter {
-        needs_all: true,
-        blocks: 0,
-    };
-    match search_with(
-        rt,
-        &race,
-        &mut seat,
-        tables,
-        list,
-        GREATEST_COST,
-        workers,
-        &NoGate,
-        &mut counter,
-    ) {
-        Ok(()) => Ok(counter.blocks),
-    }
-}
-
 // Keeps so many steps in each part, and fails at the next.
 #[derive(Drop)]
 struct FewSteps {
@@ -430,28 +335,6 @@ pub(crate) fn few_steps_are_kept<R: Threads + Abort + Sync>(
     for (room, least, second) in [(0, u64::MAX, u64::MAX), (1, u64::MAX, u64::MAX), (60, 0, 1)] {
         let kept = kept_in(rt, alloc, tables, list, room)?;
         assert_eq!(rt; kept, (Err(NoRoom), least, second), "{room}");
-    }
-    Ok(())
-}
-
-#[test]
-fn each_workers_steps_are_told(rt: HostRuntime) -> Result<(), Fail> {
-    let grids = [silent_grid(rt.alloc(), Station::Jjy)?];
-    check_window(&rt, rt.alloc(), &jjy(0, 60), &grids, Check::EachWorker)
-}
-
-// An hour of JJY has 121 items, and whoever visits one comes to its year at least.
-pub(crate) fn each_workers_steps_count<R: Threads + Abort + Sync>(
-    rt: &R,
-    alloc: Global,
-    tables: &Tables,
-    list: &[Block],
-) -> Result<(), Fail>
-    requires { list.now ≡ items tables.now.window }
-{
-    for workers in 1..=8 {
-        let blocks = blocks_of_all(rt, alloc, tables, list, workers)?;
-        assert!(rt; blocks >= 121, "{workers} workers: {blocks}");
     }
     Ok(())
 }

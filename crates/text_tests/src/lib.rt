@@ -12,8 +12,6 @@ mod config_faults;
 #[cfg(test)]
 mod configurations;
 #[cfg(test)]
-mod days;
-#[cfg(test)]
 mod feeds;
 #[cfg(test)]
 mod frames;

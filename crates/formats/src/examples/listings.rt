@@ -15,25 +15,25 @@ ghost use Rattle.formats.specs.Listing.{listing, listing_head};
 pub fn listed_minutes()
     ensures jjy { listing Jjy false (at (on 2024 6 10) 6 45)
         ≡ line (codes "encode jjy 2024-06-10T06:45Z 60") ++ line (codes "M10000101M000100101M000100110M001000110M*********M??????000M") }
-    ensures long { listing_head Dcf77 true (at (on 2016 12 31) 23 59) ≡ line (codes "encode dcf77 2016-12-31T23:59Z 61") }
+    ensures long { listing_head Dcf77 true (at (on 2000 12 31) 23 59) ≡ line (codes "encode dcf77 2000-12-31T23:59Z 61") }
 {}
 
-/// Single sentences: around the beginning of European summer time, which UTC doesn't have, and on a leap day.
+/// Single sentences: around the beginning of European summer time, which UTC doesn't have, on a leap day, and the last of a year.
 pub fn sentences()
     ensures before { zda_sentence (at (on 2024 3 31) 0 59) ≡ codes "$GPZDA,005900.00,31,03,2024,00,00*6F" ++ carriage_return ∷ line_feed ∷ [] }
-    ensures after { zda_sentence (at (on 2024 3 31) 1 0) ≡ codes "$GPZDA,010000.00,31,03,2024,00,00*62" ++ carriage_return ∷ line_feed ∷ [] }
-    ensures leap_day { zda_sentence (at (on 2024 2 29) 0 0) ≡ codes "$GPZDA,000000.00,29,02,2024,00,00*6B" ++ carriage_return ∷ line_feed ∷ [] }
-    ensures last { zda_sentence (at (on 2099 12 31) 23 59) ≡ codes "$GPZDA,235900.00,31,12,2099,00,00*68" ++ carriage_return ∷ line_feed ∷ [] }
+    ensures after { zda_sentence (at (on 2000 3 26) 1 0) ≡ codes "$GPZDA,010000.00,26,03,2000,00,00*62" ++ carriage_return ∷ line_feed ∷ [] }
+    ensures leap_day { zda_sentence (at (on 2000 2 29) 0 0) ≡ codes "$GPZDA,000000.00,29,02,2000,00,00*6D" ++ carriage_return ∷ line_feed ∷ [] }
+    ensures last { zda_sentence (at (on 2001 12 31) 23 59) ≡ codes "$GPZDA,235900.00,31,12,2001,00,00*69" ++ carriage_return ∷ line_feed ∷ [] }
 {}
 
 /// Feeds over a midnight, over a year's end, and over a year's end with a leap second.
 pub fn feeds()
-    ensures one_slot { feed (from_place (at (on 2024 6 10) 23 59) 59) 1 ≡ [] }
-    ensures two_slots { feed (from_place (at (on 2024 6 10) 23 59) 59) 2 ≡ codes "$GPZDA,000000.00,11,06,2024,00,00*64" ++ carriage_return ∷ line_feed ∷ [] }
-    ensures two_minutes { feed (from_place (at (on 2024 6 10) 23 59) 0) 61
-        ≡ codes "$GPZDA,235900.00,10,06,2024,00,00*68" ++ carriage_return ∷ line_feed ∷ []
-        ++ codes "$GPZDA,000000.00,11,06,2024,00,00*64" ++ carriage_return ∷ line_feed ∷ [] }
-    ensures new_year { feed (from_place (at (on 2016 12 31) 23 59) 59) 2 ≡ codes "$GPZDA,000000.00,01,01,2017,00,00*62" ++ carriage_return ∷ line_feed ∷ [] }
-    ensures leap { feed (announced_from (at (on 2016 12 31) 23 59) 59) 2 ≡ [] }
-    ensures after_leap { feed (announced_from (at (on 2016 12 31) 23 59) 59) 3 ≡ codes "$GPZDA,000000.00,01,01,2017,00,00*62" ++ carriage_return ∷ line_feed ∷ [] }
+    ensures one_slot { feed (from_place (at (on 2000 6 10) 23 59) 59) 1 ≡ [] }
+    ensures two_slots { feed (from_place (at (on 2000 6 10) 23 59) 59) 2 ≡ codes "$GPZDA,000000.00,11,06,2000,00,00*62" ++ carriage_return ∷ line_feed ∷ [] }
+    ensures two_minutes { feed (from_place (at (on 2000 6 10) 23 59) 0) 61
+        ≡ codes "$GPZDA,235900.00,10,06,2000,00,00*6E" ++ carriage_return ∷ line_feed ∷ []
+        ++ codes "$GPZDA,000000.00,11,06,2000,00,00*62" ++ carriage_return ∷ line_feed ∷ [] }
+    ensures new_year { feed (from_place (at (on 2000 12 31) 23 59) 59) 2 ≡ codes "$GPZDA,000000.00,01,01,2001,00,00*65" ++ carriage_return ∷ line_feed ∷ [] }
+    ensures leap { feed (announced_from (at (on 2000 12 31) 23 59) 59) 2 ≡ [] }
+    ensures after_leap { feed (announced_from (at (on 2000 12 31) 23 59) 59) 3 ≡ codes "$GPZDA,000000.00,01,01,2001,00,00*65" ++ carriage_return ∷ line_feed ∷ [] }
 {}

@@ -19,35 +19,35 @@ pub fn reports_without_a_decision()
     ensures undecided { report (minute_from 0 0) [] (Undecided 0 (from_place (at (on 2000 6 10) 6 15) 0) (from_place (at (on 2001 6 11) 6 15) 0))
         ≡ line (codes "undecided 0") ++ line (codes "phase 0") ++ line (codes "sequence 2000-06-10T06:15Z 0 no")
         ++ line (codes "sequence 2001-06-11T06:15Z 0 no") }
-    ensures announced { report (minute_from 0 0) [] (Undecided 300 (from_place (at (on 2015 6 30) 23 59) 29) (announced_from (at (on 2015 6 30) 23 59) 30))
-        ≡ line (codes "undecided 300") ++ line (codes "phase 0") ++ line (codes "sequence 2015-06-30T23:59Z 29 no")
-        ++ line (codes "sequence 2015-06-30T23:59Z 30 yes") }
+    ensures announced { report (minute_from 0 0) [] (Undecided 300 (from_place (at (on 2000 6 30) 23 59) 29) (announced_from (at (on 2000 6 30) 23 59) 30))
+        ≡ line (codes "undecided 300") ++ line (codes "phase 0") ++ line (codes "sequence 2000-06-30T23:59Z 29 no")
+        ++ line (codes "sequence 2000-06-30T23:59Z 30 yes") }
 {}
 
 /// The lines of a decided answer before those of its minutes, with each line that tells DUT1.
 pub fn heads_of_reports()
-    ensures tenths { report_head (minute_from 0 0) (dut_told Msf (Tenths (negsuc 1)) ∷ []) (Decided 0 (from_place (at (on 2024 7 15) 12 0) 0) (Some 200))
-        ≡ line (codes "decided 0") ++ line (codes "phase 0") ++ line (codes "sequence 2024-07-15T12:00Z 0 no") ++ line (codes "next 200")
+    ensures tenths { report_head (minute_from 0 0) (dut_told Msf (Tenths (negsuc 1)) ∷ []) (Decided 0 (from_place (at (on 2000 7 15) 12 0) 0) (Some 200))
+        ≡ line (codes "decided 0") ++ line (codes "phase 0") ++ line (codes "sequence 2000-07-15T12:00Z 0 no") ++ line (codes "next 200")
         ++ line (codes "dut1 -2") }
-    ensures tied { report_head (minute_from 0 0) (dut_told Msf Tied ∷ []) (Decided 100 (from_place (at (on 2024 7 15) 12 0) 0) (Some 300))
-        ≡ line (codes "decided 100") ++ line (codes "phase 0") ++ line (codes "sequence 2024-07-15T12:00Z 0 no") ++ line (codes "next 300")
+    ensures tied { report_head (minute_from 0 0) (dut_told Msf Tied ∷ []) (Decided 100 (from_place (at (on 2000 7 15) 12 0) 0) (Some 300))
+        ≡ line (codes "decided 100") ++ line (codes "phase 0") ++ line (codes "sequence 2000-07-15T12:00Z 0 no") ++ line (codes "next 300")
         ++ line (codes "dut1 undecided") }
     ensures free { dut_lines (dut_told Wwvb Free ∷ []) ≡ line (codes "dut1 free") }
-    ensures several { report_head (minute_from 0 0) (dut_told Msf (Tenths (pos 0)) ∷ dut_told Wwvb (Tenths (pos 3)) ∷ []) (Decided 0 (from_place (at (on 2024 7 15) 12 0) 0) (Some 500))
-        ≡ line (codes "decided 0") ++ line (codes "phase 0") ++ line (codes "sequence 2024-07-15T12:00Z 0 no") ++ line (codes "next 500")
+    ensures several { report_head (minute_from 0 0) (dut_told Msf (Tenths (pos 0)) ∷ dut_told Wwvb (Tenths (pos 3)) ∷ []) (Decided 0 (from_place (at (on 2000 7 15) 12 0) 0) (Some 500))
+        ≡ line (codes "decided 0") ++ line (codes "phase 0") ++ line (codes "sequence 2000-07-15T12:00Z 0 no") ++ line (codes "next 500")
         ++ line (codes "dut1 msf 0") ++ line (codes "dut1 wwvb 3") }
     ensures silent { dut_lines (dut_told Dcf77 Absent ∷ dut_told Msf Free ∷ []) ≡ line (codes "dut1 msf free") }
-    ensures alone { report_head (minute_from 0 0) (dut_told Dcf77 Absent ∷ []) (Decided 0 (from_place (at (on 2099 12 31) 22 58) 0) None)
-        ≡ line (codes "decided 0") ++ line (codes "phase 0") ++ line (codes "sequence 2099-12-31T22:58Z 0 no") ++ line (codes "next none") }
+    ensures alone { report_head (minute_from 0 0) (dut_told Dcf77 Absent ∷ []) (Decided 0 (from_place (at (on 2000 12 31) 22 58) 0) None)
+        ≡ line (codes "decided 0") ++ line (codes "phase 0") ++ line (codes "sequence 2000-12-31T22:58Z 0 no") ++ line (codes "next none") }
 {}
 
 /// The minutes of a decided answer, and when they begin; a report of a certificate that holds.
 pub fn minutes_of_reports()
-    ensures minute { minute_line (minute_from 0 0) (at (on 2024 6 10) 6 17) 60 ≡ line (codes "minute 2024-06-10T06:17Z at 60000") }
-    ensures later { minute_line (minute_from 5000 237) (at (on 2024 6 10) 6 17) 60 ≡ line (codes "minute 2024-06-10T06:17Z at 65237") }
-    ensures minutes { at_minutes (minute_line (minute_from 0 0)) (from_place (at (on 2024 6 10) 6 16) 58) 4 ≡ line (codes "minute 2024-06-10T06:17Z at 2000") }
-    ensures first { at_minutes (minute_line (minute_from 0 0)) (from_place (at (on 2024 6 10) 6 16) 0) 60 ≡ line (codes "minute 2024-06-10T06:16Z at 0") }
-    ensures leap { at_minutes (minute_line (minute_from 0 0)) (announced_from (at (on 2016 12 31) 23 59) 59) 3 ≡ line (codes "minute 2017-01-01T00:00Z at 2000") }
+    ensures minute { minute_line (minute_from 0 0) (at (on 2000 6 10) 6 17) 60 ≡ line (codes "minute 2000-06-10T06:17Z at 60000") }
+    ensures later { minute_line (minute_from 5000 237) (at (on 2000 6 10) 6 17) 60 ≡ line (codes "minute 2000-06-10T06:17Z at 65237") }
+    ensures minutes { at_minutes (minute_line (minute_from 0 0)) (from_place (at (on 2000 6 10) 6 16) 58) 4 ≡ line (codes "minute 2000-06-10T06:17Z at 2000") }
+    ensures first { at_minutes (minute_line (minute_from 0 0)) (from_place (at (on 2000 6 10) 6 16) 0) 60 ≡ line (codes "minute 2000-06-10T06:16Z at 0") }
+    ensures leap { at_minutes (minute_line (minute_from 0 0)) (announced_from (at (on 2000 12 31) 23 59) 59) 3 ≡ line (codes "minute 2001-01-01T00:00Z at 2000") }
     ensures certified { certified_report (minute_from 0 0) [] Nothing ≡ line (codes "certified") ++ line (codes "none") ++ line (codes "phase 0") }
 {}
 

@@ -2,20 +2,19 @@
 use Rattle.std.proofs.Common.{◌≡◌, ◌-◌, ◌≤◌, true, false, refl, arith}
 use Rattle.signal_base.specs.declared.station.Station.{Station}
 use Rattle.signal_base.specs.declared.station.Station.TheVariants.{Dcf77, Msf, Wwvb, Jjy}
-use Rattle.definitions.specs.time.Calendar.{century_minutes, day_at}
+use Rattle.definitions.specs.time.Calendar.{century_minutes}
 use Rattle.definitions.specs.codes.Allowed.{encoded_year, has_station}
 use Rattle.definitions.specs.sequences.Walks.{place_at}
 use Rattle.definitions.specs.examples.Sequences.{window_of}
+use Rattle.definitions.proofs.LastDay.{year_behind_it, year_of_the_last}
 use Rattle.definitions.proofs.MinuteLaws.{early, walkable}
 use Rattle.definitions.proofs.examples.sequences.last_hours_of_a_bank.Goals as goal
 
 wwvb_last : encoded_year Wwvb (century_minutes - 540) ≡ 2099
-unfolding day_at
-wwvb_last = refl
+wwvb_last = year_of_the_last
 
 jjy_last : encoded_year Jjy (century_minutes - 540) ≡ 2100
-unfolding day_at
-jjy_last = refl
+jjy_last = year_behind_it
 
 alone : (station : Station) → has_station (window_of 4 0 century_minutes).stations station ≡ true → encoded_year station (century_minutes - 540) ≤ 2099
 alone Wwvb has = omega (arith, wwvb_last)

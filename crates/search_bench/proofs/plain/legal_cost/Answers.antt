@@ -1,4 +1,0 @@
-use Rattle.search_bench.proofs.plain.legal_cost.Goals as goal
-
-pub returns : goal.returns
-returns c = (c.legal.ensures.0 c.if-not-legal.false, c.plain_cost.ensures.cost)
