@@ -1,5 +1,6 @@
 pub mod ChangeLaws
 pub mod ColumnLaws
+pub mod EntryLaws
 pub mod GroupLaws
 pub mod HourLaws
 pub mod LayerLaws

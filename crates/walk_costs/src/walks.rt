@@ -1,6 +1,6 @@
 //! What sequences cost a station, by tables that were made for a window.
 
-ghost use Rattle.std.specs.Prelude.{◌≡◌, ◌==◌, ◌+◌, ◌/◌, ◌%◌, ◌<◌, ◌≤◌, ◌↔◌, ℕ, IfOk, IfSome, IsNone, IsTrue, false, length, true};
+ghost use Rattle.std.specs.Prelude.{◌≡◌, ◌==◌, ◌+◌, ◌/◌, ◌%◌, ◌<◌, ◌≤◌, ◌↔◌, ℕ, All, IfOk, IfSome, IsNone, IsTrue, false, length, true};
 ghost use Rattle.signal_base.specs.declared.limits.TheConstants.{GREATEST_COST};
 ghost use Rattle.definitions.specs.time.Calendar.{century_minutes, is_leap_end, minutes_per_day};
 ghost use Rattle.symbol_cost.specs.Grid.{HasCosts, cost_at};
@@ -9,6 +9,9 @@ ghost use Rattle.minute_parts.specs.declared.call.TheConstants.{CALL_MINUTES};
 ghost use Rattle.slot_columns.specs.Parts.{AreWalkCosts, most_cost};
 ghost use Rattle.walk_costs.specs.Dates.{AreAdded, IsAdded, minutes_to_call};
 ghost use Rattle.minute_parts.specs.Walks.{later_minutes};
+ghost use Rattle.walk_costs.specs.Changes.{IsChange};
+ghost use Rattle.walk_costs.specs.Leasts.{AreLeast};
+ghost use Rattle.walk_costs.specs.Spans.{HoldsDates};
 ghost use Rattle.walk_costs.specs.Walks.{AreSmall, IsRegularIn, IsShown, MayAdd, ShowsAnnouncement, cost_of, last_minute};
 
 use crate::change::{Change, changes_of};
@@ -70,9 +73,11 @@ impl<'a> StationWalks<'a> {
         let walks = walks_of(alloc, parts, &columns)?;
         let added = all_added(&columns);
         let DateTable { costs, announced } = dates_of(alloc, parts, &columns)?;
-        let least = LeastWalks::make(alloc, parts, &columns, &walks)?;
-        let changes = changes_of(alloc, parts, &columns)?;
-        let spans = spans_of(alloc, parts, columns.station())?;
+        let FloorParts {
+            least,
+            changes,
+            spans,
+        } = floor_parts_of(alloc, parts, &columns, &walks)?;
         look_at_all(&columns);
         Ok(StationWalks {
             unions,
@@ -275,6 +280,38 @@ fn walks_of(alloc: Global, parts: &Parts, columns: &SlotColumns) -> Result<WalkT
     let times = times_of(alloc, parts)?;
     let walks = WalkTable::make(alloc, columns, &times)?;
     Ok(walks)
+}
+
+// What floors are made from: the least costs of walks by time of day and date, the changes between runs, and the dates of years.
+#[derive(Drop)]
+struct FloorParts {
+    least: LeastWalks,
+    changes: Vec<Change>,
+    spans: Vec<DateSpan>,
+}
+
+fn floor_parts_of(
+    alloc: Global,
+    parts: &Parts,
+    columns: &SlotColumns,
+    walks: &WalkTable,
+) -> Result<FloorParts, AllocError>
+    requires table { IsPartTable parts.now }
+    requires costs { AreWalkCosts walks.now columns.now parts.now.times }
+    requires station { columns.now.station ≡ parts.now.station }
+    ensures inside { IfOk result (λ made. AreLeast parts.now columns.now false made.least.inside) }
+    ensures across { IfOk result (λ made. AreLeast parts.now columns.now true made.least.across) }
+    ensures over { IfOk result (λ made. All (IsChange parts.now columns.now) made.changes.items) }
+    ensures held { IfOk result (λ made. All (HoldsDates parts.now columns.now.station) made.spans.items) }
+{
+    let least = LeastWalks::make(alloc, parts, columns, walks)?;
+    let changes = changes_of(alloc, parts, columns)?;
+    let spans = spans_of(alloc, parts, columns.station())?;
+    Ok(FloorParts {
+        least,
+        changes,
+        spans,
+    })
 }
 
 // The parts by the time of day, in a row.
