@@ -1,6 +1,6 @@
-//! Tests of texts that are read and written, by what the crates promise: `civil`, `pulse_log`, `symbol_cost`, `bank_config`,
-//! `bank_words`, `board_queries`, `irig_frames`, `texts`, `trial_log` and `certificate_texts`. They stand apart, so that each of
-//! those crates is proved once and not a second time with its tests.
+//! Tests of texts that are read and written, by what the crates promise: `pulse_log`, `symbol_cost`, `bank_config`, `bank_words`,
+//! `board_queries`, `irig_frames`, `texts`, `trial_log` and `certificate_texts`. They stand apart, so that each of those crates is
+//! proved once and not a second time with its tests.
 #![tactic(auto)]
 
 #[cfg(test)]
