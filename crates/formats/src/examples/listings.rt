@@ -18,7 +18,8 @@ pub fn listed_minutes()
     ensures long { listing_head Dcf77 true (at (on 2000 12 31) 23 59) ≡ line (codes "encode dcf77 2000-12-31T23:59Z 61") }
 {}
 
-/// Single sentences: around the beginning of European summer time, which UTC doesn't have, on a leap day, and the last of a year.
+/// Single sentences: the last minute before European summer time in 2024 and the first of it in 2000, which UTC passes over, on a leap
+/// day, and the last of a year.
 pub fn sentences()
     ensures before { zda_sentence (at (on 2024 3 31) 0 59) ≡ codes "$GPZDA,005900.00,31,03,2024,00,00*6F" ++ carriage_return ∷ line_feed ∷ [] }
     ensures after { zda_sentence (at (on 2000 3 26) 1 0) ≡ codes "$GPZDA,010000.00,26,03,2000,00,00*62" ++ carriage_return ∷ line_feed ∷ [] }
