@@ -6,6 +6,7 @@ use Rattle.definitions.specs.declared.day.Day.{Day}
 use Rattle.definitions.specs.time.Calendar.{day_at, next_day, month_length, century_days}
 use Rattle.definitions.specs.time.Spelling.{date_text}
 use Rattle.definitions.specs.time.Spelling.{day_text}
+use Rattle.definitions.proofs.LastDay.{year_behind_it}
 
 -- years don't fall
 year_step : (d : Day) → d.year ≤ (next_day d).year
@@ -16,14 +17,10 @@ unfolding day_at
 years_rise n zero = rw add-zero (omega arith)
 years_rise n (suc k) = rw add-suc (omega (arith, years_rise n k, year_step (day_at (n + k))))
 
-last_year : (day_at 36525).year ≡ 2100
-unfolding day_at
-last_year = refl
-
 pub early_year : (n : ℕ) → n ≤ 36525 → (day_at n).year ≤ 2100
 early_year n h =
     let there : n + (36525 - n) ≡ 36525 = omega arith in
-    omega (arith, years_rise n (36525 - n), ap (λ m. (day_at m).year) there, last_year)
+    omega (arith, years_rise n (36525 - n), ap (λ m. (day_at m).year) there, year_behind_it)
 
 month_length_bound : (y m : ℕ) → month_length y m ≤ 31
 month_length_bound y m = grind (arith, nat_tests)

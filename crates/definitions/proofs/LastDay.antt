@@ -12,7 +12,7 @@ europe n = season_at (is_last_sunday 3) (is_last_sunday 10) n
 abbrev next : DayAndSeason → DayAndSeason
 next s = (next_day s.0, if is_last_sunday 3 s.0 then true else if is_last_sunday 10 s.0 then false else s.1)
 
-abbrev last_of_2099 : Day
+abbrev pub last_of_2099 : Day
 last_of_2099 = record { year = 2099; month = 12; day = 31; weekday = 4; day_of_year = 365 }
 
 abbrev first_of_2100 : Day
@@ -32,8 +32,11 @@ behind_it = step (century_days - 1) ∙ ap next the_last
 day : (n : ℕ) → day_at n ≡ (europe n).0
 day n = sym (day_of_state (is_last_sunday 3) (is_last_sunday 10) march_day october_day n)
 
+pub last_day : day_at (century_days - 1) ≡ last_of_2099
+last_day = day (century_days - 1) ∙ ap (λ (s : DayAndSeason). s.0) the_last
+
 pub year_of_the_last : (day_at (century_days - 1)).year ≡ 2099
-year_of_the_last = ap (λ (d : Day). d.year) (day (century_days - 1) ∙ ap (λ (s : DayAndSeason). s.0) the_last)
+year_of_the_last = ap (λ (d : Day). d.year) last_day
 
 pub year_behind_it : (day_at century_days).year ≡ 2100
 year_behind_it = ap (λ (d : Day). d.year) (day century_days ∙ ap (λ (s : DayAndSeason). s.0) behind_it)

@@ -16,9 +16,9 @@ from_place first second = record { first = first; second = second; announced = f
 abbrev pub IsEither : Sequence → Type 0
 IsEither q = (q ≡ from_place 720 0) ⊎ (q ≡ from_place 720 1)
 
--- a walk from the first second of 2000-06-30T23:59Z on, as it would be with a leap second
+-- a walk from second 50 of 2000-06-30T23:59Z on, as it would be with a leap second
 abbrev pub leap_walk : List (ℕ × ℕ)
-leap_walk = map (place_at (record { first = at (on 2000 6 30) 23 59; second = 0; announced = true })) (0 ∷ 59 ∷ 60 ∷ 61 ∷ 121 ∷ [])
+leap_walk = map (place_at (record { first = at (on 2000 6 30) 23 59; second = 50; announced = true })) (0 ∷ 9 ∷ 10 ∷ 11 ∷ 71 ∷ [])
 
 -- from the leap second at the end of June 2000 on
 abbrev pub leap_second_of_june : Sequence
@@ -32,9 +32,9 @@ window_of mask lo hi = record { stations = record { mask = mask }; start = 0; ph
 abbrev pub june_announced : Sequence
 june_announced = record { first = at (on 2000 6 1) 0 0; second = 0; announced = true }
 
--- from a second of 2000-12-31T22:59Z on, as it would be with a leap second at the end of the day
-abbrev pub december_announced : ℕ → Sequence
-december_announced second = record { first = at (on 2000 12 31) 22 59; second = second; announced = true }
+-- from a second of 2000-06-30T22:59Z on, as it would be with a leap second at the end of the day
+abbrev pub june_warned : ℕ → Sequence
+june_warned second = record { first = at (on 2000 6 30) 22 59; second = second; announced = true }
 
 -- the block of a span from minute lo up to, and without, hi, from the first second on
 abbrev pub block_of : Span → ℕ → ℕ → Block

@@ -47,62 +47,60 @@ pub fn american_changes()
     ensures to_2099 { us_around (on 2099 11 1) ≡ 3 ∷ 1 ∷ 0 ∷ [] }
 {}
 
-/// WWVB's seconds 57 and 58 around the changes of 2006 and 2007.
+/// WWVB's seconds 57 and 58 around the changes of 2000.
 pub fn american_seconds()
-    ensures of_2006 { us_seconds (on 2006 4 2) ≡ (only 0, only 0) ∷ (only 1, only 0) ∷ (only 1, only 1) ∷ [] }
-    ensures to_2006 { us_seconds (on 2006 10 29) ≡ (only 1, only 1) ∷ (only 0, only 1) ∷ (only 0, only 0) ∷ [] }
-    ensures of_2007 { us_seconds (on 2007 3 11) ≡ (only 0, only 0) ∷ (only 1, only 0) ∷ (only 1, only 1) ∷ [] }
-    ensures to_2007 { us_seconds (on 2007 11 4) ≡ (only 1, only 1) ∷ (only 0, only 1) ∷ (only 0, only 0) ∷ [] }
+    ensures spring { us_seconds (on 2000 4 2) ≡ (only 0, only 0) ∷ (only 1, only 0) ∷ (only 1, only 1) ∷ [] }
+    ensures autumn { us_seconds (on 2000 10 29) ≡ (only 1, only 1) ∷ (only 0, only 1) ∷ (only 0, only 0) ∷ [] }
 {}
 
-/// DCF77's minutes around the changes of 2024: 03:00 follows 01:59, and 02:00 comes twice.
+/// DCF77's minutes around the changes of 2000: 03:00 follows 01:59, and 02:00 comes twice.
 pub fn dcf77_around_its_changes()
-    ensures spring { dcf77_around (on 2024 3 31) ≡ (1, 59, false, true) ∷ (3, 0, true, true) ∷ (3, 1, true, false) ∷ [] }
-    ensures autumn { dcf77_around (on 2024 10 27) ≡ (2, 59, true, true) ∷ (2, 0, false, true) ∷ (2, 1, false, false) ∷ [] }
+    ensures spring { dcf77_around (on 2000 3 26) ≡ (1, 59, false, true) ∷ (3, 0, true, true) ∷ (3, 1, true, false) ∷ [] }
+    ensures autumn { dcf77_around (on 2000 10 29) ≡ (2, 59, true, true) ∷ (2, 0, false, true) ∷ (2, 1, false, false) ∷ [] }
 {}
 
-/// MSF's minutes around the changes of 2024: 02:00 follows 00:59, and 01:00 comes twice.
+/// MSF's minutes around the changes of 2000: 02:00 follows 00:59, and 01:00 comes twice.
 pub fn msf_around_its_changes()
-    ensures spring { msf_around (on 2024 3 31) ≡ (0, 59, false, true) ∷ (2, 0, true, true) ∷ (2, 1, true, false) ∷ [] }
-    ensures autumn { msf_around (on 2024 10 27) ≡ (1, 59, true, true) ∷ (1, 0, false, true) ∷ (1, 1, false, false) ∷ [] }
+    ensures spring { msf_around (on 2000 3 26) ≡ (0, 59, false, true) ∷ (2, 0, true, true) ∷ (2, 1, true, false) ∷ [] }
+    ensures autumn { msf_around (on 2000 10 29) ≡ (1, 59, true, true) ∷ (1, 0, false, true) ∷ (1, 1, false, false) ∷ [] }
 {}
 
-/// The fields of 2024-06-10T06:16Z, a Monday.
+/// The fields of 2002-06-10T06:16Z, a Monday.
 pub fn fields_of_a_minute()
-    ensures { utc_fields (at (on 2024 6 10) 6 16)
-        ≡ record { year = 2024; month = 6; day = 10; weekday = 1; day_of_year = 162; hour = 6; minute = 16 } }
+    ensures { utc_fields (at (on 2002 6 10) 6 16)
+        ≡ record { year = 2002; month = 6; day = 10; weekday = 1; day_of_year = 161; hour = 6; minute = 16 } }
 {}
 
-/// The end of 2016, whose last minute had a leap second.
-pub fn leap_second_of_2016()
-    ensures before { is_leap_end (at (on 2016 12 31) 23 58) ≡ false }
-    ensures last { is_leap_end (at (on 2016 12 31) 23 59) ≡ true }
-    ensures after { is_leap_end (at (on 2017 1 1) 0 0) ≡ false }
-    ensures long { minute_length true (at (on 2016 12 31) 23 59) ≡ 61 }
-    ensures plain { minute_length false (at (on 2016 12 31) 23 59) ≡ 60 }
+/// The end of 2005, whose last minute had a leap second.
+pub fn leap_second_of_2005()
+    ensures before { is_leap_end (at (on 2005 12 31) 23 58) ≡ false }
+    ensures last { is_leap_end (at (on 2005 12 31) 23 59) ≡ true }
+    ensures after { is_leap_end (at (on 2006 1 1) 0 0) ≡ false }
+    ensures long { minute_length true (at (on 2005 12 31) 23 59) ≡ 61 }
+    ensures plain { minute_length false (at (on 2005 12 31) 23 59) ≡ 60 }
 {}
 
 /// From when on a change of summer time is announced: DCF77 an hour before it, MSF 61 minutes.
 pub fn announced_changes()
-    ensures dcf77 { (dcf_facts false (at (on 2024 3 31) 0 0)).change ≡ true }
-    ensures dcf77_before { (dcf_facts false (at (on 2024 3 30) 23 59)).change ≡ false }
-    ensures msf { (msf_facts false (at (on 2024 3 30) 23 59)).change ≡ true }
-    ensures msf_before { (msf_facts false (at (on 2024 3 30) 23 58)).change ≡ false }
+    ensures dcf77 { (dcf_facts false (at (on 2000 3 26) 0 0)).change ≡ true }
+    ensures dcf77_before { (dcf_facts false (at (on 2000 3 25) 23 59)).change ≡ false }
+    ensures msf { (msf_facts false (at (on 2000 3 25) 23 59)).change ≡ true }
+    ensures msf_before { (msf_facts false (at (on 2000 3 25) 23 58)).change ≡ false }
 {}
 
-/// From when on the leap second of 2016 was announced: by DCF77 in the hour before it, by WWVB in its whole month, by JJY
+/// From when on the leap second of 2005 was announced: by DCF77 in the hour before it, by WWVB in its whole month, by JJY
 /// from the second UTC day of the month on. In the middle of each month of 2000 both announce one in June and December
 /// alone.
 pub fn announced_leap_seconds()
-    ensures dcf77 { (dcf_facts true (at (on 2016 12 31) 23 0)).leap ≡ true }
-    ensures dcf77_before { (dcf_facts true (at (on 2016 12 31) 22 59)).leap ≡ false }
-    ensures wwvb { (wwvb_facts true (at (on 2016 12 1) 0 0)).leap ≡ true }
-    ensures wwvb_before { (wwvb_facts true (at (on 2016 11 30) 23 59)).leap ≡ false }
-    ensures jjy { (jjy_facts true (at (on 2016 12 2) 0 0)).leap ≡ true }
-    ensures jjy_before { (jjy_facts true (at (on 2016 12 1) 23 59)).leap ≡ false }
+    ensures dcf77 { (dcf_facts true (at (on 2005 12 31) 23 0)).leap ≡ true }
+    ensures dcf77_before { (dcf_facts true (at (on 2005 12 31) 22 59)).leap ≡ false }
+    ensures wwvb { (wwvb_facts true (at (on 2005 12 1) 0 0)).leap ≡ true }
+    ensures wwvb_before { (wwvb_facts true (at (on 2005 11 30) 23 59)).leap ≡ false }
+    ensures jjy { (jjy_facts true (at (on 2005 12 2) 0 0)).leap ≡ true }
+    ensures jjy_before { (jjy_facts true (at (on 2005 12 1) 23 59)).leap ≡ false }
     ensures wwvb_months { map (λ month. (wwvb_facts true (at (on 2000 month 15) 0 0)).leap) (range_with_len 1 12) ≡ months_of_leap_seconds }
     ensures jjy_months { map (λ month. (jjy_facts true (at (on 2000 month 15) 0 0)).leap) (range_with_len 1 12) ≡ months_of_leap_seconds }
-    ensures not_announced { (jjy_facts false (at (on 2016 12 2) 0 0)).leap ≡ false }
+    ensures not_announced { (jjy_facts false (at (on 2005 12 2) 0 0)).leap ≡ false }
 {}
 
 /// The first minute of each zone's year 2100 isn't told, and the minute before it is.

@@ -5,11 +5,11 @@ ghost use Rattle.definitions.specs.time.Calendar.{century_minutes};
 ghost use Rattle.definitions.specs.sequences.Keys.{key_of};
 ghost use Rattle.definitions.specs.sequences.Walks.{IsLegal, IsWalkable, unannounced};
 ghost use Rattle.definitions.specs.examples.Dates.{at, on};
-ghost use Rattle.definitions.specs.examples.Sequences.{december_announced, from_place, june_announced, leap_second_of_june, leap_walk, window_of};
+ghost use Rattle.definitions.specs.examples.Sequences.{from_place, june_announced, june_warned, leap_second_of_june, leap_walk, window_of};
 
-/// The seconds 0, 59 and 60 of a minute with a leap second, and the first of the next two.
+/// The seconds 50, 59 and 60 of a minute with a leap second, and the first of the next two.
 pub fn walk_through_a_leap_second()
-    ensures { leap_walk ≡ (at (on 2000 6 30) 23 59, 0) ∷ (at (on 2000 6 30) 23 59, 59) ∷ (at (on 2000 6 30) 23 59, 60) ∷ (at (on 2000 7 1) 0 0, 0) ∷ (at (on 2000 7 1) 0 1, 0) ∷ [] }
+    ensures { leap_walk ≡ (at (on 2000 6 30) 23 59, 50) ∷ (at (on 2000 6 30) 23 59, 59) ∷ (at (on 2000 6 30) 23 59, 60) ∷ (at (on 2000 7 1) 0 0, 0) ∷ (at (on 2000 7 1) 0 1, 0) ∷ [] }
 {}
 
 /// A leap second at the end of June 2000, announced in the month's first minute: WWVB tells it there, and DCF77 not yet,
@@ -20,11 +20,11 @@ pub fn announcement_in_june()
     ensures told_by_one { IsLegal (window_of 5 0 century_minutes) june_announced }
 {}
 
-/// DCF77 warns of a leap second in the hour before it, by second 19 of each minute: 60 seconds from 22:59:19 of 31 December
-/// 2000 on end just before the first of these seconds, and 60 seconds from 22:59:20 on end with it.
+/// DCF77 warns of a leap second in the hour before it, by second 19 of each minute: 60 seconds from 22:59:19 of 30 June 2000
+/// on end just before the first of these seconds, and 60 seconds from 22:59:20 on end with it.
 pub fn announcement_at_the_end_of_a_window()
-    ensures not_told { ¬ (IsLegal (window_of 1 0 century_minutes) (december_announced 19)) }
-    ensures told { IsLegal (window_of 1 0 century_minutes) (december_announced 20) }
+    ensures not_told { ¬ (IsLegal (window_of 1 0 century_minutes) (june_warned 19)) }
+    ensures told { IsLegal (window_of 1 0 century_minutes) (june_warned 20) }
 {}
 
 /// The last minute that DCF77 can send in the century: a walk of 60 seconds from its first on is walkable, and one from its

@@ -1,21 +1,13 @@
--- WWVB's seconds around the changes of 2006 and 2007.
+-- WWVB's seconds around the changes of 2000.
 use Rattle.std.proofs.Common.{refl}
 use Rattle.definitions.specs.time.Calendar.{day_at}
 use Rattle.definitions.specs.time.Summer.{season_at}
 use Rattle.definitions.proofs.examples.calendar.american_seconds.Goals as goal
 
-pub returns-clause-of_2006 : goal.returns-clause-of_2006
+pub returns-clause-spring : goal.returns-clause-spring
 unfolding day_at season_at
-returns-clause-of_2006 c = refl
+returns-clause-spring c = refl
 
-pub returns-clause-to_2006 : goal.returns-clause-to_2006
+pub returns-clause-autumn : goal.returns-clause-autumn
 unfolding day_at season_at
-returns-clause-to_2006 c = refl
-
-pub returns-clause-of_2007 : goal.returns-clause-of_2007
-unfolding day_at season_at
-returns-clause-of_2007 c = refl
-
-pub returns-clause-to_2007 : goal.returns-clause-to_2007
-unfolding day_at season_at
-returns-clause-to_2007 c = refl
+returns-clause-autumn c = refl

@@ -1,6 +1,7 @@
 -- Days of the calendar.
 use Rattle.std.proofs.Common.{refl}
 use Rattle.definitions.specs.time.Calendar.{day_at}
+use Rattle.definitions.proofs.LastDay.{last_day}
 use Rattle.definitions.proofs.examples.calendar.known_weekdays.Goals as goal
 
 pub returns-clause-of_2000_01_01 : goal.returns-clause-of_2000_01_01
@@ -40,5 +41,4 @@ unfolding day_at
 returns-clause-of_2050_05_05 c = refl
 
 pub returns-clause-of_2099_12_31 : goal.returns-clause-of_2099_12_31
-unfolding day_at
-returns-clause-of_2099_12_31 c = refl
+returns-clause-of_2099_12_31 c = last_day

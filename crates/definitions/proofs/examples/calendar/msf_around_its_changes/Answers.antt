@@ -1,4 +1,4 @@
--- MSF's minutes around the changes of 2024.
+-- MSF's minutes around the changes of 2000.
 use Rattle.std.proofs.Common.{refl}
 use Rattle.definitions.specs.time.Calendar.{day_at}
 use Rattle.definitions.specs.time.Summer.{season_at, eu_change_within}

@@ -8,7 +8,7 @@ use Rattle.definitions.specs.time.Calendar.{century_minutes, day_at, minute_leng
 use Rattle.definitions.specs.time.Summer.{season_at, eu_change_within}
 use Rattle.definitions.specs.codes.Allowed.{allowed, encoded_year, has_station}
 use Rattle.definitions.specs.sequences.Walks.{place_at, set_at, unannounced, IsWalkable}
-use Rattle.definitions.specs.examples.Sequences.{december_announced, window_of}
+use Rattle.definitions.specs.examples.Sequences.{june_warned, window_of}
 use Rattle.definitions.proofs.CheckLaws.{walks, along}
 use Rattle.definitions.proofs.examples.sequences.announcement_at_the_end_of_a_window.Goals as goal
 
@@ -37,27 +37,27 @@ walkable q within second all = record {
     alone Wwvb has t le = absurd cc
     alone Jjy has t le = absurd cc
 
-with_warning : (walks (december_announced 20) (december_announced 20) encodes 60).2 ≡ true
+with_warning : (walks (june_warned 20) (june_warned 20) encodes 60).2 ≡ true
 unfolding walks encodes day_at season_at
 with_warning = refl
 
-before_warning : (walks (unannounced (december_announced 19)) (unannounced (december_announced 19)) encodes 60).2 ≡ true
+before_warning : (walks (unannounced (june_warned 19)) (unannounced (june_warned 19)) encodes 60).2 ≡ true
 unfolding walks encodes day_at season_at
 before_warning = refl
 
-all_the_same : (walks (december_announced 19) (unannounced (december_announced 19)) same 60).2 ≡ true
+all_the_same : (walks (june_warned 19) (unannounced (june_warned 19)) same 60).2 ≡ true
 unfolding walks same day_at season_at eu_change_within
 all_the_same = refl
 
-lengths : (b : Bool) → minute_length b (december_announced 19).first ≡ 60
+lengths : (b : Bool) → minute_length b (june_warned 19).first ≡ 60
 unfolding day_at
 lengths true = refl
 lengths false = refl
 
 never : (station : Station) (k : ℕ) → has_station (window_of 1 0 century_minutes).stations station ≡ true → k < 60
-    → set_at station (december_announced 19) k ≢ set_at station (unannounced (december_announced 19)) k → ⊥
+    → set_at station (june_warned 19) k ≢ set_at station (unannounced (june_warned 19)) k → ⊥
 unfolding same
-never Dcf77 k has lt apart = apart (eqb-true _ _ (along (december_announced 19) (unannounced (december_announced 19)) same 60 all_the_same k lt))
+never Dcf77 k has lt apart = apart (eqb-true _ _ (along (june_warned 19) (unannounced (june_warned 19)) same 60 all_the_same k lt))
 never Msf k has lt apart = absurd cc
 never Wwvb k has lt apart = absurd cc
 never Jjy k has lt apart = absurd cc
@@ -66,21 +66,21 @@ pub returns-clause-not_told : goal.returns-clause-not_told
 returns-clause-not_told c = λ legal. elim (legal.1 refl) [
   | inl e ↦ omega (arith, e)
   | inr rest ↦ elim rest [
-    | inl none ↦ none (walkable (unannounced (december_announced 19)) (omega arith) (omega (arith, lengths false)) before_warning)
+    | inl none ↦ none (walkable (unannounced (june_warned 19)) (omega arith) (omega (arith, lengths false)) before_warning)
     | inr shows ↦ never shows.0 shows.1 shows.2 shows.3 shows.4
   ]
 ]
 
-warned : set_at Dcf77 (december_announced 20) 59 ≡ 2
+warned : set_at Dcf77 (june_warned 20) 59 ≡ 2
 unfolding place_at day_at season_at eu_change_within
 warned = refl
 
-not_warned : set_at Dcf77 (unannounced (december_announced 20)) 59 ≡ 1
+not_warned : set_at Dcf77 (unannounced (june_warned 20)) 59 ≡ 1
 unfolding place_at day_at season_at eu_change_within
 not_warned = refl
 
 pub returns-clause-told : goal.returns-clause-told
 returns-clause-told c = (
-  walkable (december_announced 20) (omega arith) (omega (arith, lengths true)) with_warning,
+  walkable (june_warned 20) (omega arith) (omega (arith, lengths true)) with_warning,
   λ e. inr (inr (Dcf77, 59, refl, omega arith, λ equal. omega (arith, equal, warned, not_warned))),
 )

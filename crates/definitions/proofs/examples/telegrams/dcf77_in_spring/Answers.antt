@@ -1,4 +1,4 @@
--- DCF77 at 2024-03-31T00:59Z, the minute before summer time.
+-- DCF77 at 2001-03-25T00:59Z, the minute before summer time.
 use Rattle.std.proofs.Common.{false, refl, ◌∙◌}
 use Rattle.definitions.specs.time.Calendar.{day_at}
 use Rattle.definitions.specs.time.Summer.{season_at, eu_change_within}
@@ -12,4 +12,4 @@ returns-clause-facts c = refl
 
 pub returns-clause-characters : goal.returns-clause-characters
 unfolding day_at season_at eu_change_within
-returns-clause-characters c = dcf_characters false (at (on 2024 3 31) 0 59) ∙ refl
+returns-clause-characters c = dcf_characters false (at (on 2001 3 25) 0 59) ∙ refl

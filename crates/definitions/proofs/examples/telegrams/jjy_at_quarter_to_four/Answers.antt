@@ -1,4 +1,4 @@
--- JJY at 2024-06-10T06:45Z, in Japan 15:45.
+-- JJY at 2002-06-10T06:45Z, in Japan 15:45.
 use Rattle.std.proofs.Common.{false, refl, ◌∙◌}
 use Rattle.definitions.specs.time.Calendar.{day_at}
 use Rattle.definitions.specs.examples.Dates.{at, on}
@@ -11,4 +11,4 @@ returns-clause-facts c = refl
 
 pub returns-clause-characters : goal.returns-clause-characters
 unfolding day_at
-returns-clause-characters c = jjy_characters false (at (on 2024 6 10) 6 45) ∙ refl
+returns-clause-characters c = jjy_characters false (at (on 2002 6 10) 6 45) ∙ refl

@@ -1,4 +1,4 @@
--- JJY at 2016-12-31T23:59Z.
+-- JJY at 2005-12-31T23:59Z.
 use Rattle.std.proofs.Common.{true, refl, ◌∙◌}
 use Rattle.definitions.specs.time.Calendar.{day_at}
 use Rattle.definitions.specs.examples.Dates.{at, on}
@@ -11,4 +11,4 @@ returns-clause-facts c = refl
 
 pub returns-clause-characters : goal.returns-clause-characters
 unfolding day_at
-returns-clause-characters c = jjy_characters true (at (on 2016 12 31) 23 59) ∙ refl
+returns-clause-characters c = jjy_characters true (at (on 2005 12 31) 23 59) ∙ refl

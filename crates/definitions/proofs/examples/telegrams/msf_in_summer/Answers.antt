@@ -1,4 +1,4 @@
--- MSF at 2024-07-15T12:00Z, in summer time.
+-- MSF at 2001-07-16T12:00Z, in summer time.
 use Rattle.std.proofs.Common.{false, refl, ◌∙◌}
 use Rattle.definitions.specs.time.Calendar.{day_at}
 use Rattle.definitions.specs.time.Summer.{season_at, eu_change_within}
@@ -12,4 +12,4 @@ returns-clause-facts c = refl
 
 pub returns-clause-characters : goal.returns-clause-characters
 unfolding day_at season_at eu_change_within
-returns-clause-characters c = msf_characters false (at (on 2024 7 15) 12 0) ∙ refl
+returns-clause-characters c = msf_characters false (at (on 2001 7 16) 12 0) ∙ refl

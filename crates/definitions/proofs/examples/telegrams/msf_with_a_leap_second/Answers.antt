@@ -1,4 +1,4 @@
--- MSF at 2016-12-31T23:59Z, the minute with the leap second.
+-- MSF at 2005-12-31T23:59Z, the minute with the leap second.
 use Rattle.std.proofs.Common.{true, refl, ◌∙◌}
 use Rattle.definitions.specs.time.Calendar.{day_at}
 use Rattle.definitions.specs.time.Summer.{season_at, eu_change_within}
@@ -12,4 +12,4 @@ returns-clause-facts c = refl
 
 pub returns-clause-characters : goal.returns-clause-characters
 unfolding day_at season_at eu_change_within
-returns-clause-characters c = msf_characters true (at (on 2016 12 31) 23 59) ∙ refl
+returns-clause-characters c = msf_characters true (at (on 2005 12 31) 23 59) ∙ refl

@@ -1,4 +1,4 @@
--- WWVB at 2024-02-29T12:34Z.
+-- WWVB at 2004-02-29T12:34Z.
 use Rattle.std.proofs.Common.{false, refl, ◌∙◌}
 use Rattle.definitions.specs.time.Calendar.{day_at}
 use Rattle.definitions.specs.time.Summer.{season_at}
@@ -12,4 +12,4 @@ returns-clause-facts c = refl
 
 pub returns-clause-characters : goal.returns-clause-characters
 unfolding day_at season_at
-returns-clause-characters c = wwvb_characters false (at (on 2024 2 29) 12 34) ∙ refl
+returns-clause-characters c = wwvb_characters false (at (on 2004 2 29) 12 34) ∙ refl

@@ -1,4 +1,4 @@
--- WWVB at 2016-12-31T23:59Z.
+-- WWVB at 2005-12-31T23:59Z.
 use Rattle.std.proofs.Common.{true, refl, ◌∙◌}
 use Rattle.definitions.specs.time.Calendar.{day_at}
 use Rattle.definitions.specs.time.Summer.{season_at}
@@ -12,4 +12,4 @@ returns-clause-facts c = refl
 
 pub returns-clause-characters : goal.returns-clause-characters
 unfolding day_at season_at
-returns-clause-characters c = wwvb_characters true (at (on 2016 12 31) 23 59) ∙ refl
+returns-clause-characters c = wwvb_characters true (at (on 2005 12 31) 23 59) ∙ refl

@@ -1,7 +1,7 @@
--- The end of 2016.
+-- The end of 2005.
 use Rattle.std.proofs.Common.{refl}
 use Rattle.definitions.specs.time.Calendar.{day_at}
-use Rattle.definitions.proofs.examples.calendar.leap_second_of_2016.Goals as goal
+use Rattle.definitions.proofs.examples.calendar.leap_second_of_2005.Goals as goal
 
 pub returns-clause-before : goal.returns-clause-before
 unfolding day_at
