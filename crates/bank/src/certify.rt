@@ -5,6 +5,7 @@ ghost use Rattle.signal_base.specs.declared.limits.TheConstants.{GREATEST_COST};
 ghost use Rattle.definitions.specs.answers.Blocks.{items};
 ghost use Rattle.definitions.specs.sequences.Windows.{IsWindow};
 ghost use Rattle.field_tables.specs.Grids.{AreGrids, HaveCosts};
+ghost use Rattle.field_tables.specs.Scopes.{scopes_of};
 ghost use Rattle.field_tables.specs.Scored.{costs_of};
 ghost use Rattle.due.specs.Banks.{Bank as PlainBank, costs_in, window_of};
 ghost use Rattle.due.specs.Owed.{files_of};
@@ -29,7 +30,9 @@ use certificate_walks::write_certificate;
 use certificates::{Head, tight_walks_are_one};
 use civil::Civil;
 use due::{Due, Status};
-use field_tables::{Tables, agreeing_costs_cost_alike, grids_agree_with_their_costs, parts_of};
+use field_tables::{
+    StationParts, Tables, agreeing_costs_cost_alike, grids_agree_with_their_costs, parts_of,
+};
 use signal_base::Window;
 use std::alloc::Global;
 use std::thread::Threads;
@@ -88,16 +91,75 @@ fn certify_window<R: Threads + Sync, F: Files, G: Gate + CertificateGate + Sync>
         → Certifies window.now bank certify.now.workers certify.now.name.now (F.view files.old) (F.view files.new) result }
     ensures only { OnlyWritesAmong (files_of (Some certify.now.name.now)) (F.view files.old) (F.view files.new) }
 {
-    agreeing_costs_cost_alike();
-    grids_agree_with_their_costs();
     let list = items(alloc, civil, window)?;
     let parts = parts_of(alloc, civil, window)?;
-    let tables = Tables::make_with_days(alloc, &parts, grids, civil, window)?;
+    certify_parts(
+        rt, alloc, civil, grids, &parts, &list, window, ceiling, certify, files, gate,
+    )
+}
+
+// The same by the parts that were made of the window's stations, and the items of the window.
+fn certify_parts<R: Threads + Sync, F: Files, G: Gate + CertificateGate + Sync>(
+    rt: &R,
+    alloc: Global,
+    civil: &Civil,
+    grids: &[CostGrid],
+    parts: &[StationParts],
+    list: &[Block],
+    window: &Window,
+    ceiling: u32,
+    certify: &Certify,
+    files: &mut F,
+    gate: &G,
+) -> Result<Status, Stop>
+    requires window { IsWindow window.now }
+    requires grids { AreGrids window.now grids.now }
+    requires parts { parts.now ≡ scopes_of window.now.stations window.now.seconds }
+    requires items { list.now ≡ items window.now }
+    requires ceiling { ceiling ≤ GREATEST_COST }
+    requires certify { IsCertifyInRange certify.now }
+    ensures ends { (bank : PlainBank) → ceiling ≡ bank.ceiling → HaveCosts window.now grids.now (costs_in window.now bank)
+        → Certifies window.now bank certify.now.workers certify.now.name.now (F.view files.old) (F.view files.new) result }
+    ensures only { OnlyWritesAmong (files_of (Some certify.now.name.now)) (F.view files.old) (F.view files.new) }
+{
+    let tables = Tables::make_with_days(alloc, parts, grids, civil, window)?;
+    certify_tables(
+        rt, alloc, civil, grids, &tables, list, window, ceiling, certify, files, gate,
+    )
+}
+
+// The same by the tables of the grids.
+fn certify_tables<R: Threads + Sync, F: Files, G: Gate + CertificateGate + Sync>(
+    rt: &R,
+    alloc: Global,
+    civil: &Civil,
+    grids: &[CostGrid],
+    tables: &Tables,
+    list: &[Block],
+    window: &Window,
+    ceiling: u32,
+    certify: &Certify,
+    files: &mut F,
+    gate: &G,
+) -> Result<Status, Stop>
+    requires window { IsWindow window.now }
+    requires grids { AreGrids window.now grids.now }
+    requires same { tables.now.window ≡ window.now }
+    requires told { tables.now.grids ≡ grids.now }
+    requires items { list.now ≡ items window.now }
+    requires ceiling { ceiling ≤ GREATEST_COST }
+    requires certify { IsCertifyInRange certify.now }
+    ensures ends { (bank : PlainBank) → ceiling ≡ bank.ceiling → HaveCosts window.now grids.now (costs_in window.now bank)
+        → Certifies window.now bank certify.now.workers certify.now.name.now (F.view files.old) (F.view files.new) result }
+    ensures only { OnlyWritesAmong (files_of (Some certify.now.name.now)) (F.view files.old) (F.view files.new) }
+{
+    agreeing_costs_cost_alike();
+    grids_agree_with_their_costs();
     let found = decide_tables(
         rt,
         alloc,
         civil,
-        &tables,
+        tables,
         window,
         ceiling,
         certify.workers,
@@ -111,16 +173,7 @@ fn certify_window<R: Threads + Sync, F: Files, G: Gate + CertificateGate + Sync>
     };
     let decoded = decoded_by(civil, grids, *window, ceiling, found);
     let due = reported(Wanted::Report, decoded);
-    deliver_certified(
-        files,
-        civil,
-        certify,
-        &tables,
-        list.as_slice(),
-        &head,
-        &due,
-        gate,
-    )?;
+    deliver_certified(files, civil, certify, tables, list, &head, &due, gate)?;
     Ok(due.status())
 }
 

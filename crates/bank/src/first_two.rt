@@ -23,7 +23,7 @@ use symbol_cost::CostGrid;
 use workers::{Found, Gate, NoRecord, Recorder, finish, search_with};
 
 /// Why a window can't be decided.
-#[derive(Clone, Copy, Debug, PartialEq, Eq)]
+#[derive(Clone, Copy, Debug)]
 pub enum DecideFault {
     /// Memory wasn't found.
     NoMemory,
@@ -228,12 +228,35 @@ where
         × HaveRecorded K.told K.parts K.joins (costs_of tables.now) tables.now.window ceiling items workers v recorder.old recorder.new)) }
 {
     let items = search_order(alloc, civil, tables, window)?;
+    decide_items(rt, alloc, tables, &items, ceiling, workers, gate, recorder)
+}
+
+// The same by the window's items in some order.
+fn decide_items<R: Threads + Sync, G: Gate + Sync, K: Recorder + Send + Drop>(
+    rt: &R,
+    alloc: Global,
+    tables: &Tables,
+    items: &[Block],
+    ceiling: u32,
+    workers: u8,
+    gate: &G,
+    recorder: &mut K,
+) -> Result<Result<Found, K::Fault>, DecideFault>
+where
+    K::Fault: Send,
+    requires items { AreItemsOf tables.now.window items.now }
+    requires ceiling { ceiling ≤ GREATEST_COST }
+    requires workers { (1 ≤ workers) × (workers ≤ 8) }
+    ensures found { IfOk result (λ kept. IfOk kept (λ found. AreLeastTwo (IsWindowKey tables.now.window (costs_of tables.now) ceiling) found.first found.second)) }
+    ensures recorded { IfOk result (λ kept. OnOk kept ((items : List Block) × (v : View) × AreItemsOf tables.now.window items
+        × HaveRecorded K.told K.parts K.joins (costs_of tables.now) tables.now.window ceiling items workers v recorder.old recorder.new)) }
+{
     let (race, mut seat) = Race::make(alloc, workers)?;
     let searched = search_with(
-        rt, &race, &mut seat, tables, &items, ceiling, workers, gate, recorder,
+        rt, &race, &mut seat, tables, items, ceiling, workers, gate, recorder,
     );
     match searched {
-        Ok(()) => Ok(Ok(finish(race, seat, tables, &items, ceiling))),
+        Ok(()) => Ok(Ok(finish(race, seat, tables, items, ceiling))),
         Err(fault) => Ok(Err(fault)),
     }
 }

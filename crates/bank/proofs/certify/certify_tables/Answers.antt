@@ -12,12 +12,12 @@ use Rattle.due.specs.Rules.{reported}
 use Rattle.bank.specs.Certifying.{DeliversCertified}
 use Rattle.bank.proofs.CertifiedLaws.{delivered, not_delivered}
 use Rattle.bank.proofs.FirstTwoLaws.{found_by}
-use Rattle.bank.proofs.certify.certify_window.Goals as goal
+use Rattle.bank.proofs.certify.certify_tables.Goals as goal
 
 pub decoded_by-decoded-requires-clause-found : goal.decoded_by-decoded-requires-clause-found
 decoded_by-decoded-requires-clause-found g c =
     let found = c.in_ok-found.found in
-    found_by c.args.window.now c.args.grids.now c.in_ok-tables.tables c.args.ceiling found.first found.second c.in_ok-tables.ensures.window c.in_ok-tables.ensures.grids c.in_ok-found.ensures
+    found_by c.args.window.now c.args.grids.now c.args.tables.now c.args.ceiling found.first found.second c.requires.same c.requires.told c.in_ok-found.ensures
 
 pub returns-in_err-deliver_certified-clause-ends : goal.returns-in_err-deliver_certified-clause-ends
 returns-in_err-deliver_certified-clause-ends g c = λ bank is have.
@@ -31,7 +31,7 @@ returns-in_err-deliver_certified-clause-ends g c = λ bank is have.
     let new = g.F.Files.view c.deliver_certified.new.files in
     let agree = c.grids_agree_with_their_costs.ensures window grids others c.requires.grids have in
     let same = λ (q : Sequence). c.agreeing_costs_cost_alike.ensures.cost window (grid_costs grids) others q agree in
-    let named = found_by window grids c.in_ok-tables.tables c.args.ceiling found.first found.second c.in_ok-tables.ensures.window c.in_ok-tables.ensures.grids c.in_ok-found.ensures in
+    let named = found_by window grids c.args.tables.now c.args.ceiling found.first found.second c.requires.same c.requires.told c.in_ok-found.ensures in
     let answer_is = subst (λ n. IsWindowAnswer window others n d.answer) is (c.decoded_by-decoded.ensures.answer others have) in
     let due_is = c.reported-due.ensures.reported bank (c.decoded_by-decoded.ensures.duts bank have ∙ ap (λ (w : Window). duts_of w bank d.answer) (sym c.decoded_by-decoded.ensures.window))
     ∙ ap (λ (w : Window). reported (Report None) w bank d.answer) c.decoded_by-decoded.ensures.window in
@@ -40,7 +40,7 @@ returns-in_err-deliver_certified-clause-ends g c = λ bank is have.
     (not_delivered window bank (grid_costs grids) c.args.ceiling o.workers found.first found.second c.requires.window.century is agree same named o.name.now c.reported-due.result d.answer answer_is due_is
     old new
     (subst (λ (gs : List Grid). DeliversCertified (grid_costs gs) (record { window = window; ceiling = c.args.ceiling; first = found.first; second = found.second }) o.workers o.name.now
-    c.reported-due.result old new (Err c.in_err-deliver_certified.field-0.0)) c.in_ok-tables.ensures.grids c.in_err-deliver_certified.ensures.ends))
+    c.reported-due.result old new (Err c.in_err-deliver_certified.field-0.0)) c.requires.told c.in_err-deliver_certified.ensures.ends))
 
 pub returns-clause-ends : goal.returns-clause-ends
 returns-clause-ends g c = λ bank is have.
@@ -54,11 +54,11 @@ returns-clause-ends g c = λ bank is have.
     let new = g.F.Files.view c.deliver_certified.new.files in
     let agree = c.grids_agree_with_their_costs.ensures window grids others c.requires.grids have in
     let same = λ (q : Sequence). c.agreeing_costs_cost_alike.ensures.cost window (grid_costs grids) others q agree in
-    let named = found_by window grids c.in_ok-tables.tables c.args.ceiling found.first found.second c.in_ok-tables.ensures.window c.in_ok-tables.ensures.grids c.in_ok-found.ensures in
+    let named = found_by window grids c.args.tables.now c.args.ceiling found.first found.second c.requires.same c.requires.told c.in_ok-found.ensures in
     let answer_is = subst (λ n. IsWindowAnswer window others n d.answer) is (c.decoded_by-decoded.ensures.answer others have) in
     let due_is = c.reported-due.ensures.reported bank (c.decoded_by-decoded.ensures.duts bank have ∙ ap (λ (w : Window). duts_of w bank d.answer) (sym c.decoded_by-decoded.ensures.window))
     ∙ ap (λ (w : Window). reported (Report None) w bank d.answer) c.decoded_by-decoded.ensures.window in
     delivered window bank (grid_costs grids) c.args.ceiling o.workers found.first found.second c.requires.window.century is agree same named o.name.now c.reported-due.result d.answer answer_is due_is
     old new c.status.result c.status.ensures
     (subst (λ (gs : List Grid). DeliversCertified {E = Unit {0}} (grid_costs gs) (record { window = window; ceiling = c.args.ceiling; first = found.first; second = found.second }) o.workers
-    o.name.now c.reported-due.result old new (Ok tt)) c.in_ok-tables.ensures.grids c.in_ok-deliver_certified.ensures.ends)
+    o.name.now c.reported-due.result old new (Ok tt)) c.requires.told c.in_ok-deliver_certified.ensures.ends)
