@@ -1,5 +1,5 @@
 -- The pairs of an option and a value, as the code walks over them.
-use Rattle.std.proofs.Common.{◌≡◌, ℕ, ◌<◌, ◌≤◌, ◌-◌, ◌==◌, Bool, true, false, ◌&&◌, List, [], ◌∷◌, length, take, drop, get_or, None, String, Global, string_bytes, bytes_eq, is_none, take_all, refl, ◌∙◌, arith}
+use Rattle.std.proofs.Common.{◌≡◌, ℕ, ◌<◌, ◌≤◌, ◌-◌, ◌==◌, Bool, true, false, ◌&&◌, List, [], ◌∷◌, length, take, drop, get_or, None, String, Global, string_bytes, bytes_eq, is_none, take_all, refl, sym, ap, ◌∙◌, arith}
 use Rattle.std.specs.List.{list_any}
 use Rattle.formats.specs.Words.{are_pairs, is_value, value_behind}
 use Rattle.bank_words.specs.Seen.{texts_of}
@@ -23,6 +23,17 @@ behind_two-is : (a b : String Global) (words : List (String Global)) → behind_
 behind_two-is a b words =
     let n : length (a ∷ b ∷ words) - 2 ≡ length words = omega arith in
     rw n (take_all (length words) words (omega arith))
+
+-- the option isn't that of the first pair
+pub value_behind-next : (option : List ℕ) (left : List (String Global)) (word value : String Global) → 2 ≤ length left → word ≡ get_or left 0 word → value ≡ get_or left 1 value
+    → (same : Bool) (w : List ℕ) → w ≡ string_bytes word → same ≡ bytes_eq w option → same ≡ false
+    → value_behind option (texts_of left) ≡ value_behind option (texts_of (behind_two left))
+value_behind-next option [] word value two is also same w w_is judged other = absurd (omega arith)
+value_behind-next option (a ∷ []) word value two is also same w w_is judged other = absurd (omega arith)
+value_behind-next option (a ∷ b ∷ words) word value two is also same w w_is judged other =
+    let e : bytes_eq (string_bytes a) option ≡ false =
+    ap (λ s. bytes_eq (string_bytes s) option) (sym is) ∙ ap (λ t. bytes_eq t option) (sym w_is) ∙ sym judged ∙ other in
+    rw (behind_two-is a b words, e) refl
 
 -- The first pair of a list, which the code has judged.
 module _ (options : List (List ℕ)) where

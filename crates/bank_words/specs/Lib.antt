@@ -1,4 +1,5 @@
 pub mod Gives
 pub mod Own
 pub mod Plain
+pub mod Rest
 pub mod Seen

@@ -4,7 +4,7 @@ use formats::Asked;
 use signal_base::Station;
 
 /// What the words of a run ask for.
-#[derive(Clone, Copy, Debug, PartialEq, Eq)]
+#[derive(Clone, Copy)]
 pub enum Order<'a> {
     /// `decode CONFIG`: the cheapest sequence of the logs of a configuration.
     Decode {
@@ -54,7 +54,7 @@ pub enum Order<'a> {
 }
 
 /// What words beyond a run ask for.
-#[derive(Clone, Copy, Debug, PartialEq, Eq)]
+#[derive(Clone, Copy)]
 pub enum Reach<'a> {
     /// `follow CONFIG`: a decode of one window after the other.
     Follow {

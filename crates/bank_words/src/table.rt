@@ -1,12 +1,13 @@
 //! What each command takes, and what each value may be.
 
-ghost use Rattle.std.specs.Prelude.{◌≡◌, ◌<◌, ℕ, bytes_eq, nat_le, option_map};
+ghost use Rattle.std.specs.Prelude.{◌≡◌, ◌<◌, ◌∷◌, ◌++◌, [], ℕ, bytes_eq, nat_le, option_map};
 ghost use Rattle.std.specs.List.{list_any};
 ghost use Rattle.definitions.specs.time.Calendar.{century_minutes};
 ghost use Rattle.formats.specs.Bytes.{station_name};
-ghost use Rattle.formats.specs.Words.{form_of, search_options, window_options};
+ghost use Rattle.formats.specs.Words.{certificate_option, form_of, search_options, window_options};
 ghost use Rattle.formats.specs.WordValues.{kind_of, suits};
-ghost use Rattle.formats.specs.declared.option.OptionName.TheVariants.{Minute};
+ghost use Rattle.formats.specs.declared.option.OptionName.TheVariants.{Count, Minute, Readers, Step};
+ghost use Rattle.formats.specs.Options.{option_text};
 ghost use Rattle.formats.specs.declared.words.Command.TheVariants.{Encode};
 ghost use Rattle.bank_words.specs.Own.{own_words};
 
@@ -95,14 +96,51 @@ pub fn places_of(command: Command) -> usize
 fn is_window_option(word: &str) -> bool
     ensures { result ≡ list_any (bytes_eq word.now) window_options }
 {
-    word == "--start" || word == "--seconds" || word == "--from" || word == "--to"
+    match word {
+        "--start" => true,
+        "--seconds" => true,
+        "--from" => true,
+        "--to" => true,
+        _ => false,
+    }
 }
 
 // The options of every command that searches.
 fn is_search_option(word: &str) -> bool
     ensures { result ≡ list_any (bytes_eq word.now) search_options }
 {
-    is_window_option(word) || word == "--workers"
+    match word {
+        "--workers" => true,
+        _ => is_window_option(word),
+    }
+}
+
+// The options of every command that writes a certificate, if it is asked for one.
+fn is_certified_option(word: &str) -> bool
+    ensures { result ≡ list_any (bytes_eq word.now) (search_options ++ certificate_option ∷ []) }
+{
+    is_search_option(word) || word == CERTIFICATE
+}
+
+// The options of every command that searches one window after the other.
+fn is_step_option(word: &str) -> bool
+    ensures { result ≡ list_any (bytes_eq word.now) (search_options ++ option_text Step ∷ option_text Count ∷ []) }
+{
+    match word {
+        "--step" => true,
+        "--count" => true,
+        _ => is_search_option(word),
+    }
+}
+
+// The options of a board.
+fn is_board_option(word: &str) -> bool
+    ensures { result ≡ list_any (bytes_eq word.now) (search_options ++ option_text Step ∷ option_text Count ∷ option_text Readers ∷ []) }
+{
+    match word {
+        "--readers" => true,
+        _ => is_step_option(word),
+    }
 }
 
 /// Whether a command takes the option.
@@ -110,15 +148,13 @@ pub fn takes(command: Command, word: &str) -> bool
     ensures { result ≡ list_any (bytes_eq word.now) (form_of command).options }
 {
     match command {
-        Command::Decode | Command::Sweep => is_search_option(word) || word == CERTIFICATE,
+        Command::Decode | Command::Sweep => is_certified_option(word),
         Command::Check | Command::Judge => is_window_option(word),
         Command::Feed | Command::Irig => is_search_option(word),
         Command::Encode { .. } => word == "--leap",
         Command::Trial => word == "--workers",
-        Command::Follow => is_search_option(word) || word == "--step" || word == "--count",
-        Command::Board => {
-            is_search_option(word) || word == "--step" || word == "--count" || word == "--readers"
-        }
+        Command::Follow => is_step_option(word),
+        Command::Board => is_board_option(word),
         Command::IrigRead => false,
     }
 }

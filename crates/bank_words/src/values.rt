@@ -5,6 +5,7 @@ ghost use Rattle.formats.specs.OrderRanges.{IsIn, IsOfKind};
 ghost use Rattle.formats.specs.Orders.{bad, given, is_placed, said_by, text_in, valued, values_of};
 ghost use Rattle.formats.specs.WordValues.{kind_of, read_as, suits};
 ghost use Rattle.bank_words.specs.Gives.{Gives};
+ghost use Rattle.bank_words.specs.Rest.{behind_range};
 ghost use Rattle.bank_words.specs.Seen.{parts_seen, texts_of};
 
 use crate::grammar::value_behind;
@@ -140,6 +141,36 @@ fn narrow(value: Option<u64>) -> Option<u32>
     }
 }
 
+// All values of a line, of which those up to the range are known: the others are checked in the order in which they stand
+// here, and an empty range comes last.
+fn behind_range(
+    line: &Line,
+    number: Option<u32>,
+    minute: Option<u32>,
+    asked: Asked,
+) -> Result<Values, WordFault>
+    ensures { Gives (λ v. v) result (behind_range number minute asked (parts_seen line.now)) }
+{
+    let workers = valued(line, OptionName::Workers, DEFAULT_WORKERS as u64)?;
+    let leap = valued(line, OptionName::Leap, 0)?;
+    let step = valued(line, OptionName::Step, DEFAULT_STEP as u64)?;
+    let count = valued(line, OptionName::Count, DEFAULT_COUNT as u64)?;
+    let readers = valued(line, OptionName::Readers, DEFAULT_READERS as u64)?;
+    if asked.to <= asked.from {
+        return Err(WordFault::EmptyRange);
+    }
+    Ok(Values {
+        number,
+        minute,
+        asked,
+        workers: workers as u8,
+        leap: leap == 1,
+        step: step as u16,
+        count: count as u16,
+        readers: readers as u8,
+    })
+}
+
 /// All values of a line, checked in the order in which they stand here. An empty range comes last.
 pub fn values_of(line: &Line) -> Result<Values, WordFault>
     ensures { Gives (λ v. v) result (values_of (parts_seen line.now)) }
@@ -150,27 +181,11 @@ pub fn values_of(line: &Line) -> Result<Values, WordFault>
     let seconds = valued(line, OptionName::Seconds, DEFAULT_SECONDS as u64)?;
     let from = valued(line, OptionName::From, 0)?;
     let to = valued(line, OptionName::To, CENTURY_MINUTES as u64 - 1)?;
-    let workers = valued(line, OptionName::Workers, DEFAULT_WORKERS as u64)?;
-    let leap = valued(line, OptionName::Leap, 0)?;
-    let step = valued(line, OptionName::Step, DEFAULT_STEP as u64)?;
-    let count = valued(line, OptionName::Count, DEFAULT_COUNT as u64)?;
-    let readers = valued(line, OptionName::Readers, DEFAULT_READERS as u64)?;
-    if to < from {
-        return Err(WordFault::EmptyRange);
-    }
-    Ok(Values {
-        number: narrow(number),
-        minute: narrow(minute),
-        asked: Asked {
-            start,
-            seconds: seconds as u16,
-            from: from as u32,
-            to: to as u32 + 1,
-        },
-        workers: workers as u8,
-        leap: leap == 1,
-        step: step as u16,
-        count: count as u16,
-        readers: readers as u8,
-    })
+    let asked = Asked {
+        start,
+        seconds: seconds as u16,
+        from: from as u32,
+        to: to as u32 + 1,
+    };
+    behind_range(line, narrow(number), narrow(minute), asked)
 }
