@@ -3,7 +3,7 @@
 use signal_base::{CostTable, Station, Tuning};
 
 /// A receiver of a bank.
-#[derive(Debug, Drop)]
+#[derive(Drop)]
 pub struct Receiver {
     /// Its name, 1 to 32 of the characters `a` to `z`, `0` to `9`, `_` and `-`.
     pub name: String,
@@ -16,7 +16,7 @@ pub struct Receiver {
 }
 
 /// A bank of receivers.
-#[derive(Debug, Drop)]
+#[derive(Drop)]
 pub struct Config {
     /// The station of each receiver that names none.
     pub station: Station,

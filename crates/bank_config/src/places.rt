@@ -3,13 +3,14 @@
 ghost use Rattle.std.specs.Prelude.{◌≡◌, string_bytes};
 ghost use Rattle.std.specs.BTreeMap.{keys};
 ghost use Rattle.std.specs.List.{list_all};
+ghost use Rattle.bank_config.specs.declared.places.Place.TheVariants.{OfReceiver, OfTable, Top};
 ghost use Rattle.bank_config.specs.Places.{is_known, knows_all};
 ghost use Rattle.toml.specs.View.{view};
 
 use toml::{Table, Value};
 
 /// A table of a configuration.
-#[derive(Clone, Copy, Debug, PartialEq, Eq)]
+#[derive(Clone, Copy)]
 pub(crate) enum Place {
     /// The document itself.
     Top,
@@ -19,24 +20,53 @@ pub(crate) enum Place {
     OfTable,
 }
 
+// Whether this key may stand at the top.
+fn is_top_key(key: &str) -> bool
+    ensures { result ≡ is_known Top key.now }
+{
+    match key {
+        "station" => true,
+        "ceiling" => true,
+        "receiver" => true,
+        "table" => true,
+        _ => false,
+    }
+}
+
+// Whether this key may stand in a receiver.
+fn is_receiver_key(key: &str) -> bool
+    ensures { result ≡ is_known OfReceiver key.now }
+{
+    match key {
+        "name" => true,
+        "log" => true,
+        "delay_ms" => true,
+        "weight" => true,
+        "station" => true,
+        _ => false,
+    }
+}
+
+// Whether this key may stand in the cost table.
+fn is_table_key(key: &str) -> bool
+    ensures { result ≡ is_known OfTable key.now }
+{
+    match key {
+        "low" => true,
+        "high" => true,
+        _ => false,
+    }
+}
+
 impl Place {
     // Whether this key may stand there.
     fn knows(self, key: &str) -> bool
         ensures { result ≡ is_known self key.now }
     {
         match self {
-            Place::Top => key == "station"
-                || key == "ceiling"
-                || key == "receiver"
-                || key == "table",
-            Place::OfReceiver => {
-                key == "name"
-                    || key == "log"
-                    || key == "delay_ms"
-                    || key == "weight"
-                    || key == "station"
-            }
-            Place::OfTable => key == "low" || key == "high",
+            Place::Top => is_top_key(key),
+            Place::OfReceiver => is_receiver_key(key),
+            Place::OfTable => is_table_key(key),
         }
     }
 
