@@ -1,3 +1,4 @@
 pub mod Telling
 pub mod Chaining
 mod Pieces
+pub mod Counting

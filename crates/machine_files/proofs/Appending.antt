@@ -1,7 +1,8 @@
 -- What is told over the calls that append to a file: that it is made, and that pieces are added to it.
-use Rattle.std.proofs.Common.{◌≡◌, ◌≢◌, ℕ, List, Result, Ok, Err, IfOk, OnErr, take, refl, sym, ◌∙◌, ap, subst, ⊎_elim}
+use Rattle.std.proofs.Common.{◌≡◌, ◌≢◌, ◌⊎◌, ◌||◌, ℕ, Bool, true, false, List, Result, Ok, Err, IfOk, OnErr, is_err, take, refl, sym, ◌∙◌, ap, subst, inl, ⊎_elim}
+use Rattle.std.proofs.lemmas.Bool.{false≢true}
 use Rattle.std.proofs.lemmas.Bool.Decides.{eqb_tells}
-use Rattle.bank_files.specs.Told.{Untold, Missing, appended}
+use Rattle.bank_files.specs.Told.{Told, Untold, Missing, appended}
 use Rattle.machine_files.specs.Disk.{Entry, Unknown, Absent, Inode, Disk, told_at}
 use Rattle.machine_files.specs.Calls.{Makes, OnlyFile, Adds, Stays}
 
@@ -94,9 +95,45 @@ pub added : {E : Type 0} (a b : Disk) (name bytes : List ℕ) (leads : Entry) (r
 added a b name bytes leads (Ok n) apart is adds same = (adds_only a b name (take n bytes) leads apart is adds, adds_stays a b (take n bytes) leads adds)
 added a b name bytes leads (Err e) apart is adds same = subst (λ (d : Disk). OnlyFile a d name × Stays a d) (sym same) (only_start a name, stays_start a)
 
+-- what is told of the file itself after that
+pub told_added : {E : Type 0} (a b : Disk) (name bytes : List ℕ) (leads : Entry) (result : Result ℕ E) → leads ≡ a.entry name
+    → IfOk result (λ n. Adds a b leads (take n bytes)) → IfOk result (λ n. told_at b (b.entry name) ≡ appended (told_at a (a.entry name)) (take n bytes))
+told_added a b name bytes leads (Ok n) is adds =
+    ap (λ (e : Entry). told_at b e) (ap (λ (f : List ℕ → Entry). f name) adds.entries ∙ sym is) ∙ adds.file ∙ ap (λ (e : Entry). appended (told_at a e) (take n bytes)) is
+told_added a b name bytes leads (Err e) is adds = tt
+
+-- a piece at the end of a file that was made is that piece
+told_made : (a b : Disk) (name piece : List ℕ) → Makes a b name → appended (told_at b (b.entry name)) piece ≡ appended (told_at a (a.entry name)) piece
+told_made a b name piece h = by_entry (a.entry name) refl
+  where
+    same : a.entry name ≢ Absent → appended (told_at b (b.entry name)) piece ≡ appended (told_at a (a.entry name)) piece
+    same there = ap (λ (d : Disk). appended (told_at d (d.entry name)) piece) (h.stays there)
+
+    by_entry : (e : Entry) → a.entry name ≡ e → appended (told_at b (b.entry name)) piece ≡ appended (told_at a (a.entry name)) piece
+    by_entry Unknown is = same (λ gone. cc)
+    by_entry Absent gone = ap (λ (t : Told). appended t piece) (h.made gone) ∙ ap (λ (e : Entry). appended (told_at a e) piece) (sym gone)
+    by_entry (Inode number) is = same (λ gone. cc)
+
 -- the same, where the file was opened before, and perhaps made
+pub told_made_and_added : {E : Type 0} (a b c : Disk) (name bytes : List ℕ) (leads : Entry) (result : Result ℕ E) → leads ≡ b.entry name
+    → Makes a b name → IfOk result (λ n. Adds b c leads (take n bytes)) → IfOk result (λ n. told_at c (c.entry name) ≡ appended (told_at a (a.entry name)) (take n bytes))
+told_made_and_added a b c name bytes leads (Ok n) is makes adds = told_added {E = ⊥} b c name bytes leads (Ok n) is adds ∙ told_made a b name (take n bytes) makes
+told_made_and_added a b c name bytes leads (Err e) is makes adds = tt
+
+-- what an append to a file that was opened before, and perhaps made, may leave of all that is told
 pub made_and_added : {E : Type 0} (a b c : Disk) (name bytes : List ℕ) (leads : Entry) (result : Result ℕ E) → AreApart b → leads ≡ b.entry name
     → Makes a b name → IfOk result (λ n. Adds b c leads (take n bytes)) → OnErr result (c ≡ b) → OnlyFile a c name × Stays a c
 made_and_added a b c name bytes leads result apart is makes adds same =
     let more : OnlyFile b c name × Stays b c = added b c name bytes leads result apart is adds same in
     (only_then a b c name makes.only more.0, stays_then a b c (makes_stays a b name makes) more.1)
+
+-- files that are in doubt stay so
+pub in_doubt_still : (doubt failed : Bool) → doubt ≡ true → (doubt || failed) ≡ true
+in_doubt_still true failed is = refl
+in_doubt_still false failed is = absurd (false≢true is)
+
+-- files come into doubt where a call failed
+pub in_doubt_now : {T E : Type 0} (P : Type 0) (doubt failed : Bool) (result : Result T E) → failed ≡ is_err result → OnErr result (((doubt || failed) ≡ true) ⊎ P)
+in_doubt_now P doubt failed (Ok value) is = tt
+in_doubt_now P true failed (Err e) is = inl refl
+in_doubt_now P false failed (Err e) is = inl is

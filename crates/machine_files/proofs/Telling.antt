@@ -1,12 +1,13 @@
 -- What is seen of files over a call of the machine, and that what is kept open stays what it is.
-use Rattle.std.proofs.Common.{◌≡◌, ◌≤◌, ◌⊎◌, ℕ, Bool, true, false, if◌then◌else◌, List, Option, string_bytes, Result, Ok, Err, IfOk, OnErr, IsErr, take, refl, sym, ◌∙◌, ap, subst, inl, inr}
+use Rattle.std.proofs.Common.{◌≡◌, ◌<◌, ◌≤◌, ◌⊎◌, ℕ, Bool, true, false, if◌then◌else◌, List, Option, string_bytes, Result, Ok, Err, IfOk, OnOk, OnErr, IsErr, is_err, take, refl, sym, ◌∙◌, ap, subst, inl, inr, ⊎_elim, arith}
 use Rattle.std.proofs.lemmas.Bool.{false≢true}
 use Rattle.std.specs.Option.{ForSome}
 use Rattle.std.specs.Str.{bytes_eq}
 use Rattle.bank_files.specs.Told.{Told, Untold, Tells, output_name}
-use Rattle.bank_files.specs.Seen.{OnlyWrites}
+use Rattle.bank_files.specs.Fault.{HasFault}
+use Rattle.bank_files.specs.Seen.{OnlyWrites, SameCounts}
 use Rattle.machine_files.specs.Disk.{Entry, Unknown, Absent, Inode, Disk, told_at}
-use Rattle.machine_files.specs.Calls.{OnlyFile, Prints, Stays}
+use Rattle.machine_files.specs.Calls.{Counts, OnlyFile, Prints, Stays}
 use Rattle.machine_files.specs.declared.opened.Opened.{Opened}
 use Rattle.machine_files.specs.Opened.{IsOpen, IsOpenToRead, IsKeptToRead, IsKeptToAppend}
 use Rattle.machine_files.specs.Seeing.{told_of, seen_of}
@@ -86,3 +87,25 @@ pub failed_tells : {T U E F : Type 0} (a b : Disk) (d e : Bool) (name : List ℕ
 failed_tells a b d e name answer (Ok value) doubt output change error = tt
 failed_tells a b d e name (Ok value) (Err failed) doubt output change error = absurd (false≢true error)
 failed_tells a b d e name (Err why) (Err failed) doubt output change error = told_unless a b d e name doubt output change
+
+-- files that came into doubt did so by a fault that was counted
+pub doubt_counted : {T E F : Type 0} (d e : Bool) (f g : ℕ) (answer : Result T E) (result : Result T F) → (d ≡ true → 0 < f) → f ≤ g
+    → OnOk answer (e ≡ d) → IfOk result (λ value. answer ≡ Ok value) → OnErr result (HasFault f g) → e ≡ true → 0 < g
+doubt_counted d e f g (Ok value) result was le same failed cause is = let counted : 0 < f = was (sym same ∙ is) in omega arith
+doubt_counted d e f g (Err why) (Ok value) was le same failed cause is = cc
+doubt_counted d e f g (Err why) (Err error) was le same failed cause is = ⊎_elim (λ rose. omega arith) (λ stands. omega arith) cause
+
+-- a call's failure is a fault where no more faults were counted than there were failures
+pub fault_counted : {T E : Type 0} (faults before after : ℕ) (answer : Result T E) → faults ≤ before → OnErr answer (HasFault before after) → OnErr answer (HasFault faults after)
+fault_counted faults before after (Ok value) le failed = tt
+fault_counted faults before after (Err e) le failed = ⊎_elim (λ rose. inl (omega arith)) (λ stands. inr stands) failed
+
+-- the counts that are seen are as before where the one count is
+pub counts_same : {T E : Type 0} (a b : Disk) (d e : Bool) (f g : ℕ) (result : Result T E) → OnOk result (g ≡ f) → OnOk result (SameCounts (seen_of a d f) (seen_of b e g))
+counts_same a b d e f g (Ok value) same = let all : ℕ → List ℕ → ℕ = λ n name. n in record { of_reads = ap all same; of_writes = ap all same }
+counts_same a b d e f g (Err error) same = tt
+
+-- the same of a single call
+pub failure_counted : {T E : Type 0} (faults before after : ℕ) (answer : Result T E) → faults ≤ before → Counts before after (is_err answer) → OnErr answer (HasFault faults after)
+failure_counted faults before after (Ok value) le counts = tt
+failure_counted {E = E} faults before after (Err e) le counts = fault_counted {T = ℕ} {E = E} faults before after (Err e) le (counts.failure refl)

@@ -25,23 +25,32 @@ impl Failure {
 
 impl fmt::Display for Failure {
     fn fmt<W: fmt::Write>(&self, f: &mut fmt::Formatter<W>) -> fmt::Result {
-        match self.name.as_str() {
-            OUTPUT => f.write_str("standard output")?,
-            name => write_visibly(f, name)?,
-        }
+        write_name(f, self.name.as_str())?;
         let error = self.error;
         write!(f, ": {error}")
     }
 }
 
+// Writes the name of a file, or what standard output is called.
+fn write_name<W: fmt::Write>(f: &mut fmt::Formatter<W>, name: &str) -> fmt::Result {
+    if name == OUTPUT {
+        return f.write_str("standard output");
+    }
+    write_visibly(f, name)
+}
+
 // Writes a text with its control characters escaped, as `\n` and `\u{1b}`. On a terminal they would do what they stand for.
 fn write_visibly<W: fmt::Write>(f: &mut fmt::Formatter<W>, text: &str) -> fmt::Result {
     for c in text.chars() {
-        if c.is_control() {
-            write!(f, "{}", c.escape_default())?;
-        } else {
-            f.write_char(c)?;
-        }
+        write_char_visibly(f, c)?;
     }
     Ok(())
+}
+
+// The same of one character.
+fn write_char_visibly<W: fmt::Write>(f: &mut fmt::Formatter<W>, c: char) -> fmt::Result {
+    if c.is_control() {
+        return write!(f, "{}", c.escape_default());
+    }
+    f.write_char(c)
 }

@@ -1,6 +1,8 @@
-use Rattle.std.proofs.Common.{arith, length, length-take, ◌≤◌, ap}
+use Rattle.std.proofs.Common.{◌≡◌, arith, length, length-take, ◌≤◌, ◌∙◌, ap, refl, Err}
+use Rattle.std.proofs.lemmas.Result.{err_from_is_err_and}
+use Rattle.bank_files.specs.declared.whole.ReadWhole.TheVariants.{Failed, NoMemory}
 use Rattle.bank_files.proofs.Pieces.{file_whole, file_exceeds, file_more}
-use Rattle.bank_files.proofs.Chaining.{SameCounts-then, OnlyReads-then}
+use Rattle.bank_files.proofs.Chaining.{HasFault-from, SameCounts-then, OnlyReads-then}
 use Rattle.bank_files.proofs.whole.read_into.Goals as goal
 
 pub returns-then-n-eq0-clause-whole : goal.returns-then-n-eq0-clause-whole
@@ -35,3 +37,42 @@ loop-n-preserved g c =
       same_counts = SameCounts-then before mid after c.loop-n.invariant.same_counts c.in_ok-n.ensures.same_counts;
       only = OnlyReads-then before mid after c.loop-n.invariant.only c.in_ok-n.ensures.only;
     }
+
+pub returns-in_err-n : goal.returns-in_err-n
+returns-in_err-n g c =
+    let name = c.args.name.now in
+    let before = g.F.Files.view c.args.files.now in
+    let mid = g.F.Files.view c.loop-n.files in
+    let after = g.F.Files.view c.read_at.new.self in
+    let p = err_from_is_err_and c.from_residual.result c.from_residual.ensures.1 in
+    let is : c.from_residual.result ≡ Err Failed = p.1 ∙ ap Err p.2 in
+    rw is
+    (record {
+      whole = tt;
+      within = tt;
+      failed = λ here. HasFault-from (before.read_faults name) (mid.read_faults name) (after.read_faults name) (c.loop-n.invariant.only.counts.of_reads name) c.in_err-n.ensures.cause;
+      too_large = λ other. cc;
+      same_counts = λ other. absurd (other refl);
+      only = OnlyReads-then before mid after c.loop-n.invariant.only c.in_err-n.ensures.only;
+    })
+
+pub returns-in_err-extend_from_slice : goal.returns-in_err-extend_from_slice
+returns-in_err-extend_from_slice g c =
+    let before = g.F.Files.view c.args.files.now in
+    let mid = g.F.Files.view c.loop-n.files in
+    let after = g.F.Files.view c.read_at.new.self in
+    let p = err_from_is_err_and c.from_residual-in_err-extend_from_slice.result c.from_residual-in_err-extend_from_slice.ensures.1 in
+    let is : c.from_residual-in_err-extend_from_slice.result ≡ Err NoMemory = p.1 ∙ ap Err p.2 in
+    rw is
+    (record {
+      whole = tt;
+      within = tt;
+      failed = λ other. cc;
+      too_large = λ other. cc;
+      same_counts = λ here. SameCounts-then before mid after c.loop-n.invariant.same_counts c.in_ok-n.ensures.same_counts;
+      only = OnlyReads-then before mid after c.loop-n.invariant.only c.in_ok-n.ensures.only;
+    })
+
+pub returns-then-n-limit-clause-same_counts : goal.returns-then-n-limit-clause-same_counts
+returns-then-n-limit-clause-same_counts g c = λ here.
+    SameCounts-then (g.F.Files.view c.args.files.now) (g.F.Files.view c.loop-n.files) (g.F.Files.view c.read_at.new.self) c.loop-n.invariant.same_counts c.in_ok-n.ensures.same_counts
