@@ -9,216 +9,212 @@ use std::alloc::{AllocError, Global};
 use std::process::Abort;
 use std::test::Fail;
 
-// A text of two parts.
-const LINES: [&str; 16] = [
-    "tsbank certificate 1",
-    "station dcf77",
-    "start 0",
-    "phase 0",
-    "seconds 60",
-    "from 52595938",
-    "to 52596000",
-    "ceiling 1920000000",
-    "first 52595938",
-    "second -",
-    "worker 0",
-    "O Y 0 0 52595938 52596000 0",
-    "L M 0 0 52595938 52595939 0",
-    "E M 0 0 52595939 52595940 -",
-    "worker 1",
-    "end",
-];
+// The lines of a text of two parts.
+const TEXT: &str = "tsbank certificate 1
+station dcf77
+start 0
+phase 0
+seconds 60
+from 52595938
+to 52596000
+ceiling 1920000000
+first 52595938
+second -
+worker 0
+O Y 0 0 52595938 52596000 0
+L M 0 0 52595938 52595939 0
+E M 0 0 52595939 52595940 -
+worker 1
+end";
 
-// The text in which one line, counted from 1, is another.
-fn text_with(alloc: Global, number: u32, line: &str) -> Result<String, AllocError> {
+// The text in which one line, counted from 1, is another, and with more behind it.
+fn text_with(alloc: Global, number: usize, line: &str, more: &str) -> Result<String, AllocError> {
     let mut text = String::new(alloc);
-    for (i, own) in LINES.iter().enumerate() {
-        if i + 1 == number as usize {
-            write!(text, "{line}\n")?;
-        } else {
-            write!(text, "{own}\n")?;
-        }
+    let mut n: usize = 1;
+    for own in TEXT.split('\n') {
+        text.push_str(if n == number { line } else { own })?;
+        text.push_str("\n")?;
+        n = n.saturating_add(1);
     }
+    text.push_str(more)?;
     Ok(text)
 }
 
-// The first bad line of some bytes, and how many steps they have before it.
-fn read(bytes: &[u8]) -> (Option<BadLine>, usize) {
+// What is read of a text.
+#[derive(Clone, Copy)]
+struct Found {
+    // The number of its first bad line; 0 where it has none.
+    bad: u32,
+    // How many steps stand before that.
+    steps: u32,
+    first: Option<Line>,
+}
+
+// The number of a line that is refused for its shape. None here has too many steps before it.
+fn number_of(bad: Option<BadLine>) -> u32 {
+    match bad {
+        None => 0,
+        Some(bad) => match bad.fault {
+            CertificateLineFault::Shape => bad.line,
+            CertificateLineFault::TooManySteps => u32::MAX,
+        },
+    }
+}
+
+fn read(bytes: &[u8]) -> Found {
     let mut reader = Reader::new();
-    let mut steps: usize = 0;
+    let mut found = Found {
+        bad: u32::MAX,
+        steps: 0,
+        first: None,
+    };
     for byte in bytes {
         // Never reached: it bounds the lines.
         if reader.lines > 1_000_000_000 {
-            return (None, 0);
+            return found;
         }
-        if let Some(Told::Step { line: _ }) = reader.take(*byte) {
-            steps = steps.saturating_add(1);
+        if let Some(Told::Step { line }) = reader.take(*byte) {
+            if found.steps == 0 {
+                found.first = Some(line);
+            }
+            found.steps = found.steps.saturating_add(1);
         }
     }
-    if reader.lines > 1_000_000_000 {
-        return (None, 0);
+    if reader.lines <= 1_000_000_000 {
+        found.bad = number_of(reader.finish());
     }
-    (reader.finish(), steps)
+    found
 }
 
-fn shape_at(line: u32) -> Option<BadLine> {
-    Some(BadLine {
-        line,
-        fault: CertificateLineFault::Shape,
-    })
+// What is read of that text.
+fn read_with(rt: &(impl Abort + AllocGlobal), number: usize, line: &str, more: &str) -> Found {
+    match text_with(rt.alloc(), number, line, more) {
+        Ok(text) => read(text.as_bytes()),
+        Err(_) => panic!(rt; "no memory for a text"),
+    }
 }
 
-// The first bad line of the text in which one line is another.
-fn bad_line_with(alloc: Global, number: u32, line: &str) -> Result<Option<BadLine>, AllocError> {
-    let text = text_with(alloc, number, line)?;
-    Ok(read(text.as_bytes()).0)
-}
-
-fn reads_a_text(rt: &impl Abort, bytes: &[u8]) {
-    assert!(rt; read(bytes) == (None, 3));
+// The text with each of these lines: its number, what it is, and the number of the first bad line.
+fn check_lines(rt: &(impl Abort + AllocGlobal), rows: &[(usize, &str, u32)]) {
+    for (number, line, bad) in rows {
+        let found = read_with(rt, *number, line, "");
+        check_row(rt, found.bad == *bad, line);
+    }
 }
 
 // Each line may be one of these too.
-const OTHER_LINES: [(u32, &str); 14] = [
-    (2, "station jjy"),
-    (3, "start 999999999999"),
-    (4, "phase 999"),
-    (5, "seconds 1200"),
-    (6, "from 0"),
-    (7, "to 52595939"),
-    (8, "ceiling 0"),
-    (9, "first -"),
-    (9, "first 6416711999"),
-    (10, "second 0"),
-    (12, "P Y 1 60 0 52596000 1920000000"),
-    (12, "L M 0 0 52595999 52596000 0"),
-    (12, "E D 1 60 0 1 -"),
-    (12, "worker 1"),
+const OTHER_LINES: [(usize, &str, u32); 14] = [
+    (2, "station jjy", 0),
+    (3, "start 999999999999", 0),
+    (4, "phase 999", 0),
+    (5, "seconds 1200", 0),
+    (6, "from 0", 0),
+    (7, "to 52595939", 0),
+    (8, "ceiling 0", 0),
+    (9, "first -", 0),
+    (9, "first 6416711999", 0),
+    (10, "second 0", 0),
+    (12, "P Y 1 60 0 52596000 1920000000", 0),
+    (12, "L M 0 0 52595999 52596000 0", 0),
+    (12, "E D 1 60 0 1 -", 0),
+    (12, "worker 1", 15),
 ];
 
 #[test]
-fn reads_other_lines(rt: HostRuntime) -> Result<(), Fail> {
-    for (number, line) in &OTHER_LINES {
-        let wanted = if *line == "worker 1" {
-            shape_at(15)
-        } else {
-            None
-        };
-        check_row(
-            &rt,
-            bad_line_with(rt.alloc(), *number, line)? == wanted,
-            line,
-        );
-    }
-    Ok(())
+fn reads_other_lines(rt: HostRuntime) {
+    check_lines(&rt, &OTHER_LINES);
 }
 
 // And none of these.
-const BAD_LINES: [(u32, &str); 52] = [
-    (1, ""),
-    (1, "tsbank certificate 2 "),
-    (1, "tsbank certificate 0"),
-    (1, "tsbank certificate 3"),
-    (1, "tsbank certificate 1\r"),
-    (1, "\u{feff}tsbank certificate 1"),
-    (2, "stations dcf77"),
-    (2, "station dcf77 msf"),
-    (2, "station DCF77"),
-    (3, "start 00"),
-    (3, "start +1"),
-    (3, "start -0"),
-    (3, "start -"),
-    (3, "start 1000000000000"),
-    (3, "start 18446744073709551616"),
-    (3, "start 100000000000000000000"),
-    (3, "start 000000000000000000000"),
-    (3, "start  0"),
-    (3, "start 0 "),
-    (3, "start\t0"),
-    (3, "phase 0"),
-    (4, "phase 1000"),
-    (5, "seconds 59"),
-    (5, "seconds 1201"),
-    (6, "from 52596000"),
-    (7, "to 52595938"),
-    (7, "to 52596001"),
-    (8, "ceiling 1920000001"),
-    (9, "first 6416712000"),
-    (9, "first 16492674424750964736"),
-    (9, "first 18446744073709551615"),
-    (11, "worker 1"),
-    (11, "worker 00"),
-    (12, "worker 2"),
-    (12, "O M 0 0 0 1 0"),
-    (12, "L D 0 0 0 1 0"),
-    (12, "E Y 0 0 0 1 0"),
-    (12, "P Y 0 0 0 1 -"),
-    (12, "P Y 0 61 0 1 0"),
-    (12, "P Y 2 0 0 1 0"),
-    (12, "P Y 0 0 1 1 0"),
-    (12, "P Y 0 0 0 52596001 0"),
-    (12, "P Y 0 0 0 1 1920000001"),
-    (12, "P Y 0 0 0 1"),
-    (12, "P Y 0 0 0 1 0 0"),
-    (12, "P  Y 0 0 0 1 0"),
-    (12, "p Y 0 0 0 1 0"),
-    (12, ""),
-    (15, "worker 1 "),
-    (15, "worker 10"),
-    (16, "End"),
-    (16, "en"),
+const BAD_LINES: [(usize, &str, u32); 52] = [
+    (1, "", 1),
+    (1, "tsbank certificate 2 ", 1),
+    (1, "tsbank certificate 0", 1),
+    (1, "tsbank certificate 3", 1),
+    (1, "tsbank certificate 1\r", 1),
+    (1, "\u{feff}tsbank certificate 1", 1),
+    (2, "stations dcf77", 2),
+    (2, "station dcf77 msf", 2),
+    (2, "station DCF77", 2),
+    (3, "start 00", 3),
+    (3, "start +1", 3),
+    (3, "start -0", 3),
+    (3, "start -", 3),
+    (3, "start 1000000000000", 3),
+    (3, "start 18446744073709551616", 3),
+    (3, "start 100000000000000000000", 3),
+    (3, "start 000000000000000000000", 3),
+    (3, "start  0", 3),
+    (3, "start 0 ", 3),
+    (3, "start\t0", 3),
+    (3, "phase 0", 3),
+    (4, "phase 1000", 4),
+    (5, "seconds 59", 5),
+    (5, "seconds 1201", 5),
+    (6, "from 52596000", 6),
+    (7, "to 52595938", 7),
+    (7, "to 52596001", 7),
+    (8, "ceiling 1920000001", 8),
+    (9, "first 6416712000", 9),
+    (9, "first 16492674424750964736", 9),
+    (9, "first 18446744073709551615", 9),
+    (11, "worker 1", 11),
+    (11, "worker 00", 11),
+    (12, "worker 2", 12),
+    (12, "O M 0 0 0 1 0", 12),
+    (12, "L D 0 0 0 1 0", 12),
+    (12, "E Y 0 0 0 1 0", 12),
+    (12, "P Y 0 0 0 1 -", 12),
+    (12, "P Y 0 61 0 1 0", 12),
+    (12, "P Y 2 0 0 1 0", 12),
+    (12, "P Y 0 0 1 1 0", 12),
+    (12, "P Y 0 0 0 52596001 0", 12),
+    (12, "P Y 0 0 0 1 1920000001", 12),
+    (12, "P Y 0 0 0 1", 12),
+    (12, "P Y 0 0 0 1 0 0", 12),
+    (12, "P  Y 0 0 0 1 0", 12),
+    (12, "p Y 0 0 0 1 0", 12),
+    (12, "", 12),
+    (15, "worker 1 ", 15),
+    (15, "worker 10", 15),
+    (16, "End", 16),
+    (16, "en", 16),
 ];
 
 #[test]
-fn refuses_other_lines(rt: HostRuntime) -> Result<(), Fail> {
-    for (number, line) in &BAD_LINES {
-        let found = bad_line_with(rt.alloc(), *number, line)?;
-        check_row(&rt, found == shape_at(*number), line);
-    }
-    Ok(())
+fn refuses_other_lines(rt: HostRuntime) {
+    check_lines(&rt, &BAD_LINES);
 }
 
 // A text that is cut anywhere is refused for the line that isn't whole.
 fn refuses_a_text_that_is_cut(rt: &impl Abort, bytes: &[u8]) {
-    let mut lines: u32 = 0;
+    let mut line: u32 = 1;
     for (i, byte) in bytes.iter().enumerate() {
-        let found = read(&bytes[..i]).0;
-        check_at(rt, found == shape_at(lines.saturating_add(1)), i as u64);
-        if *byte == b'\n' && lines < 1_000 {
-            lines = lines.saturating_add(1);
+        check_at(rt, read(&bytes[..i]).bad == line, i as u64);
+        if *byte == b'\n' {
+            line = line.saturating_add(1);
         }
     }
+    assert!(rt; read(bytes).bad == line && line == 16);
 }
 
 #[test]
-fn a_text_whole_and_cut(rt: HostRuntime) -> Result<(), Fail> {
-    let text = text_with(rt.alloc(), 0, "")?;
-    reads_a_text(&rt, text.as_bytes());
-    refuses_a_text_that_is_cut(&rt, text.as_bytes());
-    Ok(())
-}
-
-// What is read of the text with more behind it.
-fn read_with_more(alloc: Global, more: &str) -> Result<(Option<BadLine>, usize), AllocError> {
-    let mut text = text_with(alloc, 0, "")?;
-    text.push_str(more)?;
-    Ok(read(text.as_bytes()))
+fn a_text_whole_and_cut(rt: HostRuntime) {
+    let found = read_with(&rt, 0, "", "");
+    assert!(rt; found.bad == 0 && found.steps == 3);
+    refuses_a_text_that_is_cut(&rt, TEXT.as_bytes());
 }
 
 #[test]
-fn refuses_what_comes_behind_the_end(rt: HostRuntime) -> Result<(), Fail> {
+fn refuses_what_comes_behind_the_end(rt: HostRuntime) {
     for more in &["\n", "x", "\0", "end\n"] {
-        check_row(
-            &rt,
-            read_with_more(rt.alloc(), more)? == (shape_at(17), 3),
-            more,
-        );
+        let found = read_with(&rt, 0, "", more);
+        check_row(&rt, found.bad == 17 && found.steps == 3, more);
     }
-    Ok(())
 }
 
 // What is read of a byte that stands 100,000 times.
-fn read_many(alloc: Global, byte: u8) -> Result<(Option<BadLine>, usize), AllocError> {
+fn read_many(alloc: Global, byte: u8) -> Result<Found, AllocError> {
     let many = vec![in alloc; byte; 100_000]?;
     Ok(read(&many))
 }
@@ -226,10 +222,12 @@ fn read_many(alloc: Global, byte: u8) -> Result<(Option<BadLine>, usize), AllocE
 #[test]
 fn refuses_bytes(rt: HostRuntime) -> Result<(), Fail> {
     for bytes in [b"".as_slice(), &[255, 10], &[0, 10]] {
-        assert!(rt; read(bytes) == (shape_at(1), 0));
+        let found = read(bytes);
+        assert!(rt; found.bad == 1 && found.steps == 0);
     }
     for byte in b"x\n" {
-        assert!(rt; read_many(rt.alloc(), *byte)? == (shape_at(1), 0));
+        let found = read_many(rt.alloc(), *byte)?;
+        assert!(rt; found.bad == 1 && found.steps == 0);
     }
     Ok(())
 }
@@ -294,38 +292,16 @@ const STEPS: [(&str, Line); 4] = [
     ),
 ];
 
-// The first step that some bytes tell.
-fn first_step(bytes: &[u8]) -> Option<Line> {
-    let mut reader = Reader::new();
-    for byte in bytes {
-        // Never reached: it bounds the lines.
-        if reader.lines > 1_000_000_000 {
-            return None;
-        }
-        if let Some(Told::Step { line }) = reader.take(*byte) {
-            return Some(line);
-        }
-    }
-    None
-}
-
-// The first step of the text in which this line stands in its place.
-fn first_step_with(alloc: Global, line: &str) -> Result<Option<Line>, AllocError> {
-    let text = text_with(alloc, 12, line)?;
-    Ok(first_step(text.as_bytes()))
-}
-
 fn is_written_as(step: &Line, text: &str) -> bool {
     let line = step_line(step);
     line.as_str().trim_end() == text
 }
 
 #[test]
-fn writes_what_it_reads(rt: HostRuntime) -> Result<(), Fail> {
+fn writes_what_it_reads(rt: HostRuntime) {
     for (text, step) in &STEPS {
-        check_row(&rt, is_written_as(step, text), text);
-        let found = first_step_with(rt.alloc(), text)?;
-        check_row(&rt, found == Some(*step), text);
+        let found = read_with(&rt, 12, text, "");
+        let is_read = found.first == Some(*step);
+        check_row(&rt, is_read && is_written_as(step, text), text);
     }
-    Ok(())
 }

@@ -1,22 +1,22 @@
 //! Configurations with one fault, and with each two faults: the one that is judged first decides.
 
-use crate::configurations::{fault_in, list, missing, out_of_range, wrong_kind};
+use crate::configurations::{fault_in, missing, out_of_range, text_of, wrong_kind};
 use bank_config::{ConfigFault, Key};
 use std::alloc::{AllocError, Global};
 use std::process::Abort;
 use std::test::Fail;
 
-// The places of a configuration's lines, in the order in which they are judged. Each receiver has its name,
-// log, delay, weight and station.
+// The places of a configuration's lines, in the order in which they are judged. Each of the two receivers has five, from that of its
+// name on.
 const STATION: usize = 0;
 
 const CEILING: usize = 1;
 
 const RECEIVER: usize = 2;
 
-const FIRST: [usize; 5] = [3, 4, 5, 6, 7];
+const FIRST: usize = 3;
 
-const SECOND: [usize; 5] = [8, 9, 10, 11, 12];
+const SECOND: usize = 8;
 
 const TABLE: usize = 13;
 
@@ -32,6 +32,17 @@ const UNKNOWN_OF_TABLE: usize = 18;
 
 const PLACES: usize = 19;
 
+// The values of a receiver, in the order in which its lines stand.
+const NAME: usize = 0;
+
+const FILE: usize = 1;
+
+const DELAY: usize = 2;
+
+const WEIGHT: usize = 3;
+
+const OWN_STATION: usize = 4;
+
 // A line that is at fault.
 #[derive(Clone, Copy)]
 struct BadLine<'a> {
@@ -39,6 +50,13 @@ struct BadLine<'a> {
     line: &'a str,
     fault: ConfigFault,
 }
+
+// A line that is at no place.
+const NOWHERE: BadLine<'static> = BadLine {
+    place: PLACES,
+    line: "",
+    fault: ConfigFault::UnknownKey,
+};
 
 // The lines of a configuration with no fault. Its receivers and its cost table stand under headers, and so not at their
 // own places, where other kinds of values may stand.
@@ -76,59 +94,39 @@ fn line_at<'a>(place: usize, first: BadLine<'a>, second: BadLine<'a>) -> &'a str
     if place < PLACES { lines[place] } else { "" }
 }
 
-// Adds a header and the lines of some places, unless another value stands in the place of all of them.
-fn push_part<'a>(
-    text: &mut String,
-    first: BadLine<'a>,
-    second: BadLine<'a>,
-    whole: usize,
-    header: &str,
-    places: &[usize],
-) -> Result<(), AllocError> {
-    if !line_at(whole, first, second).is_empty() {
-        return Ok(());
-    }
-    text.push_str(header)?;
-    for place in places {
-        text.push_str(line_at(*place, first, second))?;
-    }
-    Ok(())
-}
-
-// The places before the first header.
-const AT_THE_TOP: [usize; 5] = [STATION, CEILING, UNKNOWN, TABLE, RECEIVER];
-
-// The other parts: the place where another value may stand for all of it, the header, and the places below that.
-const PARTS: [(usize, &str, &[usize]); 4] = [
-    (RECEIVER, "[[receiver]]\n", &FIRST),
-    (RECEIVER, "[[receiver]]\n", &SECOND),
-    (RECEIVER, "", &[UNKNOWN_OF_RECEIVER]),
-    (TABLE, "[table]\n", &[LOW, HIGH, UNKNOWN_OF_TABLE]),
+// The pieces of a configuration: the place where another value may stand for it, what stands before its line, and its place. The
+// first five stand before the first header, and nothing stands for them.
+const PIECES: [(usize, &str, usize); 19] = [
+    (PLACES, "", STATION),
+    (PLACES, "", CEILING),
+    (PLACES, "", UNKNOWN),
+    (PLACES, "", TABLE),
+    (PLACES, "", RECEIVER),
+    (RECEIVER, "[[receiver]]\n", FIRST + NAME),
+    (RECEIVER, "", FIRST + FILE),
+    (RECEIVER, "", FIRST + DELAY),
+    (RECEIVER, "", FIRST + WEIGHT),
+    (RECEIVER, "", FIRST + OWN_STATION),
+    (RECEIVER, "[[receiver]]\n", SECOND + NAME),
+    (RECEIVER, "", SECOND + FILE),
+    (RECEIVER, "", SECOND + DELAY),
+    (RECEIVER, "", SECOND + WEIGHT),
+    (RECEIVER, "", SECOND + OWN_STATION),
+    (RECEIVER, "", UNKNOWN_OF_RECEIVER),
+    (TABLE, "[table]\n", LOW),
+    (TABLE, "", HIGH),
+    (TABLE, "", UNKNOWN_OF_TABLE),
 ];
 
-// Adds the lines of each part.
-fn push_parts<'a>(
-    text: &mut String,
-    first: BadLine<'a>,
-    second: BadLine<'a>,
-) -> Result<(), AllocError> {
-    for place in &AT_THE_TOP {
-        text.push_str(line_at(*place, first, second))?;
-    }
-    for (whole, header, places) in &PARTS {
-        push_part(text, first, second, *whole, header, places)?;
-    }
-    Ok(())
-}
-
 // The configuration with these two faults.
-fn text_of<'a>(
-    alloc: Global,
-    first: BadLine<'a>,
-    second: BadLine<'a>,
-) -> Result<String, AllocError> {
+fn text_with(alloc: Global, first: BadLine<'_>, second: BadLine<'_>) -> Result<String, AllocError> {
     let mut text = String::new(alloc);
-    push_parts(&mut text, first, second)?;
+    for (whole, header, place) in &PIECES {
+        if line_at(*whole, first, second).is_empty() {
+            text.push_str(header)?;
+            text.push_str(line_at(*place, first, second))?;
+        }
+    }
     Ok(text)
 }
 
@@ -140,8 +138,20 @@ enum Wrong {
     Range,
 }
 
+// How many are judged before the receivers, of each receiver, of the cost table and last.
+const TOP: usize = 14;
+
+const OWN: usize = 21;
+
+const COSTS: usize = 6;
+
+const LAST: usize = 3;
+
+// How many there are.
+const BAD_LINES: usize = TOP + 2 * OWN + COSTS + LAST;
+
 // What is judged before the receivers. A line without a key stands for one that is missing.
-const BAD_AT_THE_TOP: [(usize, &str, Wrong, Key); 14] = [
+const BAD_AT_THE_TOP: [(usize, &str, Wrong, Key); TOP] = [
     (STATION, "\n", Wrong::Missing, Key::Station),
     (STATION, "station = 1\n", Wrong::Kind, Key::Station),
     (STATION, "station = \"bpc\"\n", Wrong::Range, Key::Station),
@@ -173,19 +183,8 @@ const BAD_AT_THE_TOP: [(usize, &str, Wrong, Key); 14] = [
     ),
 ];
 
-// The values of a receiver, in the order in which its lines stand.
-const NAME: usize = 0;
-
-const FILE: usize = 1;
-
-const DELAY: usize = 2;
-
-const WEIGHT: usize = 3;
-
-const OWN_STATION: usize = 4;
-
 // What is judged of a receiver.
-const BAD_OF_RECEIVER: [(usize, &str, Wrong); 21] = [
+const BAD_OF_RECEIVER: [(usize, &str, Wrong); OWN] = [
     (NAME, "\n", Wrong::Missing),
     (NAME, "name = 1\n", Wrong::Kind),
     (NAME, "name = \"\"\n", Wrong::Range),
@@ -215,7 +214,7 @@ const BAD_OF_RECEIVER: [(usize, &str, Wrong); 21] = [
 
 // What is judged of the cost table, behind the receivers. The lists that are out of range are made in memory: an empty line
 // stands for them here.
-const BAD_OF_TABLE: [(usize, &str, Wrong, Key); 6] = [
+const BAD_OF_TABLE: [(usize, &str, Wrong, Key); COSTS] = [
     (TABLE, "table = 1\n", Wrong::Kind, Key::CostTable),
     (TABLE, "table = []\n", Wrong::Kind, Key::CostTable),
     (LOW, "low = 1\n", Wrong::Kind, Key::Low),
@@ -225,7 +224,7 @@ const BAD_OF_TABLE: [(usize, &str, Wrong, Key); 6] = [
 ];
 
 // What is judged last.
-const UNKNOWN_LINES: [(usize, &str); 3] = [
+const UNKNOWN_LINES: [(usize, &str); LAST] = [
     (UNKNOWN, "other = {}\n"),
     (UNKNOWN_OF_RECEIVER, "x = 1\n"),
     (UNKNOWN_OF_TABLE, "x = 1\n"),
@@ -239,148 +238,133 @@ fn fault_at(wrong: Wrong, key: Key) -> ConfigFault {
     }
 }
 
-// Adds what is judged before the receivers.
-fn push_at_the_top<'a>(lines: &mut Vec<BadLine<'a>>) -> Result<(), AllocError> {
-    for (place, line, wrong, key) in &BAD_AT_THE_TOP {
-        let fault = fault_at(*wrong, *key);
-        lines.push(BadLine {
+// One of those that are judged before the receivers.
+fn at_the_top(number: usize) -> BadLine<'static> {
+    match BAD_AT_THE_TOP.get(number) {
+        Some((place, line, wrong, key)) => BadLine {
             place: *place,
             line,
-            fault,
-        })?;
+            fault: fault_at(*wrong, *key),
+        },
+        None => NOWHERE,
     }
-    Ok(())
 }
 
-// Adds what is judged of a receiver whose lines have these places.
-fn push_of_receiver<'a>(
-    lines: &mut Vec<BadLine<'a>>,
-    at: &[usize; 5],
-    receiver: u8,
-) -> Result<(), AllocError> {
-    for (value, line, wrong) in &BAD_OF_RECEIVER {
-        let (place, key) = match *value {
-            NAME => (at[0], Key::Name { receiver }),
-            FILE => (at[1], Key::File { receiver }),
-            DELAY => (at[2], Key::Delay { receiver }),
-            WEIGHT => (at[3], Key::Weight { receiver }),
-            _ => (at[4], Key::ReceiverStation { receiver }),
-        };
-        let fault = fault_at(*wrong, key);
-        lines.push(BadLine { place, line, fault })?;
+// One of those of a receiver, whose lines begin at this place.
+fn of_receiver(number: usize, at: usize, receiver: u8) -> BadLine<'static> {
+    let Some((value, line, wrong)) = BAD_OF_RECEIVER.get(number) else {
+        return NOWHERE;
+    };
+    let key = match *value {
+        NAME => Key::Name { receiver },
+        FILE => Key::File { receiver },
+        DELAY => Key::Delay { receiver },
+        WEIGHT => Key::Weight { receiver },
+        _ => Key::ReceiverStation { receiver },
+    };
+    BadLine {
+        place: at.saturating_add(*value),
+        line,
+        fault: fault_at(*wrong, key),
     }
-    Ok(())
 }
 
-// Adds what is judged of the cost table, with these lists out of range.
-fn push_of_table<'a>(
-    lines: &mut Vec<BadLine<'a>>,
-    low: &'a str,
-    high: &'a str,
-) -> Result<(), AllocError> {
-    for (place, own, wrong, key) in &BAD_OF_TABLE {
-        let line = if !own.is_empty() {
-            *own
-        } else if *place == LOW {
-            low
-        } else {
-            high
-        };
-        let fault = fault_at(*wrong, *key);
-        lines.push(BadLine {
+// One of those of the cost table, with these lists out of range.
+fn of_table<'a>(number: usize, low: &'a str, high: &'a str) -> BadLine<'a> {
+    if number >= COSTS {
+        return NOWHERE;
+    }
+    let rows = &BAD_OF_TABLE;
+    let (place, own, wrong, key) = rows[number];
+    let line = if !own.is_empty() {
+        own
+    } else if place == LOW {
+        low
+    } else {
+        high
+    };
+    BadLine {
+        place,
+        line,
+        fault: fault_at(wrong, key),
+    }
+}
+
+// One of those that are judged last.
+fn unknown(number: usize) -> BadLine<'static> {
+    match UNKNOWN_LINES.get(number) {
+        Some((place, line)) => BadLine {
             place: *place,
             line,
-            fault,
-        })?;
+            fault: ConfigFault::UnknownKey,
+        },
+        None => NOWHERE,
     }
-    Ok(())
 }
 
-// Adds what is judged last.
-fn push_unknown<'a>(lines: &mut Vec<BadLine<'a>>) -> Result<(), AllocError> {
-    for (place, line) in &UNKNOWN_LINES {
-        let fault = ConfigFault::UnknownKey;
-        lines.push(BadLine {
-            place: *place,
-            line,
-            fault,
-        })?;
+// One of all of them, in the order in which they are judged.
+fn bad_line<'a>(number: usize, low: &'a str, high: &'a str) -> BadLine<'a> {
+    if number < TOP {
+        return at_the_top(number);
     }
-    Ok(())
-}
-
-// All of them, in the order in which they are judged.
-fn bad_lines<'a>(
-    alloc: Global,
-    low: &'a str,
-    high: &'a str,
-) -> Result<Vec<BadLine<'a>>, AllocError> {
-    let mut lines = Vec::new(alloc);
-    push_at_the_top(&mut lines)?;
-    push_of_receiver(&mut lines, &FIRST, 1)?;
-    push_of_receiver(&mut lines, &SECOND, 2)?;
-    push_of_table(&mut lines, low, high)?;
-    push_unknown(&mut lines)?;
-    Ok(lines)
+    let number = number - TOP;
+    if number < OWN {
+        return of_receiver(number, FIRST, 1);
+    }
+    let number = number - OWN;
+    if number < OWN {
+        return of_receiver(number, SECOND, 2);
+    }
+    let number = number - OWN;
+    if number < COSTS {
+        return of_table(number, low, high);
+    }
+    unknown(number - COSTS)
 }
 
 // What is told of the configuration with these two faults.
-fn told<'a>(
-    rt: &(impl Abort + AllocGlobal),
-    first: BadLine<'a>,
-    second: BadLine<'a>,
-) -> Result<Option<ConfigFault>, AllocError> {
-    let text = text_of(rt.alloc(), first, second)?;
-    Ok(fault_in(rt, text.as_bytes()))
-}
-
-fn first_decides(
+fn told(
     rt: &(impl Abort + AllocGlobal),
     first: BadLine<'_>,
     second: BadLine<'_>,
-) -> Result<(), AllocError> {
-    let fault = told(rt, first, second)?;
+) -> Option<ConfigFault> {
+    match text_with(rt.alloc(), first, second) {
+        Ok(text) => fault_in(rt, text.as_bytes()),
+        Err(_) => panic!(rt; "no memory for a text"),
+    }
+}
+
+fn first_decides(rt: &(impl Abort + AllocGlobal), first: BadLine<'_>, second: BadLine<'_>) {
+    let fault = told(rt, first, second);
     assert!(rt;
         fault == Some(first.fault),
         "{} and {}",
         first.line,
         second.line
     );
-    Ok(())
 }
 
 // Each fault alone, and with each of those that are judged later.
-fn first_of_two_decides(
-    rt: &(impl Abort + AllocGlobal),
-    lines: &[BadLine<'_>],
-) -> Result<(), AllocError> {
-    for i in 0..lines.len() {
-        let first = lines[i];
-        for second in &lines[i..] {
-            first_decides(rt, first, *second)?;
+fn first_of_two_decides(rt: &(impl Abort + AllocGlobal), low: &str, high: &str) {
+    for i in 0..BAD_LINES {
+        let first = bad_line(i, low, high);
+        for k in i..BAD_LINES {
+            first_decides(rt, first, bad_line(k, low, high));
         }
     }
-    Ok(())
 }
 
 #[test]
 fn first_fault_decides(rt: HostRuntime) -> Result<(), Fail> {
-    let low = list(rt.alloc(), "low", 100, "201")?;
-    let high = list(rt.alloc(), "high", 100, "201")?;
-    let lines = bad_lines(rt.alloc(), &low, &high)?;
-    first_of_two_decides(&rt, &lines)?;
+    let low = text_of(rt.alloc(), &[("low = [", 1), ("1, ", 100), ("201]\n", 1)])?;
+    let high = text_of(rt.alloc(), &[("high = [", 1), ("1, ", 100), ("201]\n", 1)])?;
+    first_of_two_decides(&rt, &low, &high);
     Ok(())
 }
 
 #[test]
-fn these_lines_have_no_fault(rt: HostRuntime) -> Result<(), Fail> {
-    let nowhere = BadLine {
-        place: PLACES,
-        line: "",
-        fault: ConfigFault::UnknownKey,
-    };
-    assert!(rt; told(&rt, nowhere, nowhere)?.is_none());
-    Ok(())
+fn these_lines_have_no_fault(rt: HostRuntime) {
+    assert!(rt; told(&rt, NOWHERE, NOWHERE).is_none());
 }
 
 #[test]

@@ -5,7 +5,6 @@ use bank_config::{CONFIG_LIMIT, Config, ConfigFault, Key, Receiver, read_config}
 use signal_base::{CostTable, Station};
 use std::alloc::{AllocError, Global};
 use std::process::Abort;
-use std::test::Fail;
 
 pub(crate) fn read(rt: &(impl Abort + AllocGlobal), text: &[u8]) -> Result<Config, ConfigFault> {
     assert!(rt; text.len() <= CONFIG_LIMIT);
@@ -29,39 +28,27 @@ pub(crate) fn out_of_range(key: Key) -> ConfigFault {
     ConfigFault::OutOfRange { key }
 }
 
-// `KEY = [1, 1, ..]` with so many numbers, and then the last.
-pub(crate) fn list(
-    alloc: Global,
-    key: &str,
-    ones: usize,
-    last: &str,
-) -> Result<String, AllocError> {
-    let ones = "1, ".repeat(alloc, ones)?;
-    format!(in alloc; "{key} = [{ones}{last}]\n")
+// The text of some pieces, each so many times.
+pub(crate) fn text_of(alloc: Global, pieces: &[(&str, usize)]) -> Result<String, AllocError> {
+    let mut text = String::new(alloc);
+    for (piece, times) in pieces {
+        for _ in 0..*times {
+            text.push_str(piece)?;
+        }
+    }
+    Ok(text)
+}
+
+// What is wrong with that text.
+fn fault_of(rt: &(impl Abort + AllocGlobal), pieces: &[(&str, usize)]) -> Option<ConfigFault> {
+    match text_of(rt.alloc(), pieces) {
+        Ok(text) => fault_in(rt, text.as_bytes()),
+        Err(_) => panic!(rt; "no memory for a text"),
+    }
 }
 
 // What stands before the lists of a cost table.
 const BEFORE_LISTS: &str = "station = \"jjy\"\nreceiver = [{name = \"a\", log = \"a\"}]\n[table]\n";
-
-// What is wrong with a configuration that has this list.
-fn fault_of_list(
-    rt: &(impl Abort + AllocGlobal),
-    key: &str,
-    ones: usize,
-    last: &str,
-) -> Result<Option<ConfigFault>, AllocError> {
-    let list = list(rt.alloc(), key, ones, last)?;
-    let text = format!(in rt.alloc(); "{}{}", BEFORE_LISTS, list)?;
-    Ok(fault_in(rt, text.as_bytes()))
-}
-
-// What is wrong where both lists are, the later one first.
-fn fault_of_both_lists(rt: &(impl Abort + AllocGlobal)) -> Result<Option<ConfigFault>, AllocError> {
-    let low = list(rt.alloc(), "low", 100, "201")?;
-    let high = list(rt.alloc(), "high", 99, "1")?;
-    let both = format!(in rt.alloc(); "{}{}{}", BEFORE_LISTS, high, low)?;
-    Ok(fault_in(rt, both.as_bytes()))
-}
 
 // A list by its key, how many ones it has, its last number, and what is wrong with it.
 const LISTS: [(&str, usize, &str, Option<ConfigFault>); 9] = [
@@ -111,63 +98,107 @@ const LISTS: [(&str, usize, &str, Option<ConfigFault>); 9] = [
     ("high", 100, "0", None),
 ];
 
-#[test]
-fn judges_the_cost_table(rt: HostRuntime) -> Result<(), Fail> {
-    for (key, ones, last, fault) in &LISTS {
-        assert!(rt; fault_of_list(&rt, key, *ones, last)? == *fault);
-    }
-    assert!(rt; fault_of_both_lists(&rt)? == Some(out_of_range(Key::Low)));
-    Ok(())
-}
-
-fn says_its_values(rt: &impl Abort, config: &Config) {
-    assert!(rt; config.station == Station::Jjy && config.ceiling == 0);
-    assert!(rt; config.table == CostTable::default());
-}
-
-fn says_its_receivers(rt: &impl Abort, receivers: &[Receiver]) {
-    assert!(rt; receivers.len() == 2);
-    let (first, second) = (&receivers[0], &receivers[1]);
-    assert!(rt; first.name.as_str() == "a-_9" && first.file.as_str() == "b/c");
-    assert!(rt;
-        first.tuning.delay == 500 && first.tuning.weight == 100 && first.station == Station::Msf
-    );
-    assert!(rt; second.name.as_str() == "a-_9" && second.file.as_str() == "d");
-    assert!(rt;
-        second.tuning.delay == 0 && second.tuning.weight == 1 && second.station == Station::Jjy
-    );
-}
-
-// The station and the ceiling of a configuration that says little.
-fn station_and_ceiling(rt: &(impl Abort + AllocGlobal)) -> Result<(Station, u32), ConfigFault> {
-    let short = read(
-        rt,
-        b"station = \"wwvb\"\nreceiver = [{name = \"0\", log = \"a\"}]\n",
-    )?;
-    Ok((short.station, short.ceiling))
-}
-
-#[test]
-fn reads_what_is_said(rt: HostRuntime) -> Result<(), Fail> {
-    assert!(rt; station_and_ceiling(&rt)? == (Station::Wwvb, 1_920_000_000));
-    let whole =
-        b"station = \"jjy\"\nceiling = 0\n[[receiver]]\nname = \"a-_9\"\nlog = \"b/c\"\ndelay_ms = 500\nweight = 100\nstation = \"msf\"\n[[receiver]]\nname = \"a-_9\"\nlog = \"d\"\n";
-    let config = read(&rt, whole)?;
-    says_its_values(&rt, &config);
-    says_its_receivers(&rt, &config.receivers);
-    Ok(())
-}
-
-// What is wrong with a head and so many units behind it.
-fn fault_of_units(
+// What is wrong with a configuration that has the list `KEY = [1, 1, .., LAST]` of so many ones and a last number.
+fn fault_of_list<'a>(
     rt: &(impl Abort + AllocGlobal),
-    head: &str,
-    unit: &str,
-    count: usize,
-) -> Result<Option<ConfigFault>, AllocError> {
-    let units = unit.repeat(rt.alloc(), count)?;
-    let text = format!(in rt.alloc(); "{head}{units}")?;
-    Ok(fault_in(rt, text.as_bytes()))
+    key: &'a str,
+    ones: usize,
+    last: &'a str,
+) -> Option<ConfigFault> {
+    let pieces = [
+        (BEFORE_LISTS, 1),
+        (key, 1),
+        (" = [", 1),
+        ("1, ", ones),
+        (last, 1),
+        ("]\n", 1),
+    ];
+    fault_of(rt, &pieces)
+}
+
+// What is wrong where both lists are, the later one first.
+fn fault_of_both_lists(rt: &(impl Abort + AllocGlobal)) -> Option<ConfigFault> {
+    let pieces = [
+        (BEFORE_LISTS, 1),
+        ("high = [", 1),
+        ("1, ", 99),
+        ("1]\nlow = [", 1),
+        ("1, ", 100),
+        ("201]\n", 1),
+    ];
+    fault_of(rt, &pieces)
+}
+
+#[test]
+fn judges_the_cost_table(rt: HostRuntime) {
+    for (key, ones, last, fault) in &LISTS {
+        let found = fault_of_list(&rt, key, *ones, last);
+        check_row(&rt, found == *fault, last);
+    }
+    let found = fault_of_both_lists(&rt);
+    assert!(rt; found == Some(out_of_range(Key::Low)));
+}
+
+// What is checked of a configuration that is read.
+#[derive(Clone, Copy)]
+enum Check {
+    Little,
+    Whole,
+    // The first, the last but one and the last of both lists of costs.
+    Costs([u8; 6]),
+}
+
+// What owns the configuration does nothing else: each place at which it may be dropped is proved.
+fn is_read(rt: &(impl Abort + AllocGlobal), text: &[u8], check: Check) -> bool {
+    match read(rt, text) {
+        Ok(config) => holds(&config, check),
+        Err(_) => false,
+    }
+}
+
+fn holds(config: &Config, check: Check) -> bool {
+    match check {
+        Check::Little => config.station == Station::Wwvb && config.ceiling == 1_920_000_000,
+        Check::Whole => says_its_values(config) && says_its_receivers(&config.receivers),
+        Check::Costs(costs) => costs_of(&config.table) == costs,
+    }
+}
+
+fn says_its_values(config: &Config) -> bool {
+    config.station == Station::Jjy && config.ceiling == 0 && config.table == CostTable::default()
+}
+
+fn says_its_receivers(receivers: &[Receiver]) -> bool {
+    let [first, second] = receivers else {
+        return false;
+    };
+    is_receiver(first, ("a-_9", "b/c"), (500, 100), Station::Msf)
+        && is_receiver(second, ("a-_9", "d"), (0, 1), Station::Jjy)
+}
+
+// Whether a receiver has this name and this log, is so much delayed, has this weight, and is of that station.
+fn is_receiver(
+    receiver: &Receiver,
+    texts: (&str, &str),
+    numbers: (u16, u8),
+    station: Station,
+) -> bool {
+    receiver.name.as_str() == texts.0
+        && receiver.file.as_str() == texts.1
+        && receiver.tuning.delay == numbers.0
+        && receiver.tuning.weight == numbers.1
+        && receiver.station == station
+}
+
+const LITTLE: &[u8] = b"station = \"wwvb\"\nreceiver = [{name = \"0\", log = \"a\"}]\n";
+
+const WHOLE: &[u8] =
+    b"station = \"jjy\"\nceiling = 0\n[[receiver]]\nname = \"a-_9\"\nlog = \"b/c\"\ndelay_ms = 500\nweight = 100\nstation = \"msf\"\n[[receiver]]\nname = \"a-_9\"\nlog = \"d\"\n";
+
+#[test]
+fn reads_what_is_said(rt: HostRuntime) {
+    assert!(rt; is_read(&rt, LITTLE, Check::Little));
+    assert!(rt; is_read(&rt, WHOLE, Check::Whole));
 }
 
 // Heads of texts, and what stands behind them so many times.
@@ -183,33 +214,13 @@ const UNITS: [(&str, &str, usize); 7] = [
 
 // The most bytes that a configuration may have, all of one shape.
 #[test]
-fn ends_on_a_million_bytes(rt: HostRuntime) -> Result<(), Fail> {
+fn ends_on_a_million_bytes(rt: HostRuntime) {
     for (head, unit, count) in &UNITS {
-        check_row(
-            &rt,
-            fault_of_units(&rt, head, unit, *count)?.is_some(),
-            unit,
-        );
+        let fault = fault_of(&rt, &[(*head, 1), (*unit, *count)]);
+        check_row(&rt, fault.is_some(), unit);
     }
-    assert!(rt; fault_of_units(&rt, "", "#", CONFIG_LIMIT)? == Some(missing(Key::Station)));
-    Ok(())
-}
-
-// A configuration of one receiver with this name and this log.
-fn named(alloc: Global, name: &str, file: &str) -> Result<String, AllocError> {
-    format!(in alloc; "station = \"jjy\"\n[[receiver]]\nname = \"{name}\"\nlog = \"{file}\"\n")
-}
-
-// What is wrong with it, where the name and the log are so many times these.
-fn fault_of_named(
-    rt: &(impl Abort + AllocGlobal),
-    name: (&str, usize),
-    file: (&str, usize),
-) -> Result<Option<ConfigFault>, AllocError> {
-    let name = name.0.repeat(rt.alloc(), name.1)?;
-    let file = file.0.repeat(rt.alloc(), file.1)?;
-    let text = named(rt.alloc(), &name, &file)?;
-    Ok(fault_in(rt, text.as_bytes()))
+    let fault = fault_of(&rt, &[("#", CONFIG_LIMIT)]);
+    assert!(rt; fault == Some(missing(Key::Station)));
 }
 
 const BAD_NAME: Option<ConfigFault> = Some(ConfigFault::OutOfRange {
@@ -232,57 +243,81 @@ const NAMES_AND_LOGS: [(&str, usize, &str, usize, Option<ConfigFault>); 8] = [
     (":", 1, "b", 1, BAD_NAME),
 ];
 
-#[test]
-fn judges_names_and_logs(rt: HostRuntime) -> Result<(), Fail> {
-    for (name, times, log, log_times, fault) in &NAMES_AND_LOGS {
-        let found = fault_of_named(&rt, (name, *times), (log, *log_times))?;
-        check_row(&rt, found == *fault, name);
-    }
-    Ok(())
+// What is wrong with a configuration of one receiver whose name and log are so many times these.
+fn fault_of_named<'a>(
+    rt: &(impl Abort + AllocGlobal),
+    name: (&'a str, usize),
+    log: (&'a str, usize),
+) -> Option<ConfigFault> {
+    let pieces = [
+        ("station = \"jjy\"\n[[receiver]]\nname = \"", 1),
+        name,
+        ("\"\nlog = \"", 1),
+        log,
+        ("\"\n", 1),
+    ];
+    fault_of(rt, &pieces)
 }
 
-// The cost table of a configuration that has this list of 101 costs.
-fn table_of(rt: &(impl Abort + AllocGlobal), key: &str, last: &str) -> Result<CostTable, Fail> {
-    let before = named(rt.alloc(), "a", "b")?;
-    let list = list(rt.alloc(), key, 100, last)?;
-    let text = format!(in rt.alloc(); "{before}[table]\n{list}")?;
-    Ok(read(rt, text.as_bytes())?.table)
+#[test]
+fn judges_names_and_logs(rt: HostRuntime) {
+    for (name, times, log, log_times, fault) in &NAMES_AND_LOGS {
+        let found = fault_of_named(&rt, (*name, *times), (*log, *log_times));
+        check_row(&rt, found == *fault, name);
+    }
+}
+
+// A configuration of one receiver, and the same with a cost table to come.
+const BANK: &str = "station = \"jjy\"\n[[receiver]]\nname = \"a\"\nlog = \"b\"\n";
+
+const BANK_AND_TABLE: &str =
+    "station = \"jjy\"\n[[receiver]]\nname = \"a\"\nlog = \"b\"\n[table]\n";
+
+// Whether a list of a hundred ones and a last cost under this key gives these costs.
+fn gives_costs<'a>(
+    rt: &(impl Abort + AllocGlobal),
+    key: &'a str,
+    last: &'a str,
+    costs: [u8; 6],
+) -> bool {
+    let pieces = [
+        (BANK_AND_TABLE, 1),
+        (key, 1),
+        (" = [", 1),
+        ("1, ", 100),
+        (last, 1),
+        ("]\n", 1),
+    ];
+    match text_of(rt.alloc(), &pieces) {
+        Ok(text) => is_read(rt, text.as_bytes(), Check::Costs(costs)),
+        Err(_) => false,
+    }
+}
+
+fn costs_of(table: &CostTable) -> [u8; 6] {
+    let (low, high) = (&table.low, &table.high);
+    [low[0], low[99], low[100], high[0], high[99], high[100]]
 }
 
 // A list of costs stands under its own key, and the other list is the usual one.
 #[test]
-fn reads_costs(rt: HostRuntime) -> Result<(), Fail> {
-    let table = table_of(&rt, "low", "200")?;
-    assert!(rt; (table.low[0], table.low[99], table.low[100]) == (1, 1, 200));
-    assert!(rt; (table.high[0], table.high[99], table.high[100]) == (0, 99, 100));
-    let table = table_of(&rt, "high", "0")?;
-    assert!(rt; (table.low[0], table.low[99], table.low[100]) == (100, 1, 0));
-    assert!(rt; (table.high[0], table.high[99], table.high[100]) == (1, 1, 0));
-    Ok(())
+fn reads_costs(rt: HostRuntime) {
+    assert!(rt; gives_costs(&rt, "low", "200", [1, 1, 200, 0, 99, 100]));
+    assert!(rt; gives_costs(&rt, "high", "0", [100, 1, 0, 1, 1, 0]));
 }
 
-// What is wrong with a text in which this key stands between others.
-fn fault_of_key(
+// None of these keys is known, where it stands between these.
+fn knows_none<'a>(
     rt: &(impl Abort + AllocGlobal),
-    before: &str,
-    key: &str,
-    behind: &str,
-) -> Result<Option<ConfigFault>, AllocError> {
-    let text = format!(in rt.alloc(); "{before}{key} = 1\n{behind}")?;
-    Ok(fault_in(rt, text.as_bytes()))
-}
-
-fn knows_none(
-    rt: &(impl Abort + AllocGlobal),
-    before: &str,
-    keys: &[&str],
-    behind: &str,
-) -> Result<(), AllocError> {
+    before: &'a str,
+    keys: &[&'a str],
+    behind: &'a str,
+) {
     for key in keys {
-        let fault = fault_of_key(rt, before, key, behind)?;
+        let pieces = [(before, 1), (*key, 1), (" = 1\n", 1), (behind, 1)];
+        let fault = fault_of(rt, &pieces);
         check_row(rt, fault == Some(ConfigFault::UnknownKey), key);
     }
-    Ok(())
 }
 
 const NOT_AT_THE_TOP: [&str; 6] = ["name", "log", "delay_ms", "weight", "low", "high"];
@@ -293,34 +328,27 @@ const NOT_OF_THE_TABLE: [&str; 6] = ["station", "ceiling", "receiver", "table", 
 
 // A key that is known in one place is unknown in another.
 #[test]
-fn knows_keys_in_their_places(rt: HostRuntime) -> Result<(), Fail> {
-    let bank = named(rt.alloc(), "a", "b")?;
-    knows_none(&rt, "", &NOT_AT_THE_TOP, &bank)?;
-    knows_none(&rt, &bank, &NOT_OF_A_RECEIVER, "")?;
-    let table = format!(in rt.alloc(); "{bank}[table]\n")?;
-    knows_none(&rt, &table, &NOT_OF_THE_TABLE, "")?;
-    Ok(())
+fn knows_keys_in_their_places(rt: HostRuntime) {
+    knows_none(&rt, "", &NOT_AT_THE_TOP, BANK);
+    knows_none(&rt, BANK, &NOT_OF_A_RECEIVER, "");
+    knows_none(&rt, BANK_AND_TABLE, &NOT_OF_THE_TABLE, "");
 }
 
-// A list of so many empty tables, behind a comment that is no table.
-fn tables(alloc: Global, count: usize) -> Result<String, AllocError> {
-    let opened = "[".repeat(alloc, count)?;
-    let empty = "{},".repeat(alloc, count)?;
-    format!(in alloc; " # {opened}\nx = [{empty}]\n")
-}
-
-fn fault_of_tables(
-    rt: &(impl Abort + AllocGlobal),
-    count: usize,
-) -> Result<Option<ConfigFault>, AllocError> {
-    let text = tables(rt.alloc(), count)?;
-    Ok(fault_in(rt, text.as_bytes()))
+// What is wrong with a list of so many empty tables, behind a comment that is no table.
+fn fault_of_tables(rt: &(impl Abort + AllocGlobal), count: usize) -> Option<ConfigFault> {
+    let pieces = [
+        (" # ", 1),
+        ("[", count),
+        ("\nx = [", 1),
+        ("{},", count),
+        ("]\n", 1),
+    ];
+    fault_of(rt, &pieces)
 }
 
 // The list itself counts as one.
 #[test]
-fn bounds_the_tables_of_a_text(rt: HostRuntime) -> Result<(), Fail> {
-    assert!(rt; fault_of_tables(&rt, 79_999)? == Some(missing(Key::Station)));
-    assert!(rt; fault_of_tables(&rt, 80_000)? == Some(ConfigFault::NoMemory));
-    Ok(())
+fn bounds_the_tables_of_a_text(rt: HostRuntime) {
+    assert!(rt; fault_of_tables(&rt, 79_999) == Some(missing(Key::Station)));
+    assert!(rt; fault_of_tables(&rt, 80_000) == Some(ConfigFault::NoMemory));
 }

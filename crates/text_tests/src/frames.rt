@@ -60,10 +60,18 @@ fn written(alloc: Global, files: &MemoryFiles) -> Result<Vec<u8>, AllocError> {
 }
 
 // The text of this many of them.
-fn text_of(alloc: Global, civil: &Civil, count: u16) -> Result<Vec<u8>, Fail> {
+fn made(alloc: Global, civil: &Civil, count: u16) -> Result<Vec<u8>, Fail> {
     let mut files = MemoryFiles::make(alloc);
     write_frames(&mut files, civil, count)?;
     Ok(written(alloc, &files)?)
+}
+
+// The same, for which there is memory.
+fn text_of(rt: &(impl Abort + AllocGlobal), civil: &Civil, count: u16) -> Vec<u8> {
+    match made(rt.alloc(), civil, count) {
+        Ok(text) => text,
+        Err(_) => panic!(rt; "no text of {count} frames"),
+    }
 }
 
 fn elements_of_a_second(rt: &impl Abort, civil: &Civil) {
@@ -84,17 +92,20 @@ fn count_of_lines(text: &[u8]) -> usize {
     text.iter().filter(|byte| **byte == b'\n').count()
 }
 
-fn has_the_first(rt: &impl Abort, frames: &[Frame]) {
+fn are_the_first(rt: &impl Abort, frames: &[Frame]) {
+    assert!(rt; frames.len() == 120);
     for n in 0..120 {
         check_at(rt, frames.get(n as usize) == Some(&frame_of(n)), n as u64);
     }
 }
 
-fn two_minutes_read_again(rt: &impl Abort, text: &[u8], frames: &[Frame]) {
+fn two_minutes_read_again(rt: &(impl Abort + AllocGlobal), civil: &Civil, text: &[u8]) {
     assert!(rt; count_of_lines(text) == 24_000);
     assert!(rt; text.starts_with(b"0 H\n8 L\n10 H\n12 L\n"));
-    assert!(rt; frames.len() == 120);
-    has_the_first(rt, frames);
+    match read(rt, civil, text) {
+        Ok(frames) => are_the_first(rt, &frames),
+        Err(_) => panic!(rt; "two minutes are refused"),
+    }
 }
 
 // What becomes of the text where one byte is another.
@@ -141,13 +152,11 @@ fn refuses_a_missing_line(rt: &(impl Abort + AllocGlobal), civil: &Civil, text: 
     }
 }
 
-fn two_minutes(rt: &(impl Abort + AllocGlobal), civil: &Civil) -> Result<(), Fail> {
-    let mut text = text_of(rt.alloc(), civil, 120)?;
-    let frames = read(rt, civil, &text)?;
-    two_minutes_read_again(rt, &text, &frames);
+fn two_minutes(rt: &(impl Abort + AllocGlobal), civil: &Civil) {
+    let mut text = text_of(rt, civil, 120);
+    two_minutes_read_again(rt, civil, &text);
     refuses_the_first_bad_line(rt, civil, &mut text);
     refuses_a_missing_line(rt, civil, &text);
-    Ok(())
 }
 
 // How many frames are read of the text of so many, or why it is refused.
@@ -155,19 +164,18 @@ fn read_of(
     rt: &(impl Abort + AllocGlobal),
     civil: &Civil,
     count: u16,
-) -> Result<Result<usize, FrameFault>, Fail> {
-    let text = text_of(rt.alloc(), civil, count)?;
+) -> Result<usize, FrameFault> {
+    let text = text_of(rt, civil, count);
     match read(rt, civil, &text) {
-        Ok(frames) => Ok(Ok(frames.len())),
-        Err(fault) => Ok(Err(fault)),
+        Ok(frames) => Ok(frames.len()),
+        Err(fault) => Err(fault),
     }
 }
 
-fn reads_the_most_frames(rt: &(impl Abort + AllocGlobal), civil: &Civil) -> Result<(), Fail> {
+fn reads_the_most_frames(rt: &(impl Abort + AllocGlobal), civil: &Civil) {
     let too_many = FrameFault::TooManyFrames { line: 240_001 };
-    assert!(rt; read_of(rt, civil, 1_201)? == Err(too_many));
-    assert!(rt; read_of(rt, civil, 1_200)? == Ok(1_200));
-    Ok(())
+    assert!(rt; read_of(rt, civil, 1_201) == Err(too_many));
+    assert!(rt; read_of(rt, civil, 1_200) == Ok(1_200));
 }
 
 // The text of a frame at millisecond 0 with these elements.
@@ -203,9 +211,11 @@ fn told_by(
     rt: &(impl Abort + AllocGlobal),
     civil: &Civil,
     elements: &[u8],
-) -> Result<Result<Option<(u32, u8)>, FrameFault>, AllocError> {
-    let text = text_with(rt.alloc(), elements)?;
-    Ok(second_in(rt, civil, text.as_bytes()))
+) -> Result<Option<(u32, u8)>, FrameFault> {
+    match text_with(rt.alloc(), elements) {
+        Ok(text) => second_in(rt, civil, text.as_bytes()),
+        Err(_) => panic!(rt; "no memory for a text"),
+    }
 }
 
 // The elements that tell another day where they are wrong, with what they then are and the minute that is told.
@@ -226,26 +236,31 @@ const OTHER_DAYS: [(usize, u8, u32); 14] = [
     (57, 1, 23_537 * 1_440 + 376),
 ];
 
+// What becomes of a text where this element is that one.
+fn due_where(place: usize, wrong: u8) -> Result<Option<(u32, u8)>, FrameFault> {
+    for (at, element, minute) in &OTHER_DAYS {
+        if *at == place && *element == wrong {
+            return Ok(Some((*minute, 0)));
+        }
+    }
+    Err(FrameFault::Meaning { line: 200 })
+}
+
 // A wrong element of the time of day is at odds with the straight binary seconds; one of the day or of the year tells
 // another day, where there is such a day.
-fn each_element_wrong_in_turn(rt: &(impl Abort + AllocGlobal), civil: &Civil) -> Result<(), Fail> {
+fn each_element_wrong_in_turn(rt: &(impl Abort + AllocGlobal), civil: &Civil) {
     let mut found = elements(civil, MORNING, 0);
     for i in 0..100 {
         let right = found[i];
         for wrong in 0..3u8 {
             if wrong != right {
                 found[i] = wrong;
-                let other = OTHER_DAYS.iter().find(|day| day.0 == i && day.1 == wrong);
-                let want = match other {
-                    Some(day) => Ok(Some((day.2, 0))),
-                    None => Err(FrameFault::Meaning { line: 200 }),
-                };
-                check_at(rt, told_by(rt, civil, &found)? == want, i as u64);
+                let is_so = told_by(rt, civil, &found) == due_where(i, wrong);
+                check_at(rt, is_so, i as u64);
             }
         }
         found[i] = right;
     }
-    Ok(())
 }
 
 // The elements of seconds at the ends of days, of years and of the century, and of leap seconds, after which 86,400 seconds of
@@ -310,15 +325,14 @@ fn elements_in(signs: &[u8; 100]) -> [u8; 100] {
     found
 }
 
-fn seconds_at_the_ends_of_days(rt: &(impl Abort + AllocGlobal), civil: &Civil) -> Result<(), Fail> {
+fn seconds_at_the_ends_of_days(rt: &(impl Abort + AllocGlobal), civil: &Civil) {
     for (signs, second) in &SECONDS {
         let want = match second {
             Some(told) => Ok(Some(*told)),
             None => Err(FrameFault::Meaning { line: 200 }),
         };
-        assert!(rt; told_by(rt, civil, &elements_in(signs))? == want);
+        assert!(rt; told_by(rt, civil, &elements_in(signs)) == want);
     }
-    Ok(())
 }
 
 // Behind each of its lines, and before the end of each. Only whole frames are read.
@@ -344,20 +358,18 @@ fn refuses_a_text_cut_at_every_line(rt: &(impl Abort + AllocGlobal), civil: &Civ
     assert!(rt; line == 401);
 }
 
-fn two_frames(rt: &(impl Abort + AllocGlobal), civil: &Civil) -> Result<(), Fail> {
-    let text = text_of(rt.alloc(), civil, 2)?;
+fn two_frames(rt: &(impl Abort + AllocGlobal), civil: &Civil) {
+    let text = text_of(rt, civil, 2);
     refuses_a_text_cut_at_every_line(rt, civil, &text);
-    Ok(())
 }
 
-fn check_frames(rt: &(impl Abort + AllocGlobal), civil: &Civil) -> Result<(), Fail> {
+fn check_frames(rt: &(impl Abort + AllocGlobal), civil: &Civil) {
     elements_of_a_second(rt, civil);
-    two_minutes(rt, civil)?;
-    reads_the_most_frames(rt, civil)?;
-    each_element_wrong_in_turn(rt, civil)?;
-    seconds_at_the_ends_of_days(rt, civil)?;
-    two_frames(rt, civil)?;
-    Ok(())
+    two_minutes(rt, civil);
+    reads_the_most_frames(rt, civil);
+    each_element_wrong_in_turn(rt, civil);
+    seconds_at_the_ends_of_days(rt, civil);
+    two_frames(rt, civil);
 }
 
 // One table of days is made for all of it, and each function owns little: each place at which what is owned may be dropped is
@@ -365,5 +377,6 @@ fn check_frames(rt: &(impl Abort + AllocGlobal), civil: &Civil) -> Result<(), Fa
 #[test]
 fn frames_and_their_texts(rt: HostRuntime) -> Result<(), Fail> {
     let civil = Civil::make(rt.alloc())?;
-    check_frames(&rt, &civil)
+    check_frames(&rt, &civil);
+    Ok(())
 }
