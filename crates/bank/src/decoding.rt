@@ -35,7 +35,7 @@ use symbol_cost::CostGrid;
 use workers::{Found, Gate};
 
 /// The answer for a bank, and what was asked.
-#[derive(Debug, Drop)]
+#[derive(Drop)]
 pub struct Decoded {
     /// The window.
     pub window: Window,

@@ -22,7 +22,7 @@ use std::alloc::{AllocError, Global};
 
 /// What is scored: receivers with what they heard, what a tenth of a second costs, and above which cost nothing is
 /// admitted. The lists have one entry for each receiver, in the same order.
-#[derive(Debug, Drop)]
+#[derive(Drop)]
 pub struct Bank {
     /// The station that each receiver listens to.
     pub stations: Vec<Station>,

@@ -21,7 +21,7 @@ use signal_base::MOST_RECEIVERS;
 use std::alloc::{AllocError, AllocFailed, Global};
 
 /// A configuration and what its receivers heard.
-#[derive(Debug, Drop)]
+#[derive(Drop)]
 pub struct Loaded {
     /// The configuration, with its receivers in the order of their stations: DCF77, MSF, WWVB, JJY. Those of one station
     /// stand as the text has them.
@@ -32,7 +32,7 @@ pub struct Loaded {
 }
 
 /// Why a configuration and its logs aren't loaded.
-#[derive(Debug, Drop)]
+#[derive(Drop)]
 pub enum Unloaded {
     /// The configuration or a log is refused.
     Refused {

@@ -13,7 +13,7 @@ use symbol_cost::GridFault;
 use trial_log::TrialFault;
 
 /// What kept a run from telling what is due.
-#[derive(Clone, Copy, Debug, PartialEq, Eq)]
+#[derive(Clone, Copy)]
 pub enum Stop {
     /// A file couldn't be read or written.
     Failed,

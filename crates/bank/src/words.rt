@@ -10,7 +10,7 @@ use formats::{Asked, Refusal, WordFault};
 use signal_base::Station;
 
 /// How the answer for a bank is told.
-#[derive(Clone, Copy, Debug, PartialEq, Eq)]
+#[derive(Clone, Copy)]
 pub enum Wanted {
     /// The report of its answer.
     Report,
@@ -19,7 +19,7 @@ pub enum Wanted {
 }
 
 /// A decode that writes a certificate. All texts are borrowed from the words.
-#[derive(Clone, Copy, Debug)]
+#[derive(Clone, Copy)]
 pub struct Certify<'a> {
     /// The name of the configuration's file.
     pub config: &'a str,
@@ -32,7 +32,7 @@ pub struct Certify<'a> {
 }
 
 /// What a run is asked to do.
-#[derive(Clone, Copy, Debug)]
+#[derive(Clone, Copy)]
 pub enum Work<'a> {
     /// To find what is due, and to tell it.
     Tell {
@@ -47,7 +47,7 @@ pub enum Work<'a> {
 }
 
 /// What a run is asked to tell. All texts are borrowed from the words.
-#[derive(Clone, Copy, Debug)]
+#[derive(Clone, Copy)]
 pub enum Task<'a> {
     /// Decode the logs of a configuration.
     Decode {

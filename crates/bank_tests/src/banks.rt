@@ -67,8 +67,10 @@ fn files_of_three(alloc: Global) -> Result<MemoryFiles, Fail> {
 #[test]
 fn loads_in_the_order_of_stations(rt: HostRuntime) -> Result<(), Fail> {
     let mut files = files_of_three(rt.alloc())?;
-    let loaded = load(rt.alloc(), &mut files, "k.toml")?;
-    are_in_the_order_of_stations(&rt, &loaded);
+    match load(rt.alloc(), &mut files, "k.toml") {
+        Ok(loaded) => are_in_the_order_of_stations(&rt, &loaded),
+        Err(_) => assert!(rt; false, "not loaded"),
+    }
     Ok(())
 }
 

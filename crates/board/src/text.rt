@@ -16,7 +16,7 @@ use board_queries::read_queries;
 use std::alloc::Global;
 
 /// What is told of a text of queries.
-#[derive(Debug, Drop)]
+#[derive(Drop)]
 pub enum QueryText {
     /// It is too large.
     TooLarge,

@@ -39,7 +39,7 @@ impl Entries {
 }
 
 /// Numbers, in their order.
-#[derive(Debug, Drop)]
+#[derive(Drop)]
 pub struct Numbers {
     numbers: Vec<u64>,
 }

@@ -8,7 +8,7 @@ ghost use Rattle.board_entries.specs.Stays.{StaysInCentury};
 use definitions::Sequence;
 
 /// A window and the sequence that was decided of it.
-#[derive(Clone, Copy, Debug)]
+#[derive(Clone, Copy)]
 pub struct Entry {
     /// Milliseconds of the receivers' clock, below 10^12.
     pub start: u64,

@@ -4,7 +4,7 @@
 pub const LAST_ENTRIES: usize = 64;
 
 /// The time at a millisecond of the receivers' clock, as far as it is known.
-#[derive(Clone, Copy, Debug, PartialEq, Eq)]
+#[derive(Clone, Copy, PartialEq, Eq)]
 pub enum Told {
     /// No window that is asked has this millisecond.
     Unknown,

@@ -3,7 +3,7 @@
 use std::alloc::AllocError;
 
 /// Why blocks can't be listed.
-#[derive(Clone, Copy, Debug, PartialEq, Eq)]
+#[derive(Clone, Copy, Debug)]
 pub enum ItemsFault {
     /// Memory wasn't found.
     NoMemory,

@@ -17,7 +17,7 @@ const MOST_HOURS: u16 = 24;
 const MOST_MINUTES: u16 = 60;
 
 /// The children of a block that are left, in order. Contracts see the list of them.
-#[derive(Debug, Drop)]
+#[derive(Drop)]
 pub struct ChildBlocks {
     announced: bool,
     second: u8,

@@ -13,7 +13,7 @@ use field_tables::Tables;
 use std::marker::Model;
 
 /// A block and its bound.
-#[derive(Clone, Copy, Debug, PartialEq, Eq)]
+#[derive(Clone, Copy)]
 pub struct Bounded {
     /// The block.
     pub block: Block,

@@ -9,7 +9,7 @@ use certificate_texts::HeadPart;
 use signal_base::Window;
 
 /// What a head told, with 0 and none for what it didn't tell yet.
-#[derive(Clone, Copy, Debug, PartialEq, Eq)]
+#[derive(Clone, Copy)]
 pub struct Heading {
     /// The mask of the stations.
     pub stations: u64,

@@ -3,7 +3,7 @@
 use certificates::{CertificateLineFault, Verdict};
 
 /// What comes of bytes that are to be a certificate: the first of these that is so.
-#[derive(Clone, Copy, Debug, PartialEq, Eq)]
+#[derive(Clone, Copy)]
 pub enum Outcome {
     /// There are more than 128,000,000.
     TooLarge,

@@ -7,7 +7,7 @@ use certificates::CertificateLineFault;
 use std::alloc::AllocFailed;
 
 /// Why a text isn't read.
-#[derive(Clone, Copy, Debug, PartialEq, Eq)]
+#[derive(Clone, Copy, Debug)]
 pub enum TextFault {
     /// It is no text of a certificate.
     Refused {

@@ -17,7 +17,7 @@ use definitions::CENTURY_MINUTES;
 use signal_base::{GREATEST_COST, LEAST_SECONDS, MOST_SECONDS, START_LIMIT, Stations};
 
 /// What a line of the head tells: a number, or that there is none.
-#[derive(Clone, Copy, Debug, PartialEq, Eq)]
+#[derive(Clone, Copy)]
 pub struct Value {
     /// The number.
     pub number: Option<u64>,

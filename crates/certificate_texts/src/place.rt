@@ -8,7 +8,7 @@ ghost use Rattle.certificate_texts.specs.Places.{entry_of, head_line_of, next_of
 use certificates::{Line, MOST_STEPS};
 
 /// What a line of the head tells.
-#[derive(Clone, Copy, Debug, PartialEq, Eq)]
+#[derive(Clone, Copy, PartialEq, Eq)]
 pub enum HeadPart {
     /// The version of the text.
     Version,
@@ -33,7 +33,7 @@ pub enum HeadPart {
 }
 
 /// What comes next in a text.
-#[derive(Clone, Copy, Debug, PartialEq, Eq)]
+#[derive(Clone, Copy, PartialEq, Eq)]
 pub enum Place {
     /// A line of the head.
     Head {
@@ -56,7 +56,7 @@ pub enum Place {
 }
 
 /// What a line tells.
-#[derive(Clone, Copy, Debug, PartialEq, Eq)]
+#[derive(Clone, Copy, PartialEq, Eq)]
 pub enum Told {
     /// A number of the head, or none.
     Head {

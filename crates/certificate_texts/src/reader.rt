@@ -21,7 +21,7 @@ pub const LINE_ROOM: usize = 96;
 pub const MOST_LINES: u32 = 4_000_000_000;
 
 /// The first bad line of a text.
-#[derive(Clone, Copy, Debug, PartialEq, Eq)]
+#[derive(Clone, Copy, PartialEq, Eq)]
 pub struct BadLine {
     /// Its number, from 1.
     pub line: u32,

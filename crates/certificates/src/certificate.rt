@@ -4,7 +4,7 @@ use definitions::Block;
 use signal_base::Window;
 
 /// What a line of a certificate says of its block.
-#[derive(Clone, Copy, Debug, PartialEq, Eq)]
+#[derive(Clone, Copy, PartialEq, Eq)]
 pub enum Kind {
     /// The lines of its children follow.
     Opened,
@@ -17,7 +17,7 @@ pub enum Kind {
 }
 
 /// A line of a certificate, which is a step of the search: a block, its bound, and what became of it.
-#[derive(Clone, Copy, Debug, PartialEq, Eq)]
+#[derive(Clone, Copy, PartialEq, Eq)]
 pub struct Line {
     /// What became of the block.
     pub kind: Kind,
@@ -28,7 +28,7 @@ pub struct Line {
 }
 
 /// Of what a certificate is, and which keys it names.
-#[derive(Clone, Copy, Debug, PartialEq, Eq)]
+#[derive(Clone, Copy)]
 pub struct Head {
     /// What was decoded.
     pub window: Window,

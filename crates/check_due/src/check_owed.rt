@@ -6,7 +6,7 @@ ghost use Rattle.check_due.specs.CheckTexts.{owed_status};
 use due::{CheckDue, Due, Status};
 
 /// What `check` owes for its words and for the contents of the files that it reads.
-#[derive(Debug, Drop)]
+#[derive(Drop)]
 pub enum CheckOwed {
     /// What a run owes too: the line of a refusal, of the words, the configuration or a log.
     Told {

@@ -9,7 +9,7 @@ use bank_words::{Order, read_words};
 use formats::{Asked, WordFault};
 
 /// What is to be done. The files' names are borrowed from the words.
-#[derive(Clone, Copy, Debug)]
+#[derive(Clone, Copy)]
 pub struct CheckTask<'a> {
     /// The name of the configuration's file.
     pub config: &'a str,

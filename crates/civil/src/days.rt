@@ -22,7 +22,7 @@ pub const FIRST_DATE: jiff_core::civil::Date = jiff_core::civil::Date {
 pub const TABLE_DAYS: u32 = CENTURY_DAYS + 1;
 
 /// A day of the table.
-#[derive(Clone, Copy, Debug, PartialEq, Eq)]
+#[derive(Clone, Copy)]
 pub struct Entry {
     /// The day.
     pub day: Day,

@@ -21,7 +21,7 @@ use definitions::{MINUTES_PER_DAY, MINUTES_PER_HOUR};
 use std::alloc::{AllocError, Global};
 
 /// Why the table of days can't be made.
-#[derive(Clone, Copy, Debug, PartialEq, Eq)]
+#[derive(Clone, Copy, Debug)]
 pub enum CivilFault {
     /// Memory wasn't found.
     NoMemory,

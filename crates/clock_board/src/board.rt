@@ -12,7 +12,7 @@ use std::alloc::{AllocError, Global};
 pub const MOST_READERS: u8 = 4;
 
 /// Why there is no board, or an entry isn't published.
-#[derive(Clone, Copy, Debug, PartialEq, Eq)]
+#[derive(Clone, Copy, Debug)]
 pub enum BoardFault {
     /// There was no memory.
     NoMemory,

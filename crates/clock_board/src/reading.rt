@@ -3,7 +3,7 @@
 use board_entries::Told;
 
 /// What is told of a millisecond, and by how many entries.
-#[derive(Clone, Copy, Debug, PartialEq, Eq)]
+#[derive(Clone, Copy, PartialEq, Eq)]
 pub struct Reading {
     /// What is told.
     pub told: Told,

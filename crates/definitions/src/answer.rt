@@ -3,7 +3,7 @@
 use crate::Sequence;
 
 /// The answer for a window. Costs are at most 1,920,000,000.
-#[derive(Clone, Copy, Debug, PartialEq, Eq)]
+#[derive(Clone, Copy)]
 pub enum Answer {
     /// No sequence is admitted.
     Nothing,

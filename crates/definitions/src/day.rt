@@ -1,7 +1,7 @@
 //! A day of the calendar.
 
 /// A day's date, weekday and place in the year.
-#[derive(Clone, Copy, Debug, PartialEq, Eq)]
+#[derive(Clone, Copy, PartialEq, Eq)]
 pub struct Day {
     /// The year, 2000 to 2100.
     pub year: u16,

@@ -2,7 +2,7 @@
 
 /// The facts that a minute of DCF77 carries: the fields of the encoded minute, which is the next one, in Central
 /// European time, and what the sent minute announces.
-#[derive(Clone, Copy, Debug, PartialEq, Eq)]
+#[derive(Clone, Copy)]
 pub struct DcfFacts {
     /// The minute, 0 to 59.
     pub minute: u8,

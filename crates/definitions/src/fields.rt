@@ -1,7 +1,7 @@
 //! The calendar's fields of a minute.
 
 /// A minute's date and time of day.
-#[derive(Clone, Copy, Debug, PartialEq, Eq)]
+#[derive(Clone, Copy)]
 pub struct Fields {
     /// The year, 2000 to 2100.
     pub year: u16,

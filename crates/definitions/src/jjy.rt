@@ -1,7 +1,7 @@
 //! What a minute of JJY speaks of.
 
 /// The facts that a minute of JJY carries: the sent minute's own fields in Japan's time, and what is announced.
-#[derive(Clone, Copy, Debug, PartialEq, Eq)]
+#[derive(Clone, Copy)]
 pub struct JjyFacts {
     /// The minute, 0 to 59.
     pub minute: u8,

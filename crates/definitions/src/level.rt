@@ -1,7 +1,7 @@
 //! The level of a receiver's output.
 
 /// What a logger says of the carrier.
-#[derive(Clone, Copy, Debug, PartialEq, Eq)]
+#[derive(Clone, Copy, PartialEq, Eq)]
 pub enum Level {
     /// The carrier is high.
     High,

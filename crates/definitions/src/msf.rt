@@ -2,7 +2,7 @@
 
 /// The facts that a minute of MSF carries: the fields of the encoded minute, which is the next one, in the United
 /// Kingdom's time, and what the sent minute announces.
-#[derive(Clone, Copy, Debug, PartialEq, Eq)]
+#[derive(Clone, Copy)]
 pub struct MsfFacts {
     /// The minute, 0 to 59.
     pub minute: u8,

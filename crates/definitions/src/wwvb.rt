@@ -1,7 +1,7 @@
 //! What a minute of WWVB speaks of.
 
 /// The facts that a minute of WWVB carries: the sent minute's own fields in UTC, and what is announced.
-#[derive(Clone, Copy, Debug, PartialEq, Eq)]
+#[derive(Clone, Copy)]
 pub struct WwvbFacts {
     /// The minute, 0 to 59.
     pub minute: u8,

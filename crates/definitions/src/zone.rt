@@ -1,7 +1,7 @@
 //! Civil time zones.
 
 /// A zone in whose time a telegram is written.
-#[derive(Clone, Copy, Debug, PartialEq, Eq)]
+#[derive(Clone, Copy)]
 pub enum Zone {
     /// UTC.
     Utc,

@@ -8,7 +8,7 @@ use definitions::Answer;
 use signal_base::Window;
 
 /// The first of all that is wrong with bytes that are to be a valid certificate.
-#[derive(Clone, Copy, Debug, PartialEq, Eq)]
+#[derive(Clone, Copy, Debug)]
 pub enum CertificateFault {
     /// There are more than 128,000,000 bytes.
     TooLarge,
@@ -47,7 +47,7 @@ pub enum CertificateFault {
 }
 
 /// What a check tells of a certificate.
-#[derive(Debug, Drop)]
+#[derive(Drop)]
 pub enum CheckDue {
     /// It is valid, and this is the report of the answer that it names.
     Certified {

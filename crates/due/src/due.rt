@@ -9,7 +9,7 @@ use formats::Refusal;
 use signal_base::{Station, Window};
 
 /// What a run owes for its words and for the contents of the files that it reads.
-#[derive(Debug, Drop)]
+#[derive(Drop)]
 pub enum Due {
     /// The line of a refusal.
     Refused {

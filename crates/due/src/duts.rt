@@ -9,7 +9,7 @@ use std::marker::Model;
 pub const MOST_STATIONS: usize = 4;
 
 /// What each station of a window tells of DUT1, in the order of the stations, kept in the value itself.
-#[derive(Debug, Drop)]
+#[derive(Drop)]
 pub struct Duts {
     items: [StationDut; MOST_STATIONS],
     count: usize,

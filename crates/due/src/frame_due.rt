@@ -10,7 +10,7 @@ use signal_base::Window;
 use std::marker::Model;
 
 /// Frames that were read, in their order.
-#[derive(Debug, Drop)]
+#[derive(Drop)]
 pub struct FrameList {
     frames: Vec<Frame>,
 }
@@ -41,7 +41,7 @@ impl FrameList {
 }
 
 /// What a command of frames owes for its words and for the contents of the files that it reads.
-#[derive(Debug, Drop)]
+#[derive(Drop)]
 pub enum FrameDue {
     /// What a run owes too: the line of a refusal, or the report of an answer that isn't decided.
     Told {

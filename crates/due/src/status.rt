@@ -4,7 +4,7 @@ ghost use Rattle.std.specs.Prelude.{◌≡◌};
 ghost use Rattle.due.specs.Status.{code_of};
 
 /// How a run ended. After `Failed` and `NoMemory` the text that is due wasn't told, or not all of it.
-#[derive(Clone, Copy, Debug, PartialEq, Eq)]
+#[derive(Clone, Copy)]
 pub enum Status {
     /// One sequence costs less than every other, or a minute is listed.
     Done,

@@ -19,7 +19,7 @@ use minute_parts::Parts;
 use walk_costs::StationWalks;
 
 /// What the sequences cost at the least that begin in a piece of a block's minutes.
-#[derive(Clone, Copy, Debug, PartialEq, Eq)]
+#[derive(Clone, Copy)]
 pub struct Piece {
     /// The minute after its last one.
     pub end: u32,

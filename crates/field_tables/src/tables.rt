@@ -22,7 +22,7 @@ use std::marker::Model;
 use symbol_cost::CostGrid;
 
 /// Why tables can't be made.
-#[derive(Clone, Copy, Debug, PartialEq, Eq)]
+#[derive(Clone, Copy, Debug)]
 pub enum TablesFault {
     /// Memory wasn't found.
     NoMemory,

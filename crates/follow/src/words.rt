@@ -9,7 +9,7 @@ use bank_words::{Reach, read_reach};
 use formats::{Asked, WordFault};
 
 /// What is to be done. The file's name is borrowed from the words.
-#[derive(Clone, Copy, Debug)]
+#[derive(Clone, Copy)]
 pub struct FollowTask<'a> {
     /// The name of the configuration's file.
     pub config: &'a str,

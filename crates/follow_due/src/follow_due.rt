@@ -9,7 +9,7 @@ use definitions::Answer;
 use due::{Due, Status};
 
 /// What a run of `follow` owes for its words and for the contents of the files that it reads.
-#[derive(Debug, Drop)]
+#[derive(Drop)]
 pub enum FollowDue {
     /// What a run owes too: the line of a refusal.
     Told {

@@ -6,7 +6,7 @@ use crate::WindowReport;
 use std::marker::Model;
 
 /// Reports of windows, in their order.
-#[derive(Debug, Drop)]
+#[derive(Drop)]
 pub struct Reports {
     reports: Vec<WindowReport>,
 }

@@ -5,7 +5,7 @@ use due::Duts;
 use signal_base::Window;
 
 /// The answer for a window.
-#[derive(Debug, Drop)]
+#[derive(Drop)]
 pub struct WindowReport {
     /// The window.
     pub window: Window,

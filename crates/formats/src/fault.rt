@@ -1,7 +1,7 @@
 //! Why a line of a log is refused.
 
 /// Why a line of a log is refused, in the order in which one line is judged.
-#[derive(Clone, Copy, Debug, PartialEq, Eq)]
+#[derive(Clone, Copy, Debug)]
 pub enum LineFault {
     /// It is no record, and neither empty nor a comment.
     Shape,

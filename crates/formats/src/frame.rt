@@ -22,7 +22,7 @@ pub const ELEMENTS: usize = 100;
 pub const ELEMENT_TIME: u64 = 10;
 
 /// A frame: which second it tells, and when it begins.
-#[derive(Clone, Copy, Debug, PartialEq, Eq)]
+#[derive(Clone, Copy, PartialEq, Eq)]
 pub struct Frame {
     /// The millisecond at which it begins.
     pub at: u64,
@@ -33,7 +33,7 @@ pub struct Frame {
 }
 
 /// Why a line of a text of frames is refused, in the order in which one line is judged.
-#[derive(Clone, Copy, Debug, PartialEq, Eq)]
+#[derive(Clone, Copy, Debug)]
 pub enum FrameLineFault {
     /// It is no edge of the kind that is due, or it isn't there.
     Shape,

@@ -3,7 +3,7 @@
 use signal_base::Station;
 
 /// What a station sent in a slot, and what that costs over its receivers.
-#[derive(Clone, Copy, Debug, PartialEq, Eq)]
+#[derive(Clone, Copy)]
 pub struct SlotHeard {
     /// The slot, from 0 to 1,199.
     pub slot: u16,
@@ -24,7 +24,7 @@ pub struct SlotHeard {
 }
 
 /// What one receiver heard, in a slot or in all slots together.
-#[derive(Clone, Copy, Debug, PartialEq, Eq)]
+#[derive(Clone, Copy)]
 pub struct ReceiverHeard {
     /// The receiver's number in the configuration, from 1.
     pub number: u8,

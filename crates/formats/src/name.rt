@@ -8,7 +8,7 @@ use std::marker::Model;
 
 /// The name of a receiver, of at most 32 bytes. It is kept in the value itself, so that what is refused can be told
 /// after the text that named it is gone.
-#[derive(Debug, Drop)]
+#[derive(Drop)]
 pub struct Name {
     text: ArrayString<LONGEST_NAME>,
 }

@@ -3,7 +3,7 @@
 use crate::{KeyName, LineFault, Name, OptionName};
 
 /// Why the program doesn't answer.
-#[derive(Debug, Drop)]
+#[derive(Drop)]
 pub enum Refusal {
     /// The words aren't of the grammar.
     WordsUsage,

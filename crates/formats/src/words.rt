@@ -4,7 +4,7 @@ use crate::OptionName;
 use signal_base::Station;
 
 /// A command, by the words that it begins with.
-#[derive(Clone, Copy, Debug, PartialEq, Eq)]
+#[derive(Clone, Copy)]
 pub enum Command {
     /// `decode CONFIG`: the cheapest sequence of the logs of a configuration.
     Decode,
@@ -34,7 +34,7 @@ pub enum Command {
 }
 
 /// What the text of a value may be.
-#[derive(Clone, Copy, Debug, PartialEq, Eq)]
+#[derive(Clone, Copy)]
 pub enum ValueKind {
     /// Decimal digits without a needless zero, of a number in a range.
     Number {
@@ -48,7 +48,7 @@ pub enum ValueKind {
 }
 
 /// Which window of the logs is asked about, and in which minutes it may begin.
-#[derive(Clone, Copy, Debug, PartialEq, Eq)]
+#[derive(Clone, Copy)]
 pub struct Asked {
     /// The millisecond of the receivers' clock at which the window starts, below 1,000,000,000,000. If none is given, the
     /// time of the first record decides.
@@ -62,7 +62,7 @@ pub struct Asked {
 }
 
 /// All values that words can give: each of them the given one or its default.
-#[derive(Clone, Copy, Debug, PartialEq, Eq)]
+#[derive(Clone, Copy)]
 pub struct Values {
     /// NUMBER, which has no default.
     pub number: Option<u32>,

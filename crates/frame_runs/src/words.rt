@@ -9,7 +9,7 @@ use bank_words::{Reach, read_reach};
 use formats::{Asked, WordFault};
 
 /// What is to be done. All texts are borrowed from the words.
-#[derive(Clone, Copy, Debug)]
+#[derive(Clone, Copy)]
 pub enum FrameTask<'a> {
     /// Print the frames of the answer for a bank.
     Print {

@@ -3,7 +3,7 @@
 use formats::Asked;
 
 /// What the words of the command line ask for. The name is borrowed from the words.
-#[derive(Clone, Copy, Debug)]
+#[derive(Clone, Copy)]
 pub struct Ask<'a> {
     /// The name of the configuration's file.
     pub config: &'a str,

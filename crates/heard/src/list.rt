@@ -8,7 +8,7 @@ use signal_base::MOST_RECEIVERS;
 use std::marker::Model;
 
 /// What is told of at most eight receivers, kept in the value itself.
-#[derive(Debug, Drop)]
+#[derive(Drop)]
 pub struct HeardList {
     items: [ReceiverHeard; MOST_RECEIVERS],
     count: usize,

@@ -2,7 +2,7 @@
 
 /// The numbers of the values, counted from the most negative one: none where a station isn't heard, or where its seconds tell
 /// no one value.
-#[derive(Clone, Copy, Debug, PartialEq, Eq)]
+#[derive(Clone, Copy, PartialEq, Eq)]
 pub struct Told {
     /// What MSF tells.
     pub msf: Option<u8>,

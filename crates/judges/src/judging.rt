@@ -23,7 +23,7 @@ use std::alloc::Global;
 use sweep::window_at;
 
 /// What is found of bytes that are to be a certificate.
-#[derive(Clone, Copy, Debug)]
+#[derive(Clone, Copy)]
 pub enum Found {
     /// They are a valid one, which names these keys.
     Good {

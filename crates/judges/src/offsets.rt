@@ -21,7 +21,7 @@ use std::alloc::Global;
 use sweep_due::{OFFSETS, Standing, is_swept};
 
 /// What came of certificates.
-#[derive(Clone, Copy, Debug)]
+#[derive(Clone, Copy)]
 pub enum Judged {
     /// All are valid, and what they name was put together.
     Good {

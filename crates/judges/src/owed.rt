@@ -9,7 +9,7 @@ use sequence::Answer;
 use signal_base::Window;
 
 /// What `judge` owes for its words and for the contents of the files that it reads.
-#[derive(Debug, Drop)]
+#[derive(Drop)]
 pub enum JudgeOwed {
     /// What a run owes too: the line of a refusal, of the words, the configuration or a log.
     Told {

@@ -10,7 +10,7 @@ use std::marker::Model;
 /// A step of a visit: the block that it came to, and what decided what becomes of it. A block is passed over where it has no
 /// bound, or where its key by the bound is above the lesser of what was read and the ceiling's key. Else it is opened, or, if it
 /// is a minute, its key is offered.
-#[derive(Clone, Copy, Debug, PartialEq, Eq)]
+#[derive(Clone, Copy)]
 pub struct Step {
     /// The block.
     pub block: Block,
@@ -31,7 +31,7 @@ impl Model for Step {
 }
 
 /// Why steps can't be kept.
-#[derive(Clone, Copy, Debug, PartialEq, Eq)]
+#[derive(Clone, Copy, Debug)]
 pub enum StepsFault {
     /// Memory wasn't found.
     NoMemory,

@@ -15,7 +15,7 @@ use signal_base::Station;
 use std::alloc::{AllocError, Global};
 
 /// A field of the facts of a date.
-#[derive(Clone, Copy, Debug, PartialEq, Eq)]
+#[derive(Clone, Copy)]
 pub enum DateField {
     /// Summer time, its changes and leap seconds.
     Flags,

@@ -9,7 +9,7 @@ use crate::part::{Part, either, nothing, same};
 use crate::unions::Unions;
 
 /// What the seconds of a block's walks may carry.
-#[derive(Clone, Copy, Debug, PartialEq, Eq)]
+#[derive(Clone, Copy)]
 pub struct Layers {
     /// In the minutes in which the walks begin.
     pub first: Part,

@@ -17,7 +17,7 @@ use signal_base::Station;
 use std::alloc::{AllocError, Global};
 
 /// A run of minutes. It ends where the next one begins.
-#[derive(Clone, Copy, Debug, PartialEq, Eq)]
+#[derive(Clone, Copy)]
 pub struct Run {
     /// The first minute, counted from 2000-01-01T00:00Z.
     pub first: u32,

@@ -1,7 +1,7 @@
 //! Commands that one call runs.
 
 /// Commands that one call runs.
-#[derive(Clone, Copy, Debug, PartialEq, Eq)]
+#[derive(Clone, Copy)]
 pub enum Family {
     /// Those of a run: `decode`, `feed`, `encode` and `trial`. All words that are of no other command belong to them, and are
     /// refused.

@@ -11,7 +11,7 @@ use std::marker::Model;
 
 /// A log: records of a time in milliseconds and the level from that time on. Times rise strictly and are below
 /// 1,000,000,000,000, and there are at most 200,000 records. The last record only closes the log.
-#[derive(Debug, Drop)]
+#[derive(Drop)]
 pub struct Log {
     records: Vec<(u64, Level)>,
 }

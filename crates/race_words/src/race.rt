@@ -23,7 +23,7 @@ const LEAST: usize = 1;
 const SECOND: usize = 2;
 
 /// Why there is no race.
-#[derive(Clone, Copy, Debug, PartialEq, Eq)]
+#[derive(Clone, Copy, Debug)]
 pub enum RaceFault {
     /// There was no memory.
     NoMemory,

@@ -46,7 +46,7 @@ const SEQUENCES: u32 = 200;
 const SHORTEST_YEAR: u32 = 365 * MINUTES_PER_DAY;
 
 // What is compared of a window.
-#[derive(Clone, Copy, PartialEq, Eq)]
+#[derive(Clone, Copy)]
 enum Extent {
     // Blocks and sequences by chance.
     Parts,

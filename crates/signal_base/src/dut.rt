@@ -3,7 +3,7 @@
 use crate::Station;
 
 /// What the cheapest sequence tells of DUT1.
-#[derive(Clone, Copy, Debug, PartialEq, Eq)]
+#[derive(Clone, Copy, PartialEq, Eq)]
 pub enum Dut {
     /// The station doesn't send it.
     Absent,
@@ -16,7 +16,7 @@ pub enum Dut {
 }
 
 /// What a station's receivers tell of DUT1.
-#[derive(Clone, Copy, Debug, PartialEq, Eq)]
+#[derive(Clone, Copy)]
 pub struct StationDut {
     /// The station.
     pub station: Station,

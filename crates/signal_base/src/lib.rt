@@ -19,5 +19,5 @@ pub use waveform::{UNSCORED, symbols, wave};
 pub use window::Window;
 
 /// Memory wasn't found.
-#[derive(Clone, Copy, Debug, PartialEq, Eq)]
+#[derive(Clone, Copy, Debug)]
 pub struct NoMemory;

@@ -5,7 +5,7 @@ ghost use Rattle.signal_base.specs.Mask.{has_bit};
 ghost use Rattle.signal_base.specs.Number.{number_of};
 
 /// A long-wave time-signal station.
-#[derive(Clone, Copy, Debug, PartialEq, Eq)]
+#[derive(Clone, Copy, PartialEq, Eq)]
 pub enum Station {
     /// DCF77, Mainflingen, 77.5 kHz (PTB).
     Dcf77,
@@ -32,7 +32,7 @@ impl Station {
 }
 
 /// A set of stations: bit `i` of `mask` stands for the station of number `i`. Of a bank it is 1 to 15.
-#[derive(Clone, Copy, Debug, PartialEq, Eq)]
+#[derive(Clone, Copy, PartialEq, Eq)]
 pub struct Stations {
     /// The bits.
     pub mask: u8,

@@ -1,7 +1,7 @@
 //! How a receiver is tuned, and what a tenth of a second costs.
 
 /// How a receiver lags and how much it counts.
-#[derive(Clone, Copy, Debug, PartialEq, Eq)]
+#[derive(Clone, Copy)]
 pub struct Tuning {
     /// By how many milliseconds its edges come late, 0 to 500.
     pub delay: u16,
@@ -11,7 +11,7 @@ pub struct Tuning {
 
 /// What a tenth of a second costs by the number of its low milliseconds, 0 to 100: where the symbol is low there
 /// in `low`, where it is high in `high`. Each entry is at most 200.
-#[derive(Clone, Copy, Debug, PartialEq, Eq)]
+#[derive(Clone, Copy, PartialEq, Eq)]
 pub struct CostTable {
     /// The costs where the symbol is low.
     pub low: [u8; 101],

@@ -4,7 +4,7 @@ use crate::Stations;
 
 /// What is decoded: `seconds` seconds from millisecond `start + phase` of the receivers' clock, under the
 /// hypothesis that the first of them lies in one of the minutes from `from` up to, and without, `to`.
-#[derive(Clone, Copy, Debug, PartialEq, Eq)]
+#[derive(Clone, Copy, PartialEq, Eq)]
 pub struct Window {
     /// The stations of the bank's receivers.
     pub stations: Stations,

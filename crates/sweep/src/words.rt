@@ -9,7 +9,7 @@ use bank_words::{Reach, read_reach};
 use formats::{Asked, WordFault};
 
 /// What is to be swept. The file's name is borrowed from the words.
-#[derive(Clone, Copy, Debug)]
+#[derive(Clone, Copy)]
 pub struct SweepTask<'a> {
     /// The name of the configuration's file.
     pub config: &'a str,
@@ -20,7 +20,7 @@ pub struct SweepTask<'a> {
 }
 
 /// A sweep that writes certificates.
-#[derive(Clone, Copy, Debug)]
+#[derive(Clone, Copy)]
 pub struct SweepCertify<'a> {
     /// What is to be swept.
     pub task: SweepTask<'a>,
@@ -29,7 +29,7 @@ pub struct SweepCertify<'a> {
 }
 
 /// What is to be done.
-#[derive(Clone, Copy, Debug)]
+#[derive(Clone, Copy)]
 pub enum SweepWork<'a> {
     /// To tell the swept answer.
     Tell {

@@ -4,7 +4,7 @@ ghost use Rattle.std.specs.Prelude.{◌≡◌};
 ghost use Rattle.sweep_due.specs.Standings.{beside, first_key, is_same_sequence, lesser_of, nothing_yet, sooner, with_key, with_one, with_two};
 
 /// A key, and the least offset at which a sequence has it.
-#[derive(Clone, Copy, Debug, PartialEq, Eq)]
+#[derive(Clone, Copy)]
 pub struct Placed {
     /// The key.
     pub key: u64,
@@ -13,7 +13,7 @@ pub struct Placed {
 }
 
 /// The least of the keys that sequences have at the offsets so far, and the least key of another sequence.
-#[derive(Clone, Copy, Debug, PartialEq, Eq)]
+#[derive(Clone, Copy)]
 pub struct Standing {
     /// The least key, if there is any.
     pub first: Option<Placed>,

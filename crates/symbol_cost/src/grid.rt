@@ -21,7 +21,7 @@ use std::alloc::{AllocFailed, Global};
 use std::marker::Model;
 
 /// Why a grid can't be made.
-#[derive(Clone, Copy, Debug, PartialEq, Eq)]
+#[derive(Clone, Copy, Debug)]
 pub enum GridFault {
     /// Memory wasn't found.
     NoMemory,

@@ -30,7 +30,7 @@ pub const FIRST_SECONDS: u32 = 60;
 pub const MOST_SHIFT: u32 = 20;
 
 /// What was sent, and how it was heard.
-#[derive(Debug, Drop)]
+#[derive(Drop)]
 pub struct Trial {
     /// The station.
     pub station: Station,
@@ -45,7 +45,7 @@ pub struct Trial {
 }
 
 /// Why a trial isn't made.
-#[derive(Clone, Copy, Debug, PartialEq, Eq)]
+#[derive(Clone, Copy, Debug)]
 pub enum TrialFault {
     /// Memory wasn't found.
     NoMemory,

@@ -15,7 +15,7 @@ use minute_parts::{Parts, gives_up};
 use slot_columns::{SECONDS_PER_MINUTE, WalkRow};
 
 /// What dates cost at the least in walks that begin in some minutes, one second in each.
-#[derive(Clone, Copy, Debug, PartialEq, Eq)]
+#[derive(Clone, Copy)]
 pub struct DateFloor {
     /// By how many minutes the local time that is encoded is ahead of the sent minute in UTC.
     pub shift: u16,

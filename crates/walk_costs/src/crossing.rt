@@ -14,7 +14,7 @@ use crate::walks::{StationWalks, local_time, minutes_to_call};
 use slot_columns::{SECONDS_PER_MINUTE, SplitCosts};
 
 /// What the dates of a run and of the next one cost in the walks that begin in the one, in one second, and end in the other.
-#[derive(Clone, Copy, Debug, PartialEq, Eq)]
+#[derive(Clone, Copy)]
 pub struct Crossing {
     /// Whether a leap second is announced.
     pub announced: bool,

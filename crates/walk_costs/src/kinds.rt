@@ -17,7 +17,7 @@ use slot_columns::{Part, SECONDS_PER_MINUTE};
 use std::alloc::{AllocError, Global};
 
 /// A kind of walks.
-#[derive(Clone, Copy, Debug)]
+#[derive(Clone, Copy)]
 pub struct Kind {
     /// What their dates tell in the seconds that are given up: a set costs there no more than that of any of the dates.
     pub told: Part,

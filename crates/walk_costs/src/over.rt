@@ -18,7 +18,7 @@ use minute_parts::gives_up;
 use slot_columns::{Part, SECONDS_PER_MINUTE, SPLITS, SplitCosts};
 
 /// What walks cost at the least that begin in one run, in one second, and whose other minutes lie in the next run or in another.
-#[derive(Clone, Copy, Debug, PartialEq, Eq)]
+#[derive(Clone, Copy)]
 pub struct Over {
     /// Whether a leap second is announced.
     pub announced: bool,

@@ -12,7 +12,7 @@ use slot_columns::SECONDS_PER_MINUTE;
 
 /// Whether the walks that lie in one run, begin in one second and announce a leap second or don't, show that one is
 /// announced: whether the station may carry another set in some slot than without the announcement.
-#[derive(Clone, Copy, Debug, PartialEq, Eq)]
+#[derive(Clone, Copy)]
 pub enum Shown {
     /// None of them does.
     Never,

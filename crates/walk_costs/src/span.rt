@@ -27,7 +27,7 @@ use std::alloc::{AllocError, Global};
 use symbol_cost::RECEIVER_COST;
 
 /// What the dates of some runs tell together, where no leap second is announced, but of the seconds that the station gives up.
-#[derive(Clone, Copy, Debug)]
+#[derive(Clone, Copy)]
 pub struct DateSpan {
     /// The number of the first run.
     pub from: usize,
@@ -40,7 +40,7 @@ pub struct DateSpan {
 }
 
 /// What that costs in the walks from one second.
-#[derive(Clone, Copy, Debug, PartialEq, Eq)]
+#[derive(Clone, Copy)]
 pub struct SpanCosts {
     /// The second.
     pub second: u8,
@@ -56,7 +56,7 @@ pub struct SpanCosts {
 }
 
 /// What the walks cost at the least that begin in some runs, one behind the other.
-#[derive(Clone, Copy, Debug, PartialEq, Eq)]
+#[derive(Clone, Copy)]
 pub struct Near {
     /// The number of the run behind the last of them. Where there are none, that from which on they were looked for.
     pub last: usize,
@@ -67,7 +67,7 @@ pub struct Near {
 }
 
 // The same of runs that are alike.
-#[derive(Clone, Copy, Debug)]
+#[derive(Clone, Copy)]
 struct Alike {
     last: usize,
     floor: u32,

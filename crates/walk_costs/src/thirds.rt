@@ -14,7 +14,7 @@ use std::alloc::{AllocError, Global};
 const UNITS: usize = 45;
 
 /// Where the thirds of a kind stand.
-#[derive(Clone, Copy, Debug)]
+#[derive(Clone, Copy)]
 pub struct Split {
     /// What is told before the units of the year.
     pub low: usize,

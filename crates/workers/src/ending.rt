@@ -14,7 +14,7 @@ use field_tables::Tables;
 use race_words::{Race, Seat};
 
 /// The keys of the first two admitted sequences, as far as there are any.
-#[derive(Clone, Copy, Debug, PartialEq, Eq)]
+#[derive(Clone, Copy, PartialEq, Eq)]
 pub struct Found {
     /// The least key.
     pub first: Option<u64>,

@@ -42,7 +42,7 @@ pub trait Recorder {
 }
 
 /// Keeps nothing.
-#[derive(Clone, Copy, Debug, Drop)]
+#[derive(Clone, Copy, Drop)]
 pub struct NoRecord;
 
 impl Recorder for NoRecord {
