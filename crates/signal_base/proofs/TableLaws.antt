@@ -15,4 +15,4 @@ all_most (x ∷ xs) m fine (suc n) = all_most xs m (and_parts (nat_le x m) (list
 
 pub priced : IsPriced difference_table
 unfolding difference_table
-priced = record { low = all_most difference_table.low MOST_COST refl; high = all_most difference_table.high MOST_COST refl }
+priced = record { low = all_most difference_table.low MOST_COST refl; high = all_most difference_table.high MOST_COST refl; second = λ m e. cc }

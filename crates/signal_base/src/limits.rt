@@ -15,6 +15,12 @@ pub const MOST_WEIGHT: u8 = 100;
 /// The greatest entry of a cost table.
 pub const MOST_COST: u8 = 200;
 
+/// The least of what a second may cost a receiver at the most, where a cost table says that.
+pub const LEAST_SECOND_COST: u16 = 1;
+
+/// The greatest of it: ten tenths of 200.
+pub const MOST_SECOND_COST: u16 = 2_000;
+
 /// The fewest seconds of a window.
 pub const LEAST_SECONDS: u16 = 60;
 
