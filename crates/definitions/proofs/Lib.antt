@@ -2,6 +2,7 @@ pub mod KeyLaws
 pub mod EndLaws
 pub mod PlaceLaws
 pub mod CostLaws
+pub mod CapLaws
 pub mod AnswerLaws
 pub mod DateLaws
 pub mod ParityLaws

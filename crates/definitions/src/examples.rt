@@ -4,6 +4,7 @@
 pub mod answers;
 pub mod blocks;
 pub mod calendar;
+pub mod caps;
 pub mod receivers;
 pub mod sequences;
 pub mod telegrams;

@@ -7,6 +7,7 @@ mod answer;
 mod block;
 mod bounds;
 mod calendar;
+mod caps;
 mod day;
 mod dcf77;
 pub mod examples;
@@ -29,6 +30,7 @@ pub use bounds::{
     items_share_the_sequences, year_ends_with_its_calendar_year,
 };
 pub use calendar::{CENTURY_DAYS, CENTURY_MINUTES, MINUTES_PER_DAY, MINUTES_PER_HOUR};
+pub use caps::{a_second_costs_at_most_its_bound, no_more_counts_than_it_costs};
 pub use day::Day;
 pub use dcf77::DcfFacts;
 pub use fields::Fields;

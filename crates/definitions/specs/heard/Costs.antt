@@ -1,9 +1,10 @@
 -- What a sequence costs: how far it is from what the receivers heard.
-use Rattle.std.specs.Prelude.{ℕ, zero, suc, ◌+◌, ◌*◌, ◌/◌, Bool, false, ◌==◌, ◌&&◌, not, if◌then◌else◌, List, [], ◌∷◌, map, filter, sum_by, fold, min, slice_index, slice_index_or, Option, Some, None, unwrap_or, ℤ}
+use Rattle.std.specs.Prelude.{ℕ, zero, suc, ◌+◌, ◌-◌, ◌*◌, ◌/◌, Bool, false, ◌==◌, ◌&&◌, not, if◌then◌else◌, List, [], ◌∷◌, map, filter, sum_by, fold, min, slice_index, slice_index_or, Option, Some, None, unwrap_or, ℤ}
 use Rattle.std.specs.List.{range_with_len, list_all}
 use Rattle.signal_base.specs.declared.station.Station.{Station}
 use Rattle.signal_base.specs.declared.window.Window.{Window}
 use Rattle.signal_base.specs.declared.tuning.CostTable.{CostTable}
+use Rattle.signal_base.specs.declared.tuning.Tuning.{Tuning}
 use Rattle.signal_base.specs.declared.dut.Dut.{Dut}
 use Rattle.signal_base.specs.declared.dut.Dut.TheVariants.{Absent, Free, Tied, Tenths}
 use Rattle.signal_base.specs.Mask.{has_bit}
@@ -13,7 +14,7 @@ use Rattle.definitions.specs.time.Calendar.{minutes_per_day}
 use Rattle.definitions.specs.time.Places.{minute_of, second_of}
 use Rattle.definitions.specs.codes.Vocabulary.{unscored}
 use Rattle.definitions.specs.codes.Allowed.{stations_of}
-use Rattle.definitions.specs.heard.Logs.{low_count}
+use Rattle.definitions.specs.heard.Logs.{Records, low_count}
 use Rattle.definitions.specs.heard.Receivers.{Reception, Receiver, heard_of}
 use Rattle.definitions.specs.sequences.Walks.{place_at, set_at}
 use Rattle.definitions.specs.heard.Dut1.{has_dut1, is_dut1_second, dut1_values, dut1_symbol}
@@ -23,31 +24,14 @@ unfoldable pub sum_below : ℕ → (ℕ → ℕ) → ℕ
 sum_below zero f = 0
 sum_below (suc n) f = sum_below n f + f n
 
--- what a tenth of a second costs a receiver, from the number of its low milliseconds: nothing where one of them
--- is unknown
-abbrev pub tenth_cost : CostTable → ℕ → Bool → Option ℕ → ℕ
-tenth_cost table weight is_low None = 0
-tenth_cost table weight is_low (Some n) =
-    weight * (if is_low then slice_index table.low n else slice_index table.high n)
+-- what a tenth of a second costs, from the number of its low milliseconds: nothing where one of them is unknown
+abbrev pub tenth_cost : CostTable → Bool → Option ℕ → ℕ
+tenth_cost table is_low None = 0
+tenth_cost table is_low (Some n) = if is_low then slice_index table.low n else slice_index table.high n
 
--- what the ten tenths from millisecond m on cost a receiver under a waveform
-abbrev pub second_cost : CostTable → Reception → ℕ → List Bool → ℕ
-second_cost table r m wave =
-    sum_below 10 (λ j. tenth_cost table r.tuning.weight (slice_index_or wave j false) (low_count r.log (m + 100 * j) 100))
-
--- what symbol x costs in slot k: the sum over the station's receivers, of which each hears the slot later by its
--- delay
-abbrev pub slot_cost : CostTable → List Reception → Station → ℕ → ℕ → ℕ → ℕ
-slot_cost table receptions station begin k x =
-    sum_by (λ r. second_cost table r (begin + r.tuning.delay + 1000 * k) (waveform station x)) receptions
-
--- The costs that are given: of a station, in a slot, of a symbol.
-abbrev pub Costs : Type 0
-Costs = Station → ℕ → ℕ → ℕ
-
--- those of a bank whose first slot begins at this millisecond of the log: the window's start and the phase together
-abbrev pub bank_costs : CostTable → List Receiver → ℕ → Costs
-bank_costs table bank begin station = slot_cost table (heard_of station bank) station begin
+-- what the ten tenths from millisecond m of a log on cost under a waveform
+abbrev pub tenths_cost : CostTable → Records → ℕ → List Bool → ℕ
+tenths_cost table log m wave = sum_below 10 (λ j. tenth_cost table (slice_index_or wave j false) (low_count log (m + 100 * j) 100))
 
 -- the least of some costs, if there are any
 abbrev pub least : List ℕ → Option ℕ
@@ -57,6 +41,37 @@ least (c ∷ cs) = Some (fold min c cs)
 -- the symbols of a station
 abbrev pub symbols_of : Station → List ℕ
 symbols_of station = range_with_len 0 (symbol_count station)
+
+-- What counts of the costs of a station's symbols: all of them, or, where a second costs so much at the most, the lesser
+-- of both, less the least that it is for any of the symbols. So a second that fits no symbol counts nothing.
+abbrev pub counted : Option ℕ → Station → (ℕ → ℕ) → ℕ → ℕ
+counted None station costs x = costs x
+counted (Some most) station costs x =
+    min most (costs x) - unwrap_or (least (map (λ y. min most (costs y)) (symbols_of station))) 0
+
+-- the table of a receiver: its own, or else the bank's
+abbrev pub table_of : CostTable → Tuning → CostTable
+table_of table tuning = unwrap_or tuning.table table
+
+-- what symbol x of a station costs a receiver in the second from millisecond m of its log on, counted by its weight
+abbrev pub second_cost : CostTable → Reception → Station → ℕ → ℕ → ℕ
+second_cost table r station m x =
+    let own = table_of table r.tuning in
+    r.tuning.weight * counted own.second station (λ y. tenths_cost own r.log m (waveform station y)) x
+
+-- what symbol x costs in slot k: the sum over the station's receivers, of which each hears the slot later by its
+-- delay
+abbrev pub slot_cost : CostTable → List Reception → Station → ℕ → ℕ → ℕ → ℕ
+slot_cost table receptions station begin k x =
+    sum_by (λ r. second_cost table r station (begin + r.tuning.delay + 1000 * k) x) receptions
+
+-- The costs that are given: of a station, in a slot, of a symbol.
+abbrev pub Costs : Type 0
+Costs = Station → ℕ → ℕ → ℕ
+
+-- those of a bank whose first slot begins at this millisecond of the log: the window's start and the phase together
+abbrev pub bank_costs : CostTable → List Receiver → ℕ → Costs
+bank_costs table bank begin station = slot_cost table (heard_of station bank) station begin
 
 -- what a set of symbols costs, from the costs of the symbols: the cheapest of the set, and nothing where the
 -- second isn't scored. A set of none of the station's symbols would cost nothing, but no second of a minute has one.

@@ -13,7 +13,7 @@ ghost use Rattle.definitions.specs.heard.Phase.{phase_of, start_edges};
 ghost use Rattle.definitions.specs.heard.Costs.{bank_costs, sequence_cost, set_cost, station_cost};
 ghost use Rattle.definitions.specs.codes.Allowed.{stations_of};
 ghost use Rattle.definitions.specs.codes.Vocabulary.{free};
-ghost use Rattle.definitions.specs.examples.Receivers.{at_odds, costs_in, dut_heard, each_change, heard, ones_heard, rises_at, two_pulses};
+ghost use Rattle.definitions.specs.examples.Receivers.{at_odds, broken_off, costs_in, dut_heard, each_change, ones_heard, rises_at, silence, two_pulses};
 ghost use Rattle.definitions.specs.examples.Sequences.{from_place, window_of};
 
 /// The levels before the first record, from it on, and from the last record on.
@@ -33,12 +33,12 @@ pub fn two_pulses_cost()
 
 /// A second without a pulse costs each low tenth of a symbol, the last one too.
 pub fn silence_costs()
-    ensures { costs_in (heard Jjy 0 1 ((0, High) ∷ (1000, High) ∷ []) ∷ []) Jjy 0 (0 ∷ 1 ∷ 2 ∷ []) ≡ 200 ∷ 500 ∷ 800 ∷ [] }
+    ensures { costs_in silence Jjy 0 (0 ∷ 1 ∷ 2 ∷ []) ≡ 200 ∷ 500 ∷ 800 ∷ [] }
 {}
 
 /// A tenth of which a millisecond is unknown costs nothing.
 pub fn unknown_tenths_cost_nothing()
-    ensures { costs_in (heard Wwvb 0 1 ((0, Low) ∷ (200, High) ∷ (420, Unknown) ∷ (1000, Unknown) ∷ []) ∷ []) Wwvb 0 (0 ∷ 1 ∷ 2 ∷ []) ≡ 0 ∷ 200 ∷ 200 ∷ [] }
+    ensures { costs_in broken_off Wwvb 0 (0 ∷ 1 ∷ 2 ∷ []) ≡ 0 ∷ 200 ∷ 200 ∷ [] }
 {}
 
 /// Receivers are summed by their weights before a symbol is chosen.
