@@ -5,7 +5,6 @@ use Rattle.std.proofs.lemmas.Bool.{and_parts}
 use Rattle.std.proofs.lemmas.List.Sums.{sum_by-cons}
 use Rattle.signal_base.specs.Mask.{has_bit}
 use Rattle.signal_base.specs.Number.{number_of}
-use Rattle.signal_base.specs.Waveform.{waveform}
 use Rattle.signal_base.specs.declared.station.Station.{Station}
 use Rattle.signal_base.specs.declared.station.Station.TheVariants.{Dcf77, Msf, Wwvb, Jjy}
 use Rattle.signal_base.specs.declared.station.Stations.{Stations}
@@ -189,7 +188,7 @@ module _ (h : Hearing) (k : ℕ) where
 
   -- what a symbol costs a receiver, as the definition of costs says it
   abbrev at : Station → Reception → ℕ → ℕ
-  at station r x = second_cost h.table r (h.window.start + h.window.phase + r.tuning.delay + 1000 * k) (waveform station x)
+  at station r x = second_cost h.table r station (h.window.start + h.window.phase + r.tuning.delay + 1000 * k) x
 
   receivers_are_heard : (station : Station) (m : ℕ) (rs : List Receiver)
       → together m rs station ≡ sum_by (λ r. cost_of (at station r) (sent_in h k station)) (heard_of station rs)

@@ -8,7 +8,6 @@ use Rattle.signal_base.specs.declared.tuning.CostTable.{CostTable}
 use Rattle.signal_base.specs.declared.window.Window.{Window}
 use Rattle.signal_base.specs.Mask.{has_bit}
 use Rattle.signal_base.specs.Number.{number_of}
-use Rattle.signal_base.specs.Waveform.{waveform}
 use Rattle.definitions.specs.declared.sequence.Sequence.{Sequence}
 use Rattle.definitions.specs.time.Places.{minute_of, second_of}
 use Rattle.definitions.specs.time.Spelling.{minute_text}
@@ -23,6 +22,7 @@ use Rattle.definitions.specs.heard.Costs.{Costs, bank_costs, dut1_cost, least, l
 use Rattle.formats.specs.declared.heard.ReceiverHeard.{ReceiverHeard}
 use Rattle.formats.specs.declared.heard.SlotHeard.{SlotHeard}
 use Rattle.formats.specs.Bytes.{space, line, station_name}
+use Rattle.formats.specs.Reports.{next_line}
 
 -- The first of some things at which a cost is least, if there are any.
 abbrev pub cheapest : {A : Type 0} → (A → ℕ) → List A → Option A
@@ -75,13 +75,14 @@ slot_heard costs n q k station =
       best_cost = costs station k best;
     }
 
--- what is looked at: the receivers of a bank, what a tenth of a second costs, the window, and the sequence that was
--- decided
+-- what is looked at: the receivers of a bank, what a tenth of a second costs, the window, the sequence that was decided,
+-- and what the next one costs, if there is one
 pub record Hearing : Type 0 where
   pub receivers : List Receiver
   pub table : CostTable
   pub window : Window
   pub sequence : Sequence
+  pub next : Option ℕ
 
 -- what symbols cost in it
 abbrev pub costs_of : Hearing → Costs
@@ -124,7 +125,7 @@ unknown_tenths log m = sum_below 10 (λ j. if is_none (low_count log (m + 100 * 
 
 -- what a symbol of its station costs a receiver in slot k
 abbrev pub cost_at : Hearing → Receiver → ℕ → ℕ → ℕ
-cost_at h r k x = second_cost h.table r.heard (slot_begin_at h r k) (waveform r.station x)
+cost_at h r k x = second_cost h.table r.heard r.station (slot_begin_at h r k) x
 
 -- what is told of a receiver in slot k
 abbrev pub receiver_heard : Hearing → ℕ → Numbered → ReceiverHeard
@@ -192,6 +193,6 @@ unfoldable pub slots_lines : Hearing → ℕ → List ℕ
 slots_lines h zero = []
 slots_lines h (suc n) = slots_lines h n ++ slot_lines h n
 
--- the whole text: the slots, and the sum of each receiver
+-- the whole text: the slots, the sum of each receiver, and what the next sequence costs
 abbrev pub heard_text : Hearing → List ℕ
-heard_text h = slots_lines h h.window.seconds ++ flat_map sum_line (receiver_sums h)
+heard_text h = slots_lines h h.window.seconds ++ flat_map sum_line (receiver_sums h) ++ next_line h.next

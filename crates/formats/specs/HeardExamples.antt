@@ -1,5 +1,5 @@
 -- What examples of what was heard are about: small logs of three receivers, and costs by symbol.
-use Rattle.std.specs.Prelude.{ℕ, List, [], ◌∷◌, slice_index_or}
+use Rattle.std.specs.Prelude.{ℕ, List, [], ◌∷◌, Option, slice_index_or}
 use Rattle.signal_base.specs.declared.station.Station.{Station}
 use Rattle.signal_base.specs.declared.station.Station.TheVariants.{Dcf77, Jjy, Msf}
 use Rattle.signal_base.specs.Table.{difference_table}
@@ -32,12 +32,14 @@ three_receivers =
     ∷ heard Jjy 0 1 ((500, High) ∷ (1300, Low) ∷ (1500, High) ∷ (2000, Low) ∷ (2500, High) ∷ [])
     ∷ heard Dcf77 30 2 ((530, Low) ∷ (625, High) ∷ (1530, Low) ∷ (1640, High) ∷ (2000, Unknown) ∷ (2030, High) ∷ (2530, High) ∷ []) ∷ []
 
--- the seconds 15 and 16 of 2000-01-01T12:00Z as receivers of these stations heard them, from millisecond 500 on
-abbrev pub two_seconds : ℕ → List Receiver → Hearing
-two_seconds mask receivers =
+-- the seconds 15 and 16 of 2000-01-01T12:00Z as receivers of these stations heard them, from millisecond 500 on, where the
+-- next sequence costs this
+abbrev pub two_seconds : ℕ → Option ℕ → List Receiver → Hearing
+two_seconds mask next receivers =
     record {
       receivers = receivers;
       table = difference_table;
       window = record (window_of mask 0 60) { phase = 500; seconds = 2 };
       sequence = from_place 720 15;
+      next = next;
     }

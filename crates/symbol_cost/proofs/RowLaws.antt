@@ -17,9 +17,9 @@ use Rattle.symbol_cost.specs.declared.limits.TheConstants.{RECEIVER_COST}
 use Rattle.symbol_cost.specs.Grid.{cost_at}
 use Rattle.symbol_cost.specs.Rows.{Adds, heard}
 
--- what tenth j from millisecond `from` on costs a receiver of this weight under a symbol
-abbrev pub symbol_tenth : CostTable → ℕ → Records → ℕ → Station → ℕ → ℕ → ℕ
-symbol_tenth table weight log from station x j = tenth_cost table weight (get_or (waveform station x) j false) (low_count log (from + 100 * j) 100)
+-- what tenth j from millisecond `from` on costs under a symbol
+abbrev pub symbol_tenth : CostTable → Records → ℕ → Station → ℕ → ℕ → ℕ
+symbol_tenth table log from station x j = tenth_cost table (get_or (waveform station x) j false) (low_count log (from + 100 * j) 100)
 
 -- the first x entries of a row have grown by f, and the others are as before
 pub record GrownTo (old row : List ℕ) (x b : ℕ) (f : ℕ → ℕ) : Type 0 where
@@ -56,7 +56,7 @@ grown_more old row x b more f within is small g =
 abbrev pub no_costs : List ℕ
 no_costs = 0 ∷ 0 ∷ 0 ∷ 0 ∷ 0 ∷ []
 
-no_cost : (x : ℕ) → get_or no_costs x 0 ≡ 0
+pub no_cost : (x : ℕ) → get_or no_costs x 0 ≡ 0
 no_cost zero = refl
 no_cost (suc zero) = refl
 no_cost (suc (suc zero)) = refl
@@ -112,8 +112,8 @@ lesser_of (Some b) c = refl
 -- one more receiver
 pub slot_cost_more : (table : CostTable) (ts : List Tuning) (ls : List Records) (t : Tuning) (l : Records) (station : Station) (begin k x : ℕ) → length ts ≡ length ls
     → slot_cost table (receptions (ts ++ t ∷ []) (ls ++ l ∷ [])) station begin k x
-    ≡ slot_cost table (receptions ts ls) station begin k x + second_cost table (heard t l) (begin + t.delay + 1000 * k) (waveform station x)
+    ≡ slot_cost table (receptions ts ls) station begin k x + second_cost table (heard t l) station (begin + t.delay + 1000 * k) x
 slot_cost_more table ts ls t l station begin k x same =
-    let f = λ (r : Reception). second_cost table r (begin + r.tuning.delay + 1000 * k) (waveform station x) in
+    let f = λ (r : Reception). second_cost table r station (begin + r.tuning.delay + 1000 * k) x in
     ap (sum_by f) (receptions_more ts ls t l same) ∙ sum_by-append f (receptions ts ls) (heard t l ∷ [])
     ∙ ap (λ n. sum_by f (receptions ts ls) + n) (zero-add (f (heard t l)))

@@ -11,8 +11,8 @@ ghost use Rattle.symbol_cost.specs.Grid.{HasCosts, cost_at};
 
 use crate::RECEIVER_COST;
 use crate::limits::SECOND;
-use crate::receivers::Row;
 use crate::rows::{move_on, rows_of};
+use crate::second::Row;
 use pulse_log::Log;
 use signal_base::{
     CostTable, MOST_RECEIVERS, MOST_SECONDS, START_LIMIT, Station, Tuning, UNSCORED, symbols,

@@ -5,6 +5,8 @@ mod grid;
 mod limits;
 mod receivers;
 mod rows;
+mod second;
 
 pub use grid::{CostGrid, GridFault};
-pub use limits::RECEIVER_COST;
+pub use limits::{RECEIVER_COST, SECOND_LIMIT};
+pub use second::{Row, second_costs};

@@ -8,7 +8,8 @@ ghost use Rattle.definitions.specs.heard.Costs.{slot_cost};
 ghost use Rattle.symbol_cost.specs.Grid.{AreRows, AreSmall, cost_at};
 
 use crate::limits::SECOND;
-use crate::receivers::{Row, add_receiver};
+use crate::receivers::add_receiver;
+use crate::second::Row;
 use pulse_log::Log;
 use signal_base::{CostTable, MOST_RECEIVERS, MOST_SECONDS, START_LIMIT, Station, Tuning};
 use std::alloc::{AllocError, Global};

@@ -1,7 +1,7 @@
 //! What was heard of windows, spelled out. The costs of the three receivers were worked out by hand.
 #![tactic(auto, unfolding(crate::specs::Examples::digits, crate::specs::Heard::slots_lines, definitions::specs::heard::Costs::sum_below, definitions::specs::heard::Logs::low_count, definitions::specs::sequences::Walks::place_at, definitions::specs::time::Calendar::day_at, definitions::specs::time::Summer::eu_change_within, definitions::specs::time::Summer::season_at, signal_base::specs::Table::difference_table))]
 
-ghost use Rattle.std.specs.Prelude.{◌≡◌, ◌∷◌, ◌++◌, [], codes, sum_by};
+ghost use Rattle.std.specs.Prelude.{◌≡◌, ◌∷◌, ◌++◌, [], None, Some, codes, sum_by};
 ghost use Rattle.signal_base.specs.declared.station.Station.TheVariants.{Dcf77, Jjy, Msf};
 ghost use Rattle.definitions.specs.heard.Costs.{sequence_cost};
 ghost use Rattle.definitions.specs.examples.Receivers.{heard};
@@ -32,9 +32,9 @@ pub fn slots_by_their_dut1()
 {}
 
 /// A whole text, of two seconds that three receivers heard: in each second station by station, with the tenth of a second
-/// that one of them didn't hear.
+/// that one of them didn't hear, and at its end what the next sequence costs.
 pub fn text_of_two_seconds()
-    ensures { heard_text (two_seconds 9 three_receivers)
+    ensures { heard_text (two_seconds 9 (Some 600) three_receivers)
         ≡ line (codes "slot 0 2000-01-01T12:00Z 15 dcf77 sent 0 cost 115 best 0 cost 115")
         ++ line (codes "receiver 1 unknown 0 cost 105") ++ line (codes "receiver 3 unknown 0 cost 10")
         ++ line (codes "slot 0 2000-01-01T12:00Z 15 jjy sent 0 cost 0 best 0 cost 0") ++ line (codes "receiver 2 unknown 0 cost 0")
@@ -42,19 +42,19 @@ pub fn text_of_two_seconds()
         ++ line (codes "receiver 1 unknown 0 cost 5") ++ line (codes "receiver 3 unknown 1 cost 20")
         ++ line (codes "slot 1 2000-01-01T12:00Z 16 jjy sent 0 cost 300 best 1 cost 0") ++ line (codes "receiver 2 unknown 0 cost 300")
         ++ line (codes "sum receiver 1 unknown 0 cost 110") ++ line (codes "sum receiver 2 unknown 0 cost 300")
-        ++ line (codes "sum receiver 3 unknown 1 cost 30") }
+        ++ line (codes "sum receiver 3 unknown 1 cost 30") ++ line (codes "next 600") }
 {}
 
 /// The sums of the three receivers add up to what the sequence costs.
 pub fn sums_of_two_seconds()
-    ensures sum { sum_by (λ r. r.cost) (receiver_sums (two_seconds 9 three_receivers)) ≡ 440 }
-    ensures cost { sequence_cost (costs_of (two_seconds 9 three_receivers)) (two_seconds 9 three_receivers).window (two_seconds 9 three_receivers).sequence ≡ 440 }
+    ensures sum { sum_by (λ r. r.cost) (receiver_sums (two_seconds 9 (Some 600) three_receivers)) ≡ 440 }
+    ensures cost { sequence_cost (costs_of (two_seconds 9 (Some 600) three_receivers)) (two_seconds 9 (Some 600) three_receivers).window (two_seconds 9 (Some 600) three_receivers).sequence ≡ 440 }
 {}
 
-/// The text of one receiver that heard nothing: all its tenths are unknown and cost nothing.
+/// The text of one receiver that heard nothing: all its tenths are unknown and cost nothing, and there is no next sequence.
 pub fn text_of_silence()
-    ensures { heard_text (two_seconds 1 (heard Dcf77 0 1 [] ∷ []))
+    ensures { heard_text (two_seconds 1 None (heard Dcf77 0 1 [] ∷ []))
         ≡ line (codes "slot 0 2000-01-01T12:00Z 15 dcf77 sent 0 cost 0 best 0 cost 0") ++ line (codes "receiver 1 unknown 10 cost 0")
         ++ line (codes "slot 1 2000-01-01T12:00Z 16 dcf77 sent 0 cost 0 best 0 cost 0") ++ line (codes "receiver 1 unknown 10 cost 0")
-        ++ line (codes "sum receiver 1 unknown 20 cost 0") }
+        ++ line (codes "sum receiver 1 unknown 20 cost 0") ++ line (codes "next none") }
 {}

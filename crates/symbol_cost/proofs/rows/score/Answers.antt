@@ -1,7 +1,6 @@
-use Rattle.std.proofs.Common.{◌≡◌, ℕ, ◌+◌, ◌*◌, ◌<◌, ◌++◌, ◌∷◌, [], List, take, length, get_or, refl, sym, ap, ◌∙◌, arith}
+use Rattle.std.proofs.Common.{◌≡◌, ℕ, ◌+◌, ◌*◌, ◌<◌, ◌++◌, ◌∷◌, [], List, take, length, get_or, None, refl, sym, ap, ◌∙◌, arith}
 use Rattle.std.proofs.lemmas.List.{take_more, take_all, length-take-le}
 use Rattle.signal_base.specs.declared.tuning.Tuning.{Tuning}
-use Rattle.signal_base.specs.Waveform.{waveform}
 use Rattle.definitions.specs.heard.Logs.{Records}
 use Rattle.definitions.specs.heard.Receivers.{receptions}
 use Rattle.definitions.specs.heard.Costs.{second_cost, slot_cost}
@@ -28,7 +27,7 @@ loop-i-preserved c =
     let ts = c.args.tunings.now in
     let ls = c.args.logs.now in
     let before = c.loop-i.invariant in
-    let d : Tuning = record { delay = 0; weight = 0 } in
+    let d : Tuning = record { delay = 0; weight = 0; table = None } in
     let log = c.index-logs-i.result in
     let in_logs : i < length ls = omega arith in
     let same : length (take i ts) ≡ length (take i ls) = length-take-le i ts (omega arith) ∙ sym (length-take-le i ls (omega arith)) in
@@ -40,7 +39,7 @@ loop-i-preserved c =
       each = λ k x h s.
           let grown = slot_cost_more c.args.table.now (take i ts) (take i ls) (get_or ts i d) log c.args.station c.args.begin k x same in
           let whole = ap (λ us. cost us (take (i + 1) ls) k x) (take_more ts i d c.loop-i-test.true) ∙ ap (λ ms. cost (take i ts ++ get_or ts i d ∷ []) ms k x) more_ls in
-          let second = second_cost c.args.table.now (heard (get_or ts i d) log) (c.args.begin + (get_or ts i d).delay + 1000 * k) (waveform c.args.station x) in
+          let second = second_cost c.args.table.now (heard (get_or ts i d) log) c.args.station (c.args.begin + (get_or ts i d).delay + 1000 * k) x in
           adds.each k x (let slots = before.slots in omega arith) s ∙ ap (λ n. n + second) (before.each k x h s) ∙ sym (whole ∙ grown);
       small = λ k x. omega (arith, adds.bound k x, before.small k x);
     }
