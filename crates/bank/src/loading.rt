@@ -169,9 +169,10 @@ fn name_of(key: Key) -> KeyName
         Key::File { .. } => KeyName::Log,
         Key::Delay { .. } => KeyName::Delay,
         Key::Weight { .. } => KeyName::Weight,
-        Key::CostTable => KeyName::Table,
-        Key::Low => KeyName::Low,
-        Key::High => KeyName::High,
+        Key::CostTable { .. } => KeyName::Table,
+        Key::Low { .. } => KeyName::Low,
+        Key::High { .. } => KeyName::High,
+        Key::Second { .. } => KeyName::Second,
     }
 }
 
@@ -184,7 +185,11 @@ fn receiver_of(key: Key) -> Option<u8>
         | Key::Delay { receiver }
         | Key::Weight { receiver }
         | Key::ReceiverStation { receiver } => Some(receiver),
-        Key::Station | Key::Ceiling | Key::Receiver | Key::CostTable | Key::Low | Key::High => None,
+        Key::CostTable { receiver }
+        | Key::Low { receiver }
+        | Key::High { receiver }
+        | Key::Second { receiver } => receiver,
+        Key::Station | Key::Ceiling | Key::Receiver => None,
     }
 }
 

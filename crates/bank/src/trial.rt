@@ -87,6 +87,7 @@ fn bank_of_trial(
         tunings.push(Tuning {
             delay: 0,
             weight: 1,
+            table: None,
         })?;
         logs.push(log)?;
     }

@@ -2,7 +2,7 @@
 use Rattle.std.proofs.Common.{◌≡◌, ℕ, ◌+◌, ◌&&◌, nat_le, Bool, true, false, if◌then◌else◌, List, [], ◌∷◌, length, Option, Some, None, Result, Ok, Err, ok_or, codes}
 use Rattle.std.specs.Str.{is_utf8}
 use Rattle.std.specs.List.{list_all}
-use Rattle.signal_base.specs.declared.limits.TheConstants.{GREATEST_COST, LEAST_WEIGHT, MOST_DELAY, MOST_RECEIVERS, MOST_WEIGHT}
+use Rattle.signal_base.specs.declared.limits.TheConstants.{GREATEST_COST, LEAST_SECOND_COST, LEAST_WEIGHT, MOST_DELAY, MOST_RECEIVERS, MOST_SECOND_COST, MOST_WEIGHT}
 use Rattle.bank_config.specs.declared.limits.TheConstants.{DEFAULT_CEILING, DEFAULT_DELAY, DEFAULT_WEIGHT}
 use Rattle.signal_base.specs.declared.station.Station.{Station}
 use Rattle.signal_base.specs.Table.{difference_table}
@@ -12,9 +12,9 @@ use Rattle.bank_config.specs.declared.fault.Key.{Key}
 use Rattle.bank_config.specs.declared.fault.Key.TheVariants as key
 use Rattle.bank_config.specs.declared.fault.ConfigFault.{ConfigFault}
 use Rattle.bank_config.specs.declared.fault.ConfigFault.TheVariants.{NotToml, Missing, WrongKind, OutOfRange, UnknownKey, NoMemory}
-use Rattle.bank_config.specs.Checked.{Checked, ◌>>=◌, in_range, optional, required}
+use Rattle.bank_config.specs.Checked.{Checked, ◌>>=◌, if_given, in_range, optional, required}
 use Rattle.bank_config.specs.Values.{all_of_kind, costs_in, each, is_file, is_name, is_table, list_in, number_in, station_in, station_named, text_in, within}
-use Rattle.bank_config.specs.Configuration.{PlainConfig, all_known, configuration_in, configuration_of, configuration_of_document, cost_table_in, file_at, name_at, number_at, receiver_in, tables_in}
+use Rattle.bank_config.specs.Configuration.{PlainConfig, all_known, configuration_in, configuration_of, configuration_of_document, cost_table_in, file_at, name_at, number_at, receiver_in, second_at, tables_in}
 use Rattle.std.specs.Prelude.{ℤ, pos, negsuc}
 
 -- a fault that a text can have
@@ -41,6 +41,10 @@ if_safe false x y safe also = also
 optional_safe : {A B : Type 0} (default : B) (read : A → Checked B) (found : Option A) → ((x : A) → IsSafe (read x)) → IsSafe (optional default read found)
 optional_safe default read None safe = tt
 optional_safe default read (Some x) safe = safe x
+
+if_given_safe : {A B : Type 0} (read : A → Checked B) (found : Option A) → ((x : A) → IsSafe (read x)) → IsSafe (if_given read found)
+if_given_safe read None safe = tt
+if_given_safe read (Some x) safe = then_safe (read x) (λ y. Ok (Some y)) (safe x) (λ y. tt)
 
 within_safe : (k : Key) (least most : ℕ) (n : ℤ) → IsSafe (within k least most n)
 within_safe k least most (pos n) = if_safe (nat_le least n && nat_le n most) (Ok n) (Err (OutOfRange k)) tt tt
@@ -85,6 +89,19 @@ name_safe k d = text_at_safe k (get (codes "name") d) is_name
 file_safe : (k : Key) (d : Data) → IsSafe (file_at k d)
 file_safe k d = text_at_safe k (get (codes "log") d) is_file
 
+second_safe : (k : Key) (d : Data) → IsSafe (second_at k d)
+second_safe k d =
+    if_given_safe (number_in k LEAST_SECOND_COST MOST_SECOND_COST) (get (codes "second") d) (number_safe k LEAST_SECOND_COST MOST_SECOND_COST)
+
+table_safe : (r : Option ℕ) (d : Data) → IsSafe (cost_table_in r d)
+table_safe r d =
+    if_safe (is_table d) _ (Err (WrongKind (key.CostTable r)))
+    (then_safe (optional difference_table.low (costs_in (key.Low r)) (get (codes "low") d)) _
+    (optional_safe difference_table.low (costs_in (key.Low r)) (get (codes "low") d) (costs_safe (key.Low r))) (λ low.
+    then_safe (optional difference_table.high (costs_in (key.High r)) (get (codes "high") d)) _
+    (optional_safe difference_table.high (costs_in (key.High r)) (get (codes "high") d) (costs_safe (key.High r))) (λ high.
+    then_safe (second_at (key.Second r) d) _ (second_safe (key.Second r) d) (λ second. tt)))) tt
+
 receiver_safe : (top : Station) (n : ℕ) (d : Data) → IsSafe (receiver_in top n d)
 receiver_safe top n d =
     then_safe (name_at (key.Name n) d) _ (name_safe (key.Name n) d) (λ name.
@@ -93,21 +110,14 @@ receiver_safe top n d =
     then_safe (number_at (key.Weight n) (codes "weight") LEAST_WEIGHT MOST_WEIGHT DEFAULT_WEIGHT d) _
     (number_at_safe (key.Weight n) (codes "weight") LEAST_WEIGHT MOST_WEIGHT DEFAULT_WEIGHT d) (λ weight.
     then_safe (optional top (station_in (key.ReceiverStation n)) (get (codes "station") d)) _
-    (optional_safe top (station_in (key.ReceiverStation n)) (get (codes "station") d) (station_safe (key.ReceiverStation n))) (λ station. tt)))))
+    (optional_safe top (station_in (key.ReceiverStation n)) (get (codes "station") d) (station_safe (key.ReceiverStation n))) (λ station.
+    then_safe (if_given (cost_table_in (Some n)) (get (codes "table") d)) _ (if_given_safe (cost_table_in (Some n)) (get (codes "table") d) (table_safe (Some n))) (λ own. tt))))))
 
 tables_safe : (d : Data) → IsSafe (tables_in d)
 tables_safe d =
     then_safe (list_in key.Receiver d >>= all_of_kind key.Receiver (list_all is_table)) (in_range key.Receiver (λ entries. nat_le 1 (length entries) && nat_le (length entries) MOST_RECEIVERS))
     (then_safe (list_in key.Receiver d) (all_of_kind key.Receiver (list_all is_table)) (list_safe key.Receiver d) (all_of_kind_safe key.Receiver (list_all is_table)))
     (in_range_safe key.Receiver (λ entries. nat_le 1 (length entries) && nat_le (length entries) MOST_RECEIVERS))
-
-table_safe : (d : Data) → IsSafe (cost_table_in d)
-table_safe d =
-    if_safe (is_table d) _ (Err (WrongKind key.CostTable))
-    (then_safe (optional difference_table.low (costs_in key.Low) (get (codes "low") d)) _
-    (optional_safe difference_table.low (costs_in key.Low) (get (codes "low") d) (costs_safe key.Low)) (λ low.
-    then_safe (optional difference_table.high (costs_in key.High) (get (codes "high") d)) _
-    (optional_safe difference_table.high (costs_in key.High) (get (codes "high") d) (costs_safe key.High)) (λ high. tt))) tt
 
 members_safe : (d : Data) → IsSafe (configuration_in d)
 members_safe d =
@@ -117,7 +127,8 @@ members_safe d =
     then_safe (required key.Receiver (get (codes "receiver") d) >>= tables_in) _
     (then_safe (required key.Receiver (get (codes "receiver") d)) tables_in (ok_or_safe (get (codes "receiver") d) (Missing key.Receiver) tt) tables_safe) (λ tables.
     then_safe (each (receiver_in station) 1 tables) _ (each_safe (receiver_in station) (receiver_safe station) 1 tables) (λ receivers.
-    then_safe (optional difference_table cost_table_in (get (codes "table") d)) _ (optional_safe difference_table cost_table_in (get (codes "table") d) table_safe) (λ costs.
+    then_safe (optional difference_table (cost_table_in None) (get (codes "table") d)) _
+    (optional_safe difference_table (cost_table_in None) (get (codes "table") d) (table_safe None)) (λ costs.
     if_safe (all_known d tables) (Ok (record { station = station; ceiling = ceiling; receivers = receivers; costs = costs })) (Err UnknownKey) tt tt)))))
 
 document_safe : (found : Option Members) → IsSafe (configuration_of_document found)

@@ -4,19 +4,17 @@ use Rattle.std.proofs.lemmas.Bool.{lt-leb, eqb-true, eqb-false, ne_eqb}
 use Rattle.std.proofs.lemmas.List.{length-map}
 use Rattle.std.proofs.lemmas.List.Folds.{list_all-map}
 use Rattle.std.specs.List.{list_all}
-use Rattle.std.specs.Option.{option_map_or}
-use Rattle.std.specs.Prelude.{codes}
 use Rattle.toml.specs.declared.value.Value.{Value}
-use Rattle.toml.specs.Data.{Data, get}
+use Rattle.toml.specs.Data.{Data}
 use Rattle.toml.specs.View.{view}
 use Rattle.bank_config.specs.declared.fault.Key.{Key}
 use Rattle.bank_config.specs.declared.fault.Key.TheVariants.{Receiver}
 use Rattle.bank_config.specs.declared.fault.ConfigFault.TheVariants.{WrongKind, OutOfRange}
 use Rattle.signal_base.specs.declared.limits.TheConstants.{MOST_COST, MOST_RECEIVERS}
 use Rattle.bank_config.specs.declared.limits.TheConstants.{COSTS}
-use Rattle.bank_config.specs.declared.places.Place.TheVariants.{Top, OfReceiver, OfTable}
+use Rattle.bank_config.specs.declared.places.Place.TheVariants.{Top}
 use Rattle.bank_config.specs.Checked.{Checked, ◌>>=◌, in_range}
-use Rattle.bank_config.specs.Configuration.{all_known}
+use Rattle.bank_config.specs.Configuration.{all_known, receiver_known, table_known}
 use Rattle.bank_config.specs.Places.{knows_all}
 use Rattle.bank_config.specs.Values.{all_of_kind, each, is_number, is_table, number_in}
 
@@ -69,9 +67,8 @@ module _ (config : Data) (tables : List Value) where
   pub all_known-not_top : knows_all Top config ≡ false → false ≡ all_known config (map view tables)
   all_known-not_top other = rw other refl
 
-  pub all_known-not_receivers : knows_all Top config ≡ true → list_all (λ t. knows_all OfReceiver (view t)) tables ≡ false → false ≡ all_known config (map view tables)
-  all_known-not_receivers top other = rw (top, list_all-map (knows_all OfReceiver) view tables, other) refl
+  pub all_known-not_receivers : knows_all Top config ≡ true → list_all (λ t. receiver_known (view t)) tables ≡ false → false ≡ all_known config (map view tables)
+  all_known-not_receivers top other = rw (top, list_all-map receiver_known view tables, other) refl
 
-  pub all_known-by_table : (found : Option Data) → knows_all Top config ≡ true → list_all (λ t. knows_all OfReceiver (view t)) tables ≡ true → found ≡ get (codes "table") config
-      → option_map_or (knows_all OfTable) found true ≡ all_known config (map view tables)
-  all_known-by_table found top receivers is = rw (is, top, list_all-map (knows_all OfReceiver) view tables, receivers) refl
+  pub all_known-by_table : knows_all Top config ≡ true → list_all (λ t. receiver_known (view t)) tables ≡ true → table_known config ≡ all_known config (map view tables)
+  all_known-by_table top receivers = rw (top, list_all-map receiver_known view tables, receivers) refl

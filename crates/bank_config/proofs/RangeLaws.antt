@@ -3,11 +3,13 @@ use Rattle.std.proofs.Common.{◌≡◌, ℕ, zero, suc, ◌+◌, ◌≤◌, ◌
 use Rattle.std.specs.Prelude.{ℤ, pos, negsuc, slice_index}
 use Rattle.std.specs.Str.{is_utf8}
 use Rattle.std.specs.List.{AllByRecursion, list_all}
+use Rattle.std.specs.Option.{ForSome}
 use Rattle.std.proofs.lemmas.Bool.{leb-true}
-use Rattle.signal_base.specs.declared.limits.TheConstants.{GREATEST_COST, LEAST_WEIGHT, MOST_COST, MOST_DELAY, MOST_RECEIVERS, MOST_WEIGHT}
+use Rattle.signal_base.specs.declared.limits.TheConstants.{GREATEST_COST, LEAST_SECOND_COST, LEAST_WEIGHT, MOST_COST, MOST_DELAY, MOST_RECEIVERS, MOST_SECOND_COST, MOST_WEIGHT}
 use Rattle.signal_base.specs.declared.station.Station.{Station}
-use Rattle.signal_base.specs.Limits.{IsPriced, IsTuned}
+use Rattle.signal_base.specs.Limits.{IsCap, IsPriced, IsTuned}
 use Rattle.signal_base.specs.Table.{difference_table}
+use Rattle.signal_base.proofs.TableLaws.{priced}
 use Rattle.toml.specs.Data.{Data, Members, as_integer, get, table}
 use Rattle.toml.specs.Parse.{parse_document}
 use Rattle.bank_config.specs.declared.limits.TheConstants.{COSTS, DEFAULT_CEILING, DEFAULT_DELAY, DEFAULT_WEIGHT}
@@ -15,10 +17,10 @@ use Rattle.bank_config.specs.declared.fault.Key.{Key}
 use Rattle.bank_config.specs.declared.fault.Key.TheVariants as key
 use Rattle.bank_config.specs.declared.fault.ConfigFault.{ConfigFault}
 use Rattle.bank_config.specs.declared.fault.ConfigFault.TheVariants.{OutOfRange, UnknownKey, WrongKind}
-use Rattle.bank_config.specs.Checked.{Checked, ◌>>=◌, in_range, optional, required}
+use Rattle.bank_config.specs.Checked.{Checked, ◌>>=◌, if_given, in_range, optional, required}
 use Rattle.bank_config.specs.Values.{all_of_kind, costs_in, each, is_number, is_table, list_in, number_in, of_kind, station_in, within}
 use Rattle.bank_config.specs.InRange.{IsPlainInRange}
-use Rattle.bank_config.specs.Configuration.{PlainConfig, PlainReceiver, all_known, configuration_in, configuration_of, configuration_of_document, cost_table_in, file_at, name_at, number_at, receiver_in, tables_in}
+use Rattle.bank_config.specs.Configuration.{PlainConfig, PlainReceiver, all_known, configuration_in, configuration_of, configuration_of_document, cost_table_in, file_at, name_at, number_at, receiver_in, second_at, tables_in}
 
 -- what a check finds is so
 abbrev Makes : {A : Type 0} → (A → Type 0) → Checked A → Type 0
@@ -48,6 +50,11 @@ optional_makes : {A B : Type 0} (P : B → Type 0) (default : B) (read : A → C
 optional_makes P default read None given made = given
 optional_makes P default read (Some x) given made = made x
 
+-- what is read, if something is there, is so
+if_given_makes : {A B : Type 0} (P : B → Type 0) (read : A → Checked B) (found : Option A) → ((x : A) → Makes P (read x)) → Makes (λ y. ForSome y P) (if_given read found)
+if_given_makes P read None made = λ y e. absurd cc
+if_given_makes P read (Some x) made = then_makes P (λ y. ForSome y P) (read x) (λ y. Ok (Some y)) (made x) (λ y is z e. let same : y ≡ z = cc in subst P same is)
+
 both : (a b : Bool) → (a && b) ≡ true → (a ≡ true) × (b ≡ true)
 both true b e = (refl, e)
 both false b e = absurd cc
@@ -72,21 +79,6 @@ number_makes k least most d =
 number_at_makes : (k : Key) (word : List ℕ) (least most default : ℕ) (d : Data) → Lies least most default → Makes (Lies least most) (number_at k word least most default d)
 number_at_makes k word least most default d given =
     optional_makes (Lies least most) default (number_in k least most) (get word d) given (number_makes k least most)
-
-abbrev IsTunedReceiver : PlainReceiver → Type 0
-IsTunedReceiver r = IsTuned r.tuning
-
-receiver_makes : (top : Station) (n : ℕ) (d : Data) → Makes IsTunedReceiver (receiver_in top n d)
-receiver_makes top n d =
-    then_makes Anything IsTunedReceiver (name_at (key.Name n) d) _ (anything (name_at (key.Name n) d)) (λ name a.
-    then_makes Anything IsTunedReceiver (file_at (key.File n) d) _ (anything (file_at (key.File n) d)) (λ file b.
-    then_makes (Lies 0 MOST_DELAY) IsTunedReceiver (number_at (key.Delay n) (codes "delay_ms") 0 MOST_DELAY DEFAULT_DELAY d) _
-    (number_at_makes (key.Delay n) (codes "delay_ms") 0 MOST_DELAY DEFAULT_DELAY d (omega arith, omega arith)) (λ delay lies.
-    then_makes (Lies LEAST_WEIGHT MOST_WEIGHT) IsTunedReceiver (number_at (key.Weight n) (codes "weight") LEAST_WEIGHT MOST_WEIGHT DEFAULT_WEIGHT d) _
-    (number_at_makes (key.Weight n) (codes "weight") LEAST_WEIGHT MOST_WEIGHT DEFAULT_WEIGHT d (omega arith, omega arith)) (λ weight does.
-    then_makes Anything IsTunedReceiver (optional top (station_in (key.ReceiverStation n)) (get (codes "station") d)) _
-    (anything (optional top (station_in (key.ReceiverStation n)) (get (codes "station") d))) (λ station c.
-    record { delay = lies.1; some_weight = does.0; weight = does.1 })))))
 
 -- each of some values
 abbrev AreMade : {A : Type 0} → (A → Type 0) → List Data → List A → Type 0
@@ -134,32 +126,38 @@ costs_makes k d =
     makes_weaker (AreMade (Lies 0 MOST_COST) ds) AreLow (weaker_costs ds) (each (λ _. number_in k 0 MOST_COST) 0 ds)
     (each_makes (Lies 0 MOST_COST) (λ _. number_in k 0 MOST_COST) (λ n x. number_makes k 0 MOST_COST x) 0 ds))
 
--- the usual ones
-abbrev all_low : List ℕ → Bool
-all_low [] = true
-all_low (n ∷ ns) = nat_le n MOST_COST && all_low ns
+second_makes : (k : Key) (d : Data) → Makes (λ second. ForSome second IsCap) (second_at k d)
+second_makes k d =
+    if_given_makes IsCap (number_in k LEAST_SECOND_COST MOST_SECOND_COST) (get (codes "second") d) (λ value.
+    makes_weaker (Lies LEAST_SECOND_COST MOST_SECOND_COST) IsCap (λ n lies. record { some = lies.0; few = lies.1 }) (number_in k LEAST_SECOND_COST MOST_SECOND_COST value)
+    (number_makes k LEAST_SECOND_COST MOST_SECOND_COST value))
 
-low_if : (ns : List ℕ) → all_low ns ≡ true → AreLow ns
-low_if [] e n = omega arith
-low_if (m ∷ ms) e zero = leb-true m MOST_COST (both (nat_le m MOST_COST) (all_low ms) e).0
-low_if (m ∷ ms) e (suc n) = low_if ms (both (nat_le m MOST_COST) (all_low ms) e).1 n
+table_makes : (r : Option ℕ) (d : Data) → Makes IsPriced (cost_table_in r d)
+table_makes r d =
+    if_known IsPriced (is_table d) _ (WrongKind (key.CostTable r))
+    (then_makes AreLow IsPriced (optional difference_table.low (costs_in (key.Low r)) (get (codes "low") d)) _
+    (optional_makes AreLow difference_table.low (costs_in (key.Low r)) (get (codes "low") d) priced.low (costs_makes (key.Low r))) (λ low are.
+    then_makes AreLow IsPriced (optional difference_table.high (costs_in (key.High r)) (get (codes "high") d)) _
+    (optional_makes AreLow difference_table.high (costs_in (key.High r)) (get (codes "high") d) priced.high (costs_makes (key.High r))) (λ high are_too.
+    then_makes (λ second. ForSome second IsCap) IsPriced (second_at (key.Second r) d) _ (second_makes (key.Second r) d) (λ second cap.
+    record { low = are; high = are_too; second = cap }))))
 
-pub usual_low : AreLow difference_table.low
-unfolding difference_table
-usual_low = low_if difference_table.low refl
+abbrev IsTunedReceiver : PlainReceiver → Type 0
+IsTunedReceiver r = IsTuned r.tuning
 
-pub usual_high : AreLow difference_table.high
-unfolding difference_table
-usual_high = low_if difference_table.high refl
-
-table_makes : (d : Data) → Makes IsPriced (cost_table_in d)
-table_makes d =
-    if_known IsPriced (is_table d) _ (WrongKind key.CostTable)
-    (then_makes AreLow IsPriced (optional difference_table.low (costs_in key.Low) (get (codes "low") d)) _
-    (optional_makes AreLow difference_table.low (costs_in key.Low) (get (codes "low") d) usual_low (costs_makes key.Low)) (λ low are.
-    then_makes AreLow IsPriced (optional difference_table.high (costs_in key.High) (get (codes "high") d)) _
-    (optional_makes AreLow difference_table.high (costs_in key.High) (get (codes "high") d) usual_high (costs_makes key.High)) (λ high are_too.
-    record { low = are; high = are_too })))
+receiver_makes : (top : Station) (n : ℕ) (d : Data) → Makes IsTunedReceiver (receiver_in top n d)
+receiver_makes top n d =
+    then_makes Anything IsTunedReceiver (name_at (key.Name n) d) _ (anything (name_at (key.Name n) d)) (λ name a.
+    then_makes Anything IsTunedReceiver (file_at (key.File n) d) _ (anything (file_at (key.File n) d)) (λ file b.
+    then_makes (Lies 0 MOST_DELAY) IsTunedReceiver (number_at (key.Delay n) (codes "delay_ms") 0 MOST_DELAY DEFAULT_DELAY d) _
+    (number_at_makes (key.Delay n) (codes "delay_ms") 0 MOST_DELAY DEFAULT_DELAY d (omega arith, omega arith)) (λ delay lies.
+    then_makes (Lies LEAST_WEIGHT MOST_WEIGHT) IsTunedReceiver (number_at (key.Weight n) (codes "weight") LEAST_WEIGHT MOST_WEIGHT DEFAULT_WEIGHT d) _
+    (number_at_makes (key.Weight n) (codes "weight") LEAST_WEIGHT MOST_WEIGHT DEFAULT_WEIGHT d (omega arith, omega arith)) (λ weight does.
+    then_makes Anything IsTunedReceiver (optional top (station_in (key.ReceiverStation n)) (get (codes "station") d)) _
+    (anything (optional top (station_in (key.ReceiverStation n)) (get (codes "station") d))) (λ station c.
+    then_makes (λ own. ForSome own IsPriced) IsTunedReceiver (if_given (cost_table_in (Some n)) (get (codes "table") d)) _
+    (if_given_makes IsPriced (cost_table_in (Some n)) (get (codes "table") d) (table_makes (Some n))) (λ own priced.
+    record { delay = lies.1; some_weight = does.0; weight = does.1; priced = priced }))))))
 
 members_make : (d : Data) → Makes IsPlainInRange (configuration_in d)
 members_make d =
@@ -170,15 +168,15 @@ members_make d =
     then_makes AreFew IsPlainInRange (required key.Receiver (get (codes "receiver") d) >>= tables_in) _
     (then_makes Anything AreFew (required key.Receiver (get (codes "receiver") d)) tables_in (anything (required key.Receiver (get (codes "receiver") d))) (λ t any. tables_makes t)) (λ tables few.
     then_makes (AreMade IsTunedReceiver tables) IsPlainInRange (each (receiver_in station) 1 tables) _ (each_makes IsTunedReceiver (receiver_in station) (receiver_makes station) 1 tables) (λ receivers are.
-    then_makes IsPriced IsPlainInRange (optional difference_table cost_table_in (get (codes "table") d)) _
-    (optional_makes IsPriced difference_table cost_table_in (get (codes "table") d) (record { low = usual_low; high = usual_high }) table_makes) (λ costs priced.
+    then_makes IsPriced IsPlainInRange (optional difference_table (cost_table_in None) (get (codes "table") d)) _
+    (optional_makes IsPriced difference_table (cost_table_in None) (get (codes "table") d) priced (table_makes None)) (λ costs fine.
     if_known IsPlainInRange (all_known d tables) (Ok (record { station = station; ceiling = ceiling; receivers = receivers; costs = costs })) UnknownKey
     (record {
       ceiling = lies.1;
       some_receiver = omega (arith, few.0, are.1);
       few_receivers = omega (arith, few.1, are.1);
       tuned = are.0;
-      priced = priced;
+      priced = fine;
     }))))))
 
 document_makes : (found : Option Members) → Makes IsPlainInRange (configuration_of_document found)

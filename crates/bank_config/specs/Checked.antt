@@ -26,6 +26,11 @@ abbrev pub optional : {A B : Type 0} → B → (A → Checked B) → Option A �
 optional default read None = Ok default
 optional default read (Some x) = read x
 
+-- what may stand at a key, read so, if it is there
+abbrev pub if_given : {A B : Type 0} → (A → Checked B) → Option A → Checked (Option B)
+if_given read None = Ok None
+if_given read (Some x) = read x >>= (λ y. Ok (Some y))
+
 -- a value of the key's range
 abbrev pub in_range : {A : Type 0} → Key → (A → Bool) → A → Checked A
 in_range key fits x = if fits x then Ok x else Err (OutOfRange key)

@@ -14,10 +14,10 @@ use Rattle.bank_config.specs.declared.config.Config.{Config}
 use Rattle.bank_config.specs.declared.fault.Key.{Key}
 use Rattle.bank_config.specs.declared.fault.Key.TheVariants as key
 use Rattle.bank_config.specs.declared.fault.ConfigFault.TheVariants.{NotToml, WrongKind, UnknownKey}
-use Rattle.signal_base.specs.declared.limits.TheConstants.{GREATEST_COST, LEAST_WEIGHT, MOST_DELAY, MOST_RECEIVERS, MOST_WEIGHT}
+use Rattle.signal_base.specs.declared.limits.TheConstants.{GREATEST_COST, LEAST_SECOND_COST, LEAST_WEIGHT, MOST_DELAY, MOST_RECEIVERS, MOST_SECOND_COST, MOST_WEIGHT}
 use Rattle.bank_config.specs.declared.limits.TheConstants.{DEFAULT_CEILING, DEFAULT_DELAY, DEFAULT_WEIGHT}
 use Rattle.bank_config.specs.declared.places.Place.TheVariants.{Top, OfReceiver, OfTable}
-use Rattle.bank_config.specs.Checked.{Checked, ◌>>=◌, required, optional, in_range}
+use Rattle.bank_config.specs.Checked.{Checked, ◌>>=◌, required, optional, if_given, in_range}
 use Rattle.bank_config.specs.Values.{all_of_kind, costs_in, each, is_file, is_name, is_table, list_in, number_in, station_in, text_in}
 use Rattle.bank_config.specs.Places.{knows_all}
 
@@ -52,6 +52,23 @@ file_at k value = required k (get (codes "log") value) >>= text_in k >>= in_rang
 abbrev pub number_at : Key → List ℕ → ℕ → ℕ → ℕ → Data → Checked ℕ
 number_at k word least most default value = optional default (number_in k least most) (get word value)
 
+-- what a second costs at the most, if it is given
+abbrev pub second_at : Key → Data → Checked (Option ℕ)
+second_at k value = if_given (number_in k LEAST_SECOND_COST MOST_SECOND_COST) (get (codes "second") value)
+
+-- A cost table: that of a receiver, or else the bank's. What it leaves out is as in the table that counts the milliseconds
+-- that differ, whatever another table says.
+abbrev pub cost_table_in : Option ℕ → Data → Checked CostTable
+cost_table_in receiver value =
+    if is_table value
+    then (
+    optional difference_table.low (costs_in (key.Low receiver)) (get (codes "low") value) >>= (λ low.
+    optional difference_table.high (costs_in (key.High receiver)) (get (codes "high") value) >>= (λ high.
+    second_at (key.Second receiver) value >>= (λ second.
+    Ok (record { low = low; high = high; second = second }))))
+    )
+    else Err (WrongKind (key.CostTable receiver))
+
 -- the receiver of this number, which listens to the station at the top if it names none
 abbrev pub receiver_in : Station → ℕ → Data → Checked PlainReceiver
 receiver_in top number value =
@@ -60,7 +77,8 @@ receiver_in top number value =
     number_at (key.Delay number) (codes "delay_ms") 0 MOST_DELAY DEFAULT_DELAY value >>= (λ delay.
     number_at (key.Weight number) (codes "weight") LEAST_WEIGHT MOST_WEIGHT DEFAULT_WEIGHT value >>= (λ weight.
     optional top (station_in (key.ReceiverStation number)) (get (codes "station") value) >>= (λ station.
-    Ok (record { name = name; file = file; tuning = record { delay = delay; weight = weight }; station = station }))))))
+    if_given (cost_table_in (Some number)) (get (codes "table") value) >>= (λ own.
+    Ok (record { name = name; file = file; tuning = record { delay = delay; weight = weight; table = own }; station = station })))))))
 
 -- the receivers' tables: tables only, 1 to 8 of them
 abbrev pub tables_in : Data → Checked (List Data)
@@ -69,22 +87,17 @@ tables_in value =
     >>= all_of_kind key.Receiver (list_all is_table)
     >>= in_range key.Receiver (λ entries. nat_le 1 (length entries) && nat_le (length entries) MOST_RECEIVERS)
 
--- the cost table
-abbrev pub cost_table_in : Data → Checked CostTable
-cost_table_in value =
-    if is_table value
-    then (
-    optional difference_table.low (costs_in key.Low) (get (codes "low") value) >>= (λ low.
-    optional difference_table.high (costs_in key.High) (get (codes "high") value) >>= (λ high.
-    Ok (record { low = low; high = high })))
-    )
-    else Err (WrongKind key.CostTable)
+-- no unknown key stands in the cost table of what may have one
+abbrev pub table_known : Data → Bool
+table_known value = option_map_or (knows_all OfTable) (get (codes "table") value) true
 
--- no unknown key stands at the top, in a receiver or in the cost table
+-- no unknown key stands in a receiver or in its cost table
+abbrev pub receiver_known : Data → Bool
+receiver_known value = knows_all OfReceiver value && table_known value
+
+-- no unknown key stands at the top, in a receiver or in a cost table
 abbrev pub all_known : Data → List Data → Bool
-all_known config receivers =
-    knows_all Top config && list_all (knows_all OfReceiver) receivers
-    && option_map_or (knows_all OfTable) (get (codes "table") config) true
+all_known config receivers = knows_all Top config && list_all receiver_known receivers && table_known config
 
 -- the configuration of a table, or the first fault in the order of the keys; an unknown key comes last
 abbrev pub configuration_in : Data → Checked PlainConfig
@@ -93,7 +106,7 @@ configuration_in config =
     number_at key.Ceiling (codes "ceiling") 0 GREATEST_COST DEFAULT_CEILING config >>= (λ ceiling.
     required key.Receiver (get (codes "receiver") config) >>= tables_in >>= (λ tables.
     each (receiver_in station) 1 tables >>= (λ receivers.
-    optional difference_table cost_table_in (get (codes "table") config) >>= (λ costs.
+    optional difference_table (cost_table_in None) (get (codes "table") config) >>= (λ costs.
     if all_known config tables
     then Ok (record { station = station; ceiling = ceiling; receivers = receivers; costs = costs })
     else Err UnknownKey)))))

@@ -1,6 +1,9 @@
 -- What examples of configurations are about.
-use Rattle.std.specs.Prelude.{ℕ, pos, List, [], ◌∷◌, codes, replicate}
+use Rattle.std.specs.Prelude.{ℕ, pos, List, [], ◌∷◌, codes, replicate, Some, None}
 use Rattle.signal_base.specs.declared.station.Station.{Station}
+use Rattle.signal_base.specs.declared.station.Station.TheVariants.{Jjy}
+use Rattle.signal_base.specs.declared.tuning.CostTable.{CostTable}
+use Rattle.signal_base.specs.Table.{difference_table}
 use Rattle.toml.specs.Data.{Data, Items, Members, array, integer, item, member, no_items, no_members, string, table}
 use Rattle.bank_config.specs.Configuration.{PlainReceiver}
 
@@ -25,13 +28,30 @@ receiver_with more = table (members_of ((codes "name", string (codes "north")) �
 -- such a receiver, with this delay and this weight
 abbrev pub receiver_tuned : ℕ → ℕ → Station → PlainReceiver
 receiver_tuned delay weight station =
-    record { name = codes "north"; file = codes "n.log"; tuning = record { delay = delay; weight = weight }; station = station }
+    record { name = codes "north"; file = codes "n.log"; tuning = record { delay = delay; weight = weight; table = None }; station = station }
 
--- a configuration of JJY with this ceiling and so many such receivers
-abbrev pub configured : ℕ → ℕ → Data
-configured ceiling receivers =
+-- a cost table under its key, with these keys and values
+abbrev pub costing : List (List ℕ × Data) → List (List ℕ × Data)
+costing keys = (codes "table", table (members_of keys)) ∷ []
+
+-- the default table, where a second costs so much at the most
+abbrev pub at_most : ℕ → CostTable
+at_most most = record { low = difference_table.low; high = difference_table.high; second = Some most }
+
+-- the receiver of JJY with this table of its own
+abbrev pub receiver_costing : CostTable → PlainReceiver
+receiver_costing own =
+    record { name = codes "north"; file = codes "n.log"; tuning = record { delay = 0; weight = 1; table = Some own }; station = Jjy }
+
+-- a configuration of JJY with this ceiling and these receivers, with these keys besides
+abbrev pub configured_with : ℕ → List Data → List (List ℕ × Data) → Data
+configured_with ceiling receivers more =
     table (members_of ((codes "station", string (codes "jjy")) ∷ (codes "ceiling", number ceiling)
-    ∷ (codes "receiver", array (items_of (replicate receivers (receiver_with [])))) ∷ []))
+    ∷ (codes "receiver", array (items_of receivers)) ∷ more))
+
+-- a configuration of JJY with this ceiling and so many receivers that give their names and their logs alone
+abbrev pub configured : ℕ → ℕ → Data
+configured ceiling receivers = configured_with ceiling (replicate receivers (receiver_with [])) []
 
 -- a list of 101 such costs
 abbrev pub costs_of : ℕ → Data

@@ -9,8 +9,8 @@ use Rattle.bank_config.specs.declared.places.Place.TheVariants.{Top, OfReceiver,
 -- the keys that may stand there
 abbrev pub known_keys : Place → List (List ℕ)
 known_keys Top = codes "station" ∷ codes "ceiling" ∷ codes "receiver" ∷ codes "table" ∷ []
-known_keys OfReceiver = codes "name" ∷ codes "log" ∷ codes "delay_ms" ∷ codes "weight" ∷ codes "station" ∷ []
-known_keys OfTable = codes "low" ∷ codes "high" ∷ []
+known_keys OfReceiver = codes "name" ∷ codes "log" ∷ codes "delay_ms" ∷ codes "weight" ∷ codes "station" ∷ codes "table" ∷ []
+known_keys OfTable = codes "low" ∷ codes "high" ∷ codes "second" ∷ []
 
 abbrev pub is_known : Place → List ℕ → Bool
 is_known place key = list_any (bytes_eq key) (known_keys place)

@@ -9,7 +9,7 @@ pub struct Receiver {
     pub name: String,
     /// The name of the file with its log, 1 to 200 bytes, the first not `-`.
     pub file: String,
-    /// How it lags and how much it counts.
+    /// How it lags, how much it counts, and its own cost table, if it has one.
     pub tuning: Tuning,
     /// The station that it listens to.
     pub station: Station,
@@ -24,6 +24,6 @@ pub struct Config {
     pub ceiling: u32,
     /// The receivers in the order of the text, 1 to 8.
     pub receivers: Vec<Receiver>,
-    /// What a tenth of a second costs.
+    /// What a tenth of a second costs each receiver without a table of its own.
     pub table: CostTable,
 }

@@ -39,12 +39,26 @@ pub enum Key {
         /// The receiver.
         receiver: u8,
     },
-    /// `table`, the cost table.
-    CostTable,
-    /// `low` of the cost table.
-    Low,
-    /// `high` of the cost table.
-    High,
+    /// `table`, a cost table.
+    CostTable {
+        /// The receiver whose own it is; none for the bank's.
+        receiver: Option<u8>,
+    },
+    /// `low` of a cost table.
+    Low {
+        /// The receiver whose own it is; none for the bank's.
+        receiver: Option<u8>,
+    },
+    /// `high` of a cost table.
+    High {
+        /// The receiver whose own it is; none for the bank's.
+        receiver: Option<u8>,
+    },
+    /// `second` of a cost table.
+    Second {
+        /// The receiver whose own it is; none for the bank's.
+        receiver: Option<u8>,
+    },
 }
 
 /// Why a configuration isn't read.
@@ -67,7 +81,7 @@ pub enum ConfigFault {
         /// The key.
         key: Key,
     },
-    /// All known keys are fine, and another stands at the top, in a receiver or in the cost table.
+    /// All known keys are fine, and another stands at the top, in a receiver or in a cost table.
     UnknownKey,
     /// Memory wasn't found.
     NoMemory,

@@ -16,7 +16,7 @@ pub(crate) enum Place {
     Top,
     /// A receiver.
     OfReceiver,
-    /// The cost table.
+    /// A cost table, of the bank or of a receiver.
     OfTable,
 }
 
@@ -43,17 +43,19 @@ fn is_receiver_key(key: &str) -> bool
         "delay_ms" => true,
         "weight" => true,
         "station" => true,
+        "table" => true,
         _ => false,
     }
 }
 
-// Whether this key may stand in the cost table.
+// Whether this key may stand in a cost table.
 fn is_table_key(key: &str) -> bool
     ensures { result ≡ is_known OfTable key.now }
 {
     match key {
         "low" => true,
         "high" => true,
+        "second" => true,
         _ => false,
     }
 }

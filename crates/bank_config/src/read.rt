@@ -1,15 +1,14 @@
 //! Reading a configuration's text.
 
-ghost use Rattle.std.specs.Prelude.{ℕ, ◌≡◌, ◌≤◌, ◌≢◌, map, length, slice_index, vec_len, codes, All, IfOk, IfErr};
+ghost use Rattle.std.specs.Prelude.{ℕ, ◌≡◌, ◌≤◌, ◌≢◌, map, length, slice_index, vec_len, codes, All, IfOk, IfErr, Some, None};
 ghost use Rattle.std.specs.List.{list_all};
-ghost use Rattle.signal_base.specs.Limits.{IsPriced};
+ghost use Rattle.std.specs.Option.{ForSome};
+ghost use Rattle.signal_base.specs.Limits.{IsCap, IsPriced};
 ghost use Rattle.signal_base.specs.Table.{difference_table};
 ghost use Rattle.bank_config.specs.declared.fault.ConfigFault.TheVariants.{NoMemory};
-ghost use Rattle.bank_config.specs.declared.places.Place.TheVariants.{OfReceiver};
-ghost use Rattle.bank_config.specs.Checked.{Gives, GivesOrNoMemory, optional};
-ghost use Rattle.bank_config.specs.Configuration.{all_known, configuration_in, configuration_of, cost_table_in, plain_config, plain_receiver, receiver_in};
+ghost use Rattle.bank_config.specs.Checked.{Gives, GivesOrNoMemory, if_given, optional};
+ghost use Rattle.bank_config.specs.Configuration.{all_known, configuration_in, configuration_of, cost_table_in, plain_config, plain_receiver, receiver_in, receiver_known, second_at, table_known};
 ghost use Rattle.bank_config.specs.InRange.{IsInRange, IsReceiverInRange};
-ghost use Rattle.bank_config.specs.Places.{knows_all};
 ghost use Rattle.bank_config.specs.Values.{costs_in, each, station_in};
 ghost use Rattle.toml.specs.Data.{get};
 ghost use Rattle.toml.specs.View.{view};
@@ -18,11 +17,11 @@ use crate::limits::{CONFIG_LIMIT, COSTS, DEFAULT_CEILING, DEFAULT_DELAY, DEFAULT
 use crate::lists::{costs_in, tables_in};
 use crate::places::Place;
 use crate::tables::may_make_too_many;
-use crate::values::{file_at, name_at, number_at, required, station_in};
+use crate::values::{file_at, name_at, number_at, number_in, required, station_in};
 use crate::{Config, ConfigFault, Key, Receiver};
 use signal_base::{
-    CostTable, GREATEST_COST, LEAST_WEIGHT, MOST_COST, MOST_DELAY, MOST_RECEIVERS, MOST_WEIGHT,
-    Station, Tuning,
+    CostTable, GREATEST_COST, LEAST_SECOND_COST, LEAST_WEIGHT, MOST_COST, MOST_DELAY,
+    MOST_RECEIVERS, MOST_SECOND_COST, MOST_WEIGHT, Station, Tuning,
 };
 use std::alloc::Global;
 use toml::Value;
@@ -34,6 +33,20 @@ fn station_at(table: &Value, receiver: u8, top: Station) -> Result<Station, Conf
     match table.get("station") {
         Some(value) => station_in(value, Key::ReceiverStation { receiver }),
         None => Ok(top),
+    }
+}
+
+// The receiver's own cost table, if it gives one.
+fn own_table_at(table: &Value, receiver: u8) -> Result<Option<CostTable>, ConfigFault>
+    ensures priced { IfOk result (λ own. ForSome own IsPriced) }
+    ensures costs { Gives (λ own. own) result (if_given (cost_table_in (Some receiver)) (get (codes "table") (view table.now))) }
+{
+    match table.get("table") {
+        Some(value) => {
+            let own = cost_table_in(value, Some(receiver))?;
+            Ok(Some(own))
+        }
+        None => Ok(None),
     }
 }
 
@@ -66,6 +79,7 @@ fn receiver_in(
         DEFAULT_WEIGHT as u32,
     )?;
     let station = station_at(table, receiver, top)?;
+    let own = own_table_at(table, receiver)?;
     let name = String::from_str(alloc, name)?;
     let file = String::from_str(alloc, file)?;
     Ok(Receiver {
@@ -74,6 +88,7 @@ fn receiver_in(
         tuning: Tuning {
             delay: delay as u16,
             weight: weight as u8,
+            table: own,
         },
         station,
     })
@@ -98,30 +113,51 @@ fn receivers_in(alloc: Global, tables: &[Value], top: Station) -> Result<Vec<Rec
 // The cost table that the configuration gives, or else the one that counts the milliseconds that differ.
 fn cost_table_at(config: &Value) -> Result<CostTable, ConfigFault>
     ensures priced { IfOk result IsPriced }
-    ensures costs { Gives (λ costs. costs) result (optional difference_table cost_table_in (get (codes "table") (view config.now))) }
+    ensures costs { Gives (λ costs. costs) result (optional difference_table (cost_table_in None) (get (codes "table") (view config.now))) }
 {
     match config.get("table") {
-        Some(value) => cost_table_in(value),
+        Some(value) => cost_table_in(value, None),
         None => Ok(CostTable::default()),
     }
 }
 
-fn cost_table_in(table: &Value) -> Result<CostTable, ConfigFault>
-    ensures costs { Gives (λ costs. costs) result (cost_table_in (view table.now)) }
+// The cost table of a receiver, or of the bank. What it leaves out is as in the table that counts the milliseconds that differ.
+fn cost_table_in(table: &Value, receiver: Option<u8>) -> Result<CostTable, ConfigFault>
+    ensures costs { Gives (λ costs. costs) result (cost_table_in receiver (view table.now)) }
     ensures priced { IfOk result IsPriced }
 {
     if !table.is_table() {
         return Err(ConfigFault::WrongKind {
-            key: Key::CostTable,
+            key: Key::CostTable { receiver },
         });
     }
     let usual = CostTable::default();
-    let low = costs_at(table, "low", Key::Low, usual.low)?;
-    let high = costs_at(table, "high", Key::High, usual.high)?;
-    Ok(CostTable { low, high })
+    let low = costs_at(table, "low", Key::Low { receiver }, usual.low)?;
+    let high = costs_at(table, "high", Key::High { receiver }, usual.high)?;
+    let second = second_at(table, Key::Second { receiver })?;
+    Ok(CostTable { low, high, second })
 }
 
-// The costs at a key of the cost table, or else the usual ones.
+// What a second costs at the most, if the cost table gives it.
+fn second_at(table: &Value, key: Key) -> Result<Option<u16>, ConfigFault>
+    ensures second { Gives (λ second. second) result (second_at key (view table.now)) }
+    ensures cap { IfOk result (λ second. ForSome second IsCap) }
+{
+    match table.get("second") {
+        Some(value) => {
+            let most = number_in(
+                value,
+                key,
+                LEAST_SECOND_COST as u32,
+                MOST_SECOND_COST as u32,
+            )?;
+            Ok(Some(most as u16))
+        }
+        None => Ok(None),
+    }
+}
+
+// The costs at a key of a cost table, or else the usual ones.
 fn costs_at(
     table: &Value,
     word: &str,
@@ -138,13 +174,27 @@ fn costs_at(
     }
 }
 
-// Whether no unknown key stands in a receiver.
-fn receivers_known(tables: &[Value]) -> bool
-    ensures { result ≡ list_all (λ table. knows_all OfReceiver (view table)) tables.now }
+// Whether no unknown key stands in the cost table, if one is given here.
+fn table_known(holder: &Value) -> bool
+    ensures { result ≡ table_known (view holder.now) }
 {
-    tables
-        .iter()
-        .all(|table| Place::OfReceiver.knows_all(table))
+    match holder.get("table") {
+        Some(value) => Place::OfTable.knows_all(value),
+        None => true,
+    }
+}
+
+// Whether no unknown key stands in a receiver or in its cost table.
+fn receiver_known(receiver: &Value) -> bool
+    ensures { result ≡ receiver_known (view receiver.now) }
+{
+    Place::OfReceiver.knows_all(receiver) && table_known(receiver)
+}
+
+fn receivers_known(tables: &[Value]) -> bool
+    ensures { result ≡ list_all (λ table. receiver_known (view table)) tables.now }
+{
+    tables.iter().all(|table| receiver_known(table))
 }
 
 // Whether no unknown key stands anywhere.
@@ -154,10 +204,7 @@ fn all_known(config: &Value, tables: &[Value]) -> bool
     if !Place::Top.knows_all(config) || !receivers_known(tables) {
         return false;
     }
-    match config.get("table") {
-        Some(value) => Place::OfTable.knows_all(value),
-        None => true,
-    }
+    table_known(config)
 }
 
 // The configuration of a table.

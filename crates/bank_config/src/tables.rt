@@ -1,7 +1,7 @@
 //! How many tables a text may make, before any is made.
 
 /// How many tables the text of a configuration may make. While it is read, each takes some 1.2 KB. A configuration that is
-/// accepted has ten at most.
+/// accepted has 18 at most.
 pub const MOST_TABLES: usize = 80_000;
 
 /// Whether a text may make more tables than that, by the bytes `.`, `[` and `{`, one of which stands before each table but the

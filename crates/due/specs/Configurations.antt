@@ -12,7 +12,7 @@ use Rattle.bank_config.specs.declared.fault.ConfigFault.TheVariants.{NotToml, Mi
 use Rattle.bank_config.specs.Configuration.{PlainConfig, PlainReceiver, configuration_of}
 use Rattle.due.specs.LogFiles.{LogFile}
 
--- the name of a key, and the number of the receiver that it is of
+-- the name of a key, and the number of the receiver that it is of; the bank's cost table and its keys are of none
 abbrev pub name_of : Key → KeyName
 name_of key.Station = name.Station
 name_of key.Ceiling = name.Ceiling
@@ -22,9 +22,10 @@ name_of (key.File receiver) = name.Log
 name_of (key.Delay receiver) = name.Delay
 name_of (key.Weight receiver) = name.Weight
 name_of (key.ReceiverStation receiver) = name.Station
-name_of key.CostTable = name.Table
-name_of key.Low = name.Low
-name_of key.High = name.High
+name_of (key.CostTable receiver) = name.Table
+name_of (key.Low receiver) = name.Low
+name_of (key.High receiver) = name.High
+name_of (key.Second receiver) = name.Second
 
 abbrev pub receiver_of : Key → Option ℕ
 receiver_of (key.Name receiver) = Some receiver
@@ -32,6 +33,10 @@ receiver_of (key.File receiver) = Some receiver
 receiver_of (key.Delay receiver) = Some receiver
 receiver_of (key.Weight receiver) = Some receiver
 receiver_of (key.ReceiverStation receiver) = Some receiver
+receiver_of (key.CostTable receiver) = receiver
+receiver_of (key.Low receiver) = receiver
+receiver_of (key.High receiver) = receiver
+receiver_of (key.Second receiver) = receiver
 receiver_of other = None
 
 -- The line that a fault of a text gets. Want of memory is no fault of a text, and gets none.

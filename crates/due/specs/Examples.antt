@@ -1,5 +1,5 @@
 -- What examples of what is due are about.
-use Rattle.std.specs.Prelude.{ℕ, ◌==◌, if◌then◌else◌, List, [], ◌∷◌, ◌++◌, codes, map, replicate}
+use Rattle.std.specs.Prelude.{ℕ, ◌==◌, if◌then◌else◌, List, [], ◌∷◌, ◌++◌, codes, map, replicate, None}
 use Rattle.signal_base.specs.declared.station.Station.TheVariants.{Dcf77, Msf, Wwvb, Jjy}
 use Rattle.signal_base.specs.declared.tuning.CostTable.{CostTable}
 use Rattle.signal_base.specs.declared.window.Window.{Window}
@@ -34,8 +34,8 @@ two_receivers =
       station = Jjy;
       ceiling = 7;
       receivers =
-          record { name = codes "north"; file = codes "n.log"; tuning = record { delay = 0; weight = 1 }; station = Jjy }
-          ∷ record { name = codes "south"; file = codes "s.log"; tuning = record { delay = 30; weight = 2 }; station = Dcf77 } ∷ [];
+          record { name = codes "north"; file = codes "n.log"; tuning = record { delay = 0; weight = 1; table = None }; station = Jjy }
+          ∷ record { name = codes "south"; file = codes "s.log"; tuning = record { delay = 30; weight = 2; table = None }; station = Dcf77 } ∷ [];
       costs = difference_table;
     }
 
@@ -50,7 +50,7 @@ held config first second QueriesText = []
 
 -- a cost table whose two lists differ: 3 for each tenth where the symbol is low, 5 for each where it is high
 abbrev pub three_and_five : CostTable
-three_and_five = record { low = replicate 101 3; high = replicate 101 5 }
+three_and_five = record { low = replicate 101 3; high = replicate 101 5; second = None }
 
 -- two receivers of two stations, a table and a ceiling
 abbrev pub priced : PlainConfig

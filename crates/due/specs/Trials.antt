@@ -1,5 +1,5 @@
 -- The bank of a trial, and the window that is asked about.
-use Rattle.std.specs.Prelude.{ℕ, map, Some}
+use Rattle.std.specs.Prelude.{ℕ, map, Some, None}
 use Rattle.std.specs.List.{range_with_len}
 use Rattle.signal_base.specs.Table.{difference_table}
 use Rattle.signal_base.specs.declared.limits.TheConstants.{GREATEST_COST}
@@ -15,7 +15,7 @@ abbrev pub trial_receiver : ℕ → ℕ → Receiver
 trial_receiver number receiver =
     record {
       station = trial_station number;
-      heard = record { tuning = record { delay = 0; weight = 1 }; log = trial_records number receiver };
+      heard = record { tuning = record { delay = 0; weight = 1; table = None }; log = trial_records number receiver };
     }
 
 -- everything is admitted

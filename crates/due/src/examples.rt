@@ -13,14 +13,14 @@ ghost use Rattle.formats.specs.WordExamples.{asked, asked_usually, words_in};
 ghost use Rattle.formats.specs.declared.fault.LineFault.TheVariants.{NotRising};
 ghost use Rattle.formats.specs.declared.key.KeyName.TheVariants as name;
 ghost use Rattle.formats.specs.declared.option.OptionName.TheVariants.{Minute, Number, Seconds};
-ghost use Rattle.formats.specs.declared.refusal.Refusal.TheVariants.{ConfigOutOfRange, ConfigTooLarge, LogLine, LogTooLarge, WordsBad, WordsEmptyRange, WordsUsage};
+ghost use Rattle.formats.specs.declared.refusal.Refusal.TheVariants.{ConfigOutOfRange, ConfigTooLarge, ConfigWrongKind, LogLine, LogTooLarge, WordsBad, WordsEmptyRange, WordsUsage};
 ghost use Rattle.bank_config.specs.Configuration.{configuration_of};
-ghost use Rattle.bank_config.specs.declared.fault.ConfigFault.TheVariants.{OutOfRange};
+ghost use Rattle.bank_config.specs.declared.fault.ConfigFault.TheVariants.{OutOfRange, WrongKind};
 ghost use Rattle.bank_config.specs.declared.fault.Key.TheVariants as key;
 ghost use Rattle.due.specs.declared.due.Due.TheVariants.{Feed, Listing, Refused, Report, Trial};
 ghost use Rattle.due.specs.declared.status.Status.TheVariants.{BadCertificate, BadConfiguration, BadLog, BadQueries, BadWords, Done, Failed, NoMemory, Nothing, Undecided};
 ghost use Rattle.due.specs.Banks.{Bank, IsBankAnswer, by_station, duts_of, first_time, stations_heard, window_of};
-ghost use Rattle.due.specs.Configurations.{IsConfiguration, logs_of};
+ghost use Rattle.due.specs.Configurations.{IsConfiguration, fault_refusal, logs_of};
 ghost use Rattle.due.specs.Dues.{status_of, text_of};
 ghost use Rattle.due.specs.Examples.{falls_once, held, mixed, silent, two_receivers};
 ghost use Rattle.due.specs.Inputs.{Contents, LogOf};
@@ -114,6 +114,18 @@ pub fn bad_configurations()
     ensures text { text_of (Refused (ConfigOutOfRange name.Weight (Some 1))) ≡ line (codes "configuration: out of range receiver 1 weight") }
 {}
 
+/// What is refused of a cost table is named with the receiver whose own it is, and of the bank's with none.
+pub fn bad_tables()
+    ensures bank { fault_refusal (OutOfRange (key.Second None)) ≡ Some (ConfigOutOfRange name.Second None) }
+    ensures second { fault_refusal (OutOfRange (key.Second (Some 1))) ≡ Some (ConfigOutOfRange name.Second (Some 1)) }
+    ensures low { fault_refusal (WrongKind (key.Low (Some 8))) ≡ Some (ConfigWrongKind name.Low (Some 8)) }
+    ensures high { fault_refusal (OutOfRange (key.High (Some 1))) ≡ Some (ConfigOutOfRange name.High (Some 1)) }
+    ensures table { fault_refusal (WrongKind (key.CostTable (Some 1))) ≡ Some (ConfigWrongKind name.Table (Some 1)) }
+    ensures bank_text { text_of (Refused (ConfigOutOfRange name.Second None)) ≡ line (codes "configuration: out of range second") }
+    ensures second_text { text_of (Refused (ConfigOutOfRange name.Second (Some 1))) ≡ line (codes "configuration: out of range receiver 1 second") }
+    ensures table_text { text_of (Refused (ConfigWrongKind name.Table (Some 1))) ≡ line (codes "configuration: wrong kind receiver 1 table") }
+{}
+
 /// The logs of two receivers, which are numbered from 1.
 pub fn logs_of_two_receivers()
     ensures { logs_of two_receivers
@@ -165,7 +177,7 @@ pub fn bank_of_a_trial()
     ensures asked { trial_asked ≡ asked (Some 0) 1200 0 52_596_000 }
     ensures receivers { length (trial_bank 29).receivers ≡ 8 }
     ensures ceiling { (number : ℕ) → (trial_bank number).ceiling ≡ 1_920_000_000 }
-    ensures tuning { (number receiver : ℕ) → (trial_receiver number receiver).heard.tuning ≡ record { delay = 0; weight = 1 } }
+    ensures tuning { (number receiver : ℕ) → (trial_receiver number receiver).heard.tuning ≡ record { delay = 0; weight = 1; table = None } }
 {}
 
 /// What is due of trial 5: two receivers of MSF heard what was sent from 2009-07-04T05:35Z on, from second 5 of that minute.

@@ -20,12 +20,14 @@ pub enum KeyName {
     Delay,
     /// `weight` of a receiver.
     Weight,
-    /// `table`, the cost table.
+    /// `table`, the cost table of the bank or of a receiver.
     Table,
-    /// `low` of the cost table.
+    /// `low` of a cost table.
     Low,
-    /// `high` of the cost table.
+    /// `high` of a cost table.
     High,
+    /// `second` of a cost table.
+    Second,
 }
 
 impl KeyName {
@@ -45,6 +47,7 @@ impl KeyName {
             KeyName::Table => "table",
             KeyName::Low => "low",
             KeyName::High => "high",
+            KeyName::Second => "second",
         }
     }
 }

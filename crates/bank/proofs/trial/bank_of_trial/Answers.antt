@@ -1,5 +1,5 @@
 -- Each text is the log of its receiver.
-use Rattle.std.proofs.Common.{◌≡◌, ℕ, List, [], ◌∷◌, ◌++◌, ◌+◌, ◌-◌, length, map, zero-add, refl, sym, ap, ◌∙◌, subst, arith}
+use Rattle.std.proofs.Common.{◌≡◌, ℕ, List, [], ◌∷◌, ◌++◌, ◌+◌, ◌-◌, length, map, zero-add, None, refl, sym, ap, ◌∙◌, subst, arith}
 use Rattle.std.specs.List.{range_with_len}
 use Rattle.std.proofs.lemmas.List.{length-append}
 use Rattle.std.proofs.lemmas.List.Elements.{All-append, All-cons, All-nil}
@@ -30,7 +30,7 @@ loop-i-preserved c =
     let ts = c.loop-i.tunings.items in
     let logs = c.loop-i.logs.items in
     let IsSame : Station → Type 0 = λ s. s ≡ c.args.station in
-    let tuning : Tuning = record { delay = 0; weight = 1 } in
+    let tuning : Tuning = record { delay = 0; weight = 1; table = None } in
     let e = text_is c.args.texts.now (λ t. t.items) number i c.index-texts-i.result c.requires.texts (omega arith) c.index-texts-i.is in
     let is = c.in-Ok.ensures.every_log (trial_records number i) (subst (λ (b : List ℕ). IsLog b (trial_records number i)) (sym (c.as_slice.ensures.value ∙ e)) (c.trials_are_logs.ensures.heard number i)) in
     let one : Receiver = record { station = c.args.station; heard = record { tuning = tuning; log = c.in-Ok.log } } in
@@ -45,7 +45,7 @@ loop-i-preserved c =
       tunings = ap length c.in_ok-push-2.ensures.items ∙ length-append ts (tuning ∷ []) ∙ ap (λ n. n + 1) inv.tunings;
       logs = ap length c.in_ok-push-3.ensures.items ∙ length-append logs (c.in-Ok.log ∷ []) ∙ ap (λ n. n + 1) inv.logs;
       tuned = rw c.in_ok-push-2.ensures.items
-          (All-append IsTuned ts (tuning ∷ []) inv.tuned (All-cons IsTuned tuning [] (record { delay = omega arith; some_weight = omega arith; weight = omega arith }) (All-nil IsTuned)));
+          (All-append IsTuned ts (tuning ∷ []) inv.tuned (All-cons IsTuned tuning [] (record { delay = omega arith; some_weight = omega arith; weight = omega arith; priced = λ table e. cc }) (All-nil IsTuned)));
       same = rw c.in_ok-push.ensures.items (All-append IsSame ss (c.args.station ∷ []) inv.same (All-cons IsSame c.args.station [] refl (All-nil IsSame)));
       in_order = rw c.in_ok-push.ensures.items
           (IsNonDecreasingBy-push number_of ss c.args.station inv.in_order (λ d some. let last = ap number_of (inv.same (length ss - 1) d (omega arith)) in omega arith));

@@ -12,11 +12,7 @@ returns-then-not-knows_all c =
           all_known-not_receivers (view c.args.config.now) c.args.tables.now (sym c.knows_all.ensures ∙ w.if-not-knows_all.false) (sym w.receivers_known.ensures ∙ w.if-not-receivers_known.true)
     ]
 
-pub returns-in-Some : goal.returns-in-Some
-returns-in-Some c =
-    c.knows_all-in-Some.ensures
-    ∙ all_known-by_table (view c.args.config.now) c.args.tables.now _ (sym c.knows_all.ensures ∙ c.if-not-knows_all.false) (sym c.receivers_known.ensures ∙ c.if-not-receivers_known.false) c.in-Some.ensures
-
-pub returns-in-None : goal.returns-in-None
-returns-in-None c =
-    all_known-by_table (view c.args.config.now) c.args.tables.now _ (sym c.knows_all.ensures ∙ c.if-not-knows_all.false) (sym c.receivers_known.ensures ∙ c.if-not-receivers_known.false) c.in-None.ensures
+pub returns : goal.returns
+returns c =
+    c.table_known.ensures
+    ∙ all_known-by_table (view c.args.config.now) c.args.tables.now (sym c.knows_all.ensures ∙ c.if-not-knows_all.false) (sym c.receivers_known.ensures ∙ c.if-not-receivers_known.false)
