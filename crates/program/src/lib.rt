@@ -22,9 +22,9 @@ mod tests;
 
 pub use command_line::{CommandLine, HostLine, NoWords};
 pub use commands::{families_of_words, family_of};
-pub use ending::{end, exit_code, status};
-pub use family::Family;
+pub use ending::{Exited, end, exit_code, status};
+pub use family::{Family, Returning};
 pub use host::run_on;
 pub use machine::HostMachine;
 pub use progress::Progress;
-pub use running::{Ended, answer, run};
+pub use running::{Ended, answer, run, run_board, run_returning};
