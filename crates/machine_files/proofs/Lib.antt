@@ -3,4 +3,4 @@ mod Appending
 mod Telling
 mod MemoryLaws
 mod DiskLaws
-mod SeeingLaws
+pub mod SeeingLaws

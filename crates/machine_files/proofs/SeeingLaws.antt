@@ -1,5 +1,6 @@
 -- Without a fault, files are seen as the disk tells them.
 use Rattle.std.proofs.Common.{◌≡◌, ◌≢◌, ◌<◌, ℕ, Bool, true, false, if◌then◌else◌, List, refl, ◌∙◌, ap, arith}
+use Rattle.std.proofs.lemmas.Bool.{false≢true}
 use Rattle.std.proofs.lemmas.Slice.Eq.{bytes_eq-Decides}
 use Rattle.std.specs.Str.{bytes_eq}
 use Rattle.bank_files.specs.Seen.{Seen}
@@ -24,3 +25,7 @@ seen_without_fault disk failures seen name through none other =
     let counted : seen.write_faults name ≡ through.1 = ap (λ (s : Seen). s.write_faults name) through.4 in
     ap (λ (s : Seen). s.told name) through.4
     ∙ told_without_doubt disk through.0 name (λ doubt. let some : 0 < through.1 = through.3 doubt in omega (arith, some, none, counted)) other
+
+-- a file of which nothing is in doubt is seen as the disk tells it
+pub told_of_a_file : (disk : Disk) (name : List ℕ) → name ≢ output_name → told_of disk false name ≡ told_at disk (disk.entry name)
+told_of_a_file disk name other = told_without_doubt disk false name (λ doubt. absurd (false≢true doubt)) other

@@ -1,6 +1,6 @@
 //! What is seen of files through a machine: a law, and worked examples that the checker computes from the definitions alone.
 
-ghost use Rattle.std.specs.Prelude.{ℕ, ◌≡◌, ◌≢◌, List, codes, false, true};
+ghost use Rattle.std.specs.Prelude.{ℕ, ◌≡◌, ◌≢◌, [], List, codes, false, true};
 ghost use Rattle.bank_files.specs.Seen.{Seen};
 ghost use Rattle.bank_files.specs.Told.{output_name};
 ghost use Rattle.machine_files.specs.Disk.{Disk, told_at};
@@ -15,11 +15,11 @@ pub fn without_a_fault_files_are_as_the_disk_tells()
 
 /// What is seen of a disk with one file, and what isn't.
 pub fn what_is_seen_of_one_file()
-    ensures told { IsSeenThrough (disk_with (codes "ab")) 0 (seen_of (disk_with (codes "ab")) false 0) }
-    ensures in_doubt { IsSeenThrough (disk_with (codes "ab")) 1 (seen_of (disk_with (codes "ab")) true 1) }
+    ensures told { IsSeenThrough (disk_with (codes "ab") []) 0 (seen_of (disk_with (codes "ab") []) false 0) }
+    ensures in_doubt { IsSeenThrough (disk_with (codes "ab") []) 1 (seen_of (disk_with (codes "ab") []) true 1) }
     ensures doubt_without_a_fault { (failures : ℕ)
-        → ¬ (IsSeenThrough (disk_with (codes "ab")) failures (seen_of (disk_with (codes "ab")) true 0)) }
-    ensures a_fault_without_a_failure { ¬ (IsSeenThrough (disk_with (codes "ab")) 0 (seen_of (disk_with (codes "ab")) false 1)) }
+        → ¬ (IsSeenThrough (disk_with (codes "ab") []) failures (seen_of (disk_with (codes "ab") []) true 0)) }
+    ensures a_fault_without_a_failure { ¬ (IsSeenThrough (disk_with (codes "ab") []) 0 (seen_of (disk_with (codes "ab") []) false 1)) }
     ensures emptied { (failures : ℕ)
-        → ¬ (IsSeenThrough (disk_with (codes "")) failures (seen_of (disk_with (codes "ab")) false 0)) }
+        → ¬ (IsSeenThrough (disk_with [] []) failures (seen_of (disk_with (codes "ab") []) false 0)) }
 {}

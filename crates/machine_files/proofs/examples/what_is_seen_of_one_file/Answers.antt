@@ -20,7 +20,7 @@ untold_holds bytes same = absurd cc
 
 pub returns-clause-doubt_without_a_fault : goal.returns-clause-doubt_without_a_fault
 returns-clause-doubt_without_a_fault c failures through =
-    untold_holds (codes "ab") (seen_without_fault (disk_with (codes "ab")) failures (seen_of (disk_with (codes "ab")) true 0) (codes "k.toml") through refl no_output)
+    untold_holds (codes "ab") (seen_without_fault (disk_with (codes "ab") []) failures (seen_of (disk_with (codes "ab") []) true 0) (codes "k.toml") through refl no_output)
 
 pub returns-clause-a_fault_without_a_failure : goal.returns-clause-a_fault_without_a_failure
 returns-clause-a_fault_without_a_failure c through =
@@ -33,4 +33,4 @@ two_letters_or_none same = absurd cc
 
 pub returns-clause-emptied : goal.returns-clause-emptied
 returns-clause-emptied c failures through =
-    two_letters_or_none (seen_without_fault (disk_with (codes "")) failures (seen_of (disk_with (codes "ab")) false 0) (codes "k.toml") through refl no_output)
+    two_letters_or_none (seen_without_fault (disk_with [] []) failures (seen_of (disk_with (codes "ab") []) false 0) (codes "k.toml") through refl no_output)
