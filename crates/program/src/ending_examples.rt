@@ -14,7 +14,7 @@ ghost use Rattle.program.specs.Families.{plan_for};
 ghost use Rattle.program.specs.HeardRuns.{EndsHeard};
 ghost use Rattle.program.specs.Runs.{HasRunOn};
 
-use due::{due_is_one, words_that_are_refused};
+use due::{one_thing_is_owed, words_that_are_refused};
 
 /// A run that ends otherwise than with 6 changes no file but standard output and those that its plan names. `tsheard` names none.
 pub fn runs_leave_other_files()
@@ -53,6 +53,6 @@ pub fn what_a_run_without_words_does()
     ensures not_by_its_output { ¬ ((words : List (List ℕ)) (old some other : Disk) (failures status : ℕ) → other.output ≡ some.output
         → HasRunOn (plan_for [] words) old some failures status → HasRunOn (plan_for [] words) old other failures status) }
 {
-    due_is_one();
+    one_thing_is_owed();
     words_that_are_refused();
 }

@@ -92,14 +92,7 @@ pub fn answer<
     R: Threads + Sync,
     F: Files,
     G: Gate + CertificateGate + PhaseGate + WindowGate + Sync,
->(
-    rt: &R,
-    alloc: Global,
-    commands: Returning,
-    words: &[String],
-    files: &mut F,
-    gate: &G,
-) -> u8
+>(rt: &R, alloc: Global, commands: Returning, words: &[String], files: &mut F, gate: &G) -> u8
     ensures { HasRun (returning_plan commands (texts_of words.now)) (F.view files.old) (F.view files.new) result }
 {
     match commands {
