@@ -27,7 +27,7 @@ abbrev pub IsInSome : List Block → Sequence → Type 0
 IsInSome [] q = ⊥
 IsInSome (b ∷ bs) q = IsIn b q ⊎ IsInSome bs q
 
-in_some_then : (xs ys : List Block) (q : Sequence) → IsInSome xs q → IsInSome (xs ++ ys) q
+pub in_some_then : (xs ys : List Block) (q : Sequence) → IsInSome xs q → IsInSome (xs ++ ys) q
 in_some_then [] ys q is = absurd is
 in_some_then (x ∷ xs) ys q (inl is) = inl is
 in_some_then (x ∷ xs) ys q (inr is) = inr (in_some_then xs ys q is)

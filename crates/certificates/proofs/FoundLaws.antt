@@ -31,6 +31,11 @@ second_of s true true lt = lt
 second_of s true false lt = omega arith
 second_of s false ends lt = lt
 
+-- a legal sequence is in exactly one item
+pub in_one_item : (costs : Costs) (window : Window) {ceiling : ℕ} → Facts costs window ceiling → (q : Sequence) → IsLegal window q → IsInOne (items window) q
+in_one_item costs window facts q legal =
+    facts.one_item q legal.0.not_before legal.0.before_end (second_of q.second q.announced (is_leap_end q.first) legal.0.second)
+
 -- what each block of a list has, one of them has
 pub one_has : (P : Block → Type 0) (cs : List Block) (b : Block) → AllByRecursion P cs → IsOneOf cs b → P b
 one_has P [] b all is = absurd is
@@ -47,7 +52,7 @@ in_one_of [] b q is in_it = absurd is
 in_one_of (c ∷ cs) b q (inl is) in_it = inl (subst (λ c. IsIn c q) (sym is) in_it)
 in_one_of (c ∷ cs) b q (inr is) in_it = inr (in_one_of cs b q is in_it)
 
-in_some_of : (cs bs : List Block) (q : Sequence) → AllByRecursion (IsOneOf bs) cs → IsInSome cs q → IsInSome bs q
+pub in_some_of : (cs bs : List Block) (q : Sequence) → AllByRecursion (IsOneOf bs) cs → IsInSome cs q → IsInSome bs q
 in_some_of [] bs q all some = absurd some
 in_some_of (c ∷ cs) bs q all (inl in_it) = in_one_of bs c q all.0 in_it
 in_some_of (c ∷ cs) bs q all (inr some) = in_some_of cs bs q all.1 some
@@ -147,9 +152,6 @@ module _ (costs : Costs) (window : Window) (ceiling : ℕ) (facts : Facts costs 
   visits_are : AreVisits costs window GREATEST_COST blocks (reads_of limit ls) (leaf_keys ls)
   visits_are = as_visits costs window facts limit blocks ls are_blocks walks
 
-  in_one_item : (q : Sequence) → IsLegal window q → IsInOne (items window) q
-  in_one_item q legal = facts.one_item q legal.0.not_before legal.0.before_end (second_of q.second q.announced (is_leap_end q.first) legal.0.second)
-
   -- the leaves' keys are of sequences that can be admitted
   pub leaves_admitted : AllByRecursion (IsWindowKey window costs GREATEST_COST) (leaf_keys ls)
   leaves_admitted =
@@ -186,7 +188,7 @@ module _ (costs : Costs) (window : Window) (ceiling : ℕ) (facts : Facts costs 
       let is = All-contains (IsWindowKey window costs GREATEST_COST) (leaf_keys ls) k (All-from_recursion (IsWindowKey window costs GREATEST_COST) (leaf_keys ls) leaves_admitted) has in
       let most = offers_no_more costs window GREATEST_COST facts (reads_of limit ls) blocks (leaf_keys ls) (sequence_cost costs window is.0) is.0 are_blocks visits_are
       (legal_is_sequence costs window GREATEST_COST facts is.0 is.1.0) in
-      let once = counts_once (items window) blocks is.0 (in_one_item is.0 is.1.0) each.only each.once in
+      let once = counts_once (items window) blocks is.0 (in_one_item costs window facts is.0 is.1.0) each.only each.once in
       subst (λ x. times x (leaf_keys ls) ≤ 1) is.2 (omega (arith, most, once)))
       (no_times k (leaf_keys ls))
 
@@ -197,7 +199,7 @@ module _ (costs : Costs) (window : Window) (ceiling : ℕ) (facts : Facts costs 
   pub met : (n : ℕ) → P n → Contains keys n ⊎ (limit < n)
   met n is =
       let wider : sequence_cost costs window is.0 ≤ GREATEST_COST = omega (arith, is.1.1, small) in
-      let some : IsInSome blocks is.0 = in_some_of (items window) blocks is.0 each.all (in_some_from_one (items window) is.0 (in_one_item is.0 is.1.0)) in
+      let some : IsInSome blocks is.0 = in_some_of (items window) blocks is.0 each.all (in_some_from_one (items window) is.0 (in_one_item costs window facts is.0 is.1.0)) in
       ⊎_elim
       (λ has. inl (contains_up_to (ceiling_key ceiling) n (leaf_keys ls) (keys_below n is) (subst (λ k. Contains (leaf_keys ls) k) is.2 has)))
       (λ over. inr (omega (arith, over, is.2)))

@@ -7,6 +7,7 @@ pub mod LeadLaws
 pub mod OutcomeLaws
 pub mod WalkLaws
 pub mod FoundLaws
+pub mod CoverLaws
 pub mod GoodLaws
 pub mod VerdictLaws
 pub mod ValidLaws
@@ -16,3 +17,4 @@ pub mod BadLineLaws
 pub mod ExampleLaws
 pub mod HourLaws
 pub mod TightWalkLaws
+pub mod YearLaws

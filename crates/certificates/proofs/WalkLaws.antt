@@ -83,7 +83,7 @@ module _ (costs : Costs) (window : Window) (facts : Facts costs window GREATEST_
   same_opening Leaf b (Some n) block shape above =
       ap (λ t. if t then children b else []) (is_under b n block shape.1) ∙ ap (λ s. children_by s b) shape.0
 
-  opened_blocks : (kind : Kind) (b : Block) → IsBlock window b → AllByRecursion (IsBlock window) (opened_as kind b)
+  pub opened_blocks : (kind : Kind) (b : Block) → IsBlock window b → AllByRecursion (IsBlock window) (opened_as kind b)
   opened_blocks Opened b block = facts.blocks b block
   opened_blocks Pruned b block = tt
   opened_blocks Empty b block = tt

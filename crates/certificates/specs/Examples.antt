@@ -46,6 +46,10 @@ opened_hour =
 abbrev pub hour_certificate : Certificate
 hour_certificate = record { head = head_of two_minutes 1_000 (Some (116 * 2 ^ 33 + 700)) (Some (118 * 2 ^ 33 + 701)); parts = opened_hour ∷ [] ∷ [] }
 
+-- a certificate of one part that has this line alone, and names no key
+abbrev pub one_step : Line → Certificate
+one_step l = record { head = head_of two_minutes 1_000 None None; parts = (l ∷ []) ∷ [] }
+
 -- the text up to the first step
 abbrev pub text_to_steps : List ℕ
 text_to_steps = entries_text (head_entries last_head ++ Part 0 ∷ [])

@@ -5,15 +5,17 @@ ghost use Rattle.std.specs.List.{AllByRecursion};
 ghost use Rattle.signal_base.specs.declared.limits.TheConstants.{GREATEST_COST};
 ghost use Rattle.signal_base.specs.declared.window.Window.{Window};
 ghost use Rattle.definitions.specs.declared.block.Block.{Block};
+ghost use Rattle.definitions.specs.declared.sequence.Sequence.{Sequence};
 ghost use Rattle.definitions.specs.time.Calendar.{century_minutes};
 ghost use Rattle.definitions.specs.sequences.Keys.{cost_of};
+ghost use Rattle.definitions.specs.sequences.Walks.{IsLegal};
 ghost use Rattle.definitions.specs.heard.Costs.{Costs};
 ghost use Rattle.definitions.specs.answers.Answers.{IsWindowAnswer};
-ghost use Rattle.definitions.specs.answers.Blocks.{items, IsBlock, IsBound};
+ghost use Rattle.definitions.specs.answers.Blocks.{items, IsBlock, IsBound, IsIn};
 ghost use Rattle.definitions.specs.answers.FirstTwo.{AreLeastTwo, IsWindowKey, answer_from};
 ghost use Rattle.formats.specs.Refusals.{CertificateFault};
 ghost use Rattle.race_words.specs.Keys.{two_least};
-ghost use Rattle.certificates.specs.declared.certificate.Kind.TheVariants.{Pruned};
+ghost use Rattle.certificates.specs.declared.certificate.Kind.TheVariants.{Leaf, Pruned};
 ghost use Rattle.certificates.specs.declared.certificate.Line.{Line};
 ghost use Rattle.certificates.specs.declared.verdict.Verdict.{Verdict};
 ghost use Rattle.certificates.specs.declared.verdict.Verdict.TheVariants.{Certified};
@@ -59,6 +61,15 @@ pub fn valid_certificates_name_the_first_two()
 {
     blocks_share_the_sequences();
     the_least_two_are_the_answer();
+}
+
+/// A valid certificate leaves nothing out: each legal sequence of the window lies in the block of a line that is a leaf, or in one
+/// that was pruned. In an empty block, and under no line, there is none.
+pub fn each_sequence_is_in_a_leaf_or_a_pruned_block()
+    ensures { (costs : Costs) (window : Window) (ceiling : ℕ) (c : Certificate) (q : Sequence) → IsValid costs window ceiling c → IsLegal window q
+        → (l : Line) × Contains (lines_of c) l × IsIn l.block q × ((l.kind ≡ Leaf) ⊎ (l.kind ≡ Pruned)) }
+{
+    blocks_share_the_sequences();
 }
 
 /// Walks of all items under the key of the second admitted sequence show the first two. So a certificate is written by walking

@@ -26,7 +26,7 @@ total_le zero f g le = omega arith
 total_le (suc n) f g le = omega (arith, total_le n f g (λ k lt. le k (omega arith)), le n (omega arith))
 
 -- a sum of sums
-total_plus : (n : ℕ) (f g : ℕ → ℕ) → sum_below n (λ k. f k + g k) ≡ sum_below n f + sum_below n g
+pub total_plus : (n : ℕ) (f g : ℕ → ℕ) → sum_below n (λ k. f k + g k) ≡ sum_below n f + sum_below n g
 unfolding sum_below
 total_plus zero f g = refl
 total_plus (suc n) f g = omega (arith, total_plus n f g)

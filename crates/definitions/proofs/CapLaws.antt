@@ -1,5 +1,5 @@
 -- What a bound on the cost of a second does.
-use Rattle.std.proofs.Common.{◌≡◌, ℕ, ◌-◌, ◌*◌, ◌≤◌, Option, Some, None, min, arith}
+use Rattle.std.proofs.Common.{◌≡◌, ℕ, ◌≤◌, Option, Some, None, arith}
 use Rattle.signal_base.specs.declared.station.Station.{Station}
 use Rattle.definitions.specs.heard.Costs.{counted}
 

@@ -19,6 +19,7 @@ pub mod Dut1Laws
 pub mod JuneLaws
 pub mod UnionLaws
 pub mod BoundLaws
+pub mod FallLaws
 pub mod SpanLaws
 pub mod LeapLaws
 pub mod BlockLaws

@@ -1,5 +1,5 @@
 -- A union is one number, and costs no more than any of the sets in it.
-use Rattle.std.proofs.Common.{◌≡◌, ℕ, zero, suc, ◌+◌, ◌*◌, ◌/◌, ◌%◌, ◌^◌, ◌<◌, ◌≤◌, ◌⊎◌, inl, inr, Bool, true, false, ◌==◌, if◌then◌else◌, min, Option, Some, None, unwrap_or, refl, sym, ap, ◌∙◌, subst, arith, add-one}
+use Rattle.std.proofs.Common.{◌≡◌, ◌≢◌, ℕ, zero, suc, ◌+◌, ◌*◌, ◌/◌, ◌%◌, ◌^◌, ◌<◌, ◌≤◌, ◌⊎◌, inl, inr, Bool, true, false, ◌==◌, if◌then◌else◌, min, Option, Some, None, unwrap_or, refl, sym, ap, ◌∙◌, subst, arith, add-one}
 use Rattle.std.proofs.lemmas.Bool.{cases_order, eqb-true, eq-eqb, ne_eqb}
 use Rattle.signal_base.specs.declared.station.Station.{Station}
 use Rattle.signal_base.specs.declared.station.Station.TheVariants.{Dcf77, Msf, Wwvb, Jjy}
@@ -165,6 +165,14 @@ has_one Dcf77 set some small = of_three set some small
 has_one Msf set some small = of_five set some small
 has_one Wwvb set some small = of_three set some small
 has_one Jjy set some small = of_three set some small
+
+-- a set of a scored second has one of its station's symbols
+pub has_symbol : (station : Station) (set : ℕ) → IsSetOf station set → set ≢ unscored → (x : ℕ) × (x < symbol_count station) × (has_bit set x ≡ true)
+unfolding HasOne
+has_symbol station set is scored = elim (some_symbols station set is) [
+  | inl e ↦ absurd (scored e)
+  | inr small ↦ has_one station set small.0 small.1
+]
 
 below_unscored : (station : Station) (set : ℕ) → set < 2 ^ symbol_count station → (set == unscored) ≡ false
 below_unscored Dcf77 set small = ne_eqb set 255 (λ e. omega (arith, small, e))

@@ -4,3 +4,4 @@ pub mod Receivers
 pub mod Phase
 pub mod Dut1
 pub mod Costs
+pub mod Uncapped

@@ -30,7 +30,10 @@ pub use bounds::{
     items_share_the_sequences, year_ends_with_its_calendar_year,
 };
 pub use calendar::{CENTURY_DAYS, CENTURY_MINUTES, MINUTES_PER_DAY, MINUTES_PER_HOUR};
-pub use caps::{a_second_costs_at_most_its_bound, no_more_counts_than_it_costs};
+pub use caps::{
+    a_bound_raises_no_cost, a_second_costs_at_most_its_bound,
+    bounds_out_of_reach_change_no_difference, no_more_counts_than_it_costs,
+};
 pub use day::Day;
 pub use dcf77::DcfFacts;
 pub use fields::Fields;

@@ -2,9 +2,10 @@
 use Rattle.std.proofs.Common.{◌≡◌, ℕ, zero, suc, ◌+◌, ◌*◌, ◌≤◌, min, ◌==◌, ◌&&◌, Bool, true, false, if◌then◌else◌, List, [], ◌∷◌, map, filter, fold, length, sum_by, Option, Some, None, refl, sym, subst, arith}
 use Rattle.std.specs.Prelude.{ℤ, slice_index, slice_index_or, unwrap_or}
 use Rattle.std.specs.List.{AllByRecursion}
-use Rattle.std.proofs.Math.Nat.{mul-le-mul_left, mul-le-mul_right}
+use Rattle.std.specs.Option.{ForSome}
+use Rattle.std.proofs.Math.Nat.{le_trans, mul-le-mul_left, mul-le-mul_right}
 use Rattle.std.proofs.lemmas.List.Sums.{sum_by-cons}
-use Rattle.signal_base.specs.declared.limits.TheConstants.{GREATEST_COST, MOST_COST, MOST_RECEIVERS, MOST_SECONDS, MOST_WEIGHT}
+use Rattle.signal_base.specs.declared.limits.TheConstants.{GREATEST_COST, MOST_COST, MOST_RECEIVERS, MOST_SECOND_COST, MOST_SECONDS, MOST_WEIGHT}
 use Rattle.signal_base.specs.declared.station.Station.{Station}
 use Rattle.signal_base.specs.declared.station.Station.TheVariants.{Dcf77, Msf, Wwvb, Jjy}
 use Rattle.signal_base.specs.declared.station.Stations.{Stations}
@@ -21,31 +22,43 @@ use Rattle.definitions.specs.declared.sequence.Sequence.{Sequence}
 use Rattle.definitions.specs.codes.Allowed.{has_station, stations_of}
 use Rattle.definitions.specs.codes.Vocabulary.{unscored}
 use Rattle.definitions.specs.time.Places.{second_of}
-use Rattle.definitions.specs.heard.Costs.{Costs, bank_costs, cost_outside_dut1, dut1_cost, least, least_dut1_cost, lies_in_one_day, second_cost, sequence_cost, set_cost, slot_cost, station_cost, sum_below, symbols_of, tenth_cost}
+use Rattle.definitions.specs.heard.Costs.{Costs, bank_costs, cost_outside_dut1, counted, dut1_cost, least, least_dut1_cost, lies_in_one_day, second_cost, sequence_cost, set_cost, slot_cost, station_cost, sum_below, symbols_of, table_of, tenth_cost, tenths_cost}
 use Rattle.definitions.specs.heard.Dut1.{dut1_symbol, dut1_values, has_dut1, is_dut1_second}
-use Rattle.definitions.specs.heard.Logs.{low_count}
+use Rattle.definitions.specs.heard.Logs.{Records, low_count}
 use Rattle.definitions.specs.heard.Receivers.{Receiver, Reception, heard_of}
 use Rattle.definitions.specs.sequences.Walks.{place_at, set_at}
 use Rattle.definitions.specs.answers.Blocks.{IsBound, IsBoundBy, first_of, union_cost}
+use Rattle.definitions.proofs.CapLaws.{counted_lower}
 use Rattle.definitions.proofs.CostLaws.{sum_below_bound}
 
--- what a tenth, a second and a receiver's slot cost at the most
+-- what a second costs a receiver at the most
 abbrev receiver_slot : ℕ
 receiver_slot = 200_000
 
-weighed : (weight cost : ℕ) → weight ≤ MOST_WEIGHT → cost ≤ MOST_COST → weight * cost ≤ 20_000
+weighed : (weight cost : ℕ) → weight ≤ MOST_WEIGHT → cost ≤ MOST_SECOND_COST → weight * cost ≤ receiver_slot
 weighed weight cost light low = omega (arith, light, mul-le-mul_left weight low)
 
-module _ (table : CostTable) (priced : IsPriced table) where
-  tenth : (weight : ℕ) (is_low : Bool) (count : Option ℕ) → weight ≤ MOST_WEIGHT → tenth_cost table weight is_low count ≤ 20_000
-  tenth weight is_low None light = omega arith
-  tenth weight true (Some n) light = weighed weight (slice_index table.low n) light (priced.low n)
-  tenth weight false (Some n) light = weighed weight (slice_index table.high n) light (priced.high n)
+tenth : (table : CostTable) → IsPriced table → (is_low : Bool) (count : Option ℕ) → tenth_cost table is_low count ≤ MOST_COST
+tenth table priced is_low None = omega arith
+tenth table priced true (Some n) = priced.low n
+tenth table priced false (Some n) = priced.high n
 
-  second : (r : Reception) (m : ℕ) (wave : List Bool) → IsTuned r.tuning → second_cost table r m wave ≤ receiver_slot
-  second r m wave tuned =
-      sum_below_bound 10 20_000 (λ j. tenth_cost table r.tuning.weight (slice_index_or wave j false) (low_count r.log (m + 100 * j) 100))
-      (λ j lt. tenth r.tuning.weight (slice_index_or wave j false) (low_count r.log (m + 100 * j) 100) tuned.weight)
+tenths : (table : CostTable) → IsPriced table → (log : Records) (m : ℕ) (wave : List Bool) → tenths_cost table log m wave ≤ MOST_SECOND_COST
+tenths table priced log m wave =
+    sum_below_bound 10 MOST_COST (λ j. tenth_cost table (slice_index_or wave j false) (low_count log (m + 100 * j) 100))
+    (λ j lt. tenth table priced (slice_index_or wave j false) (low_count log (m + 100 * j) 100))
+
+own_or : (own : Option CostTable) (table : CostTable) → ForSome own IsPriced → IsPriced table → IsPriced (unwrap_or own table)
+own_or None table its priced = priced
+own_or (Some own) table its priced = its own refl
+
+module _ (table : CostTable) (priced : IsPriced table) where
+  second : (r : Reception) (station : Station) (m x : ℕ) → IsTuned r.tuning → second_cost table r station m x ≤ receiver_slot
+  second r station m x tuned =
+      let own = table_of table r.tuning in
+      let costs = λ (y : ℕ). tenths_cost own r.log m (waveform station y) in
+      weighed r.tuning.weight (counted own.second station costs x) tuned.weight
+      (le_trans (counted_lower own.second station costs x) (tenths own (own_or r.tuning.table table tuned.priced priced) r.log m (waveform station x)))
 
   slot : (station : Station) (begin k x : ℕ) (rs : List Reception) → AllByRecursion (λ (r : Reception). IsTuned r.tuning) rs
       → slot_cost table rs station begin k x ≤ receiver_slot * length rs
@@ -53,8 +66,8 @@ module _ (table : CostTable) (priced : IsPriced table) where
   slot station begin k x (r ∷ rs) all =
       omega (
         arith,
-        sum_by-cons (λ (r : Reception). second_cost table r (begin + r.tuning.delay + 1000 * k) (waveform station x)) r rs,
-        second r (begin + r.tuning.delay + 1000 * k) (waveform station x) all.0,
+        sum_by-cons (λ (r : Reception). second_cost table r station (begin + r.tuning.delay + 1000 * k) x) r rs,
+        second r station (begin + r.tuning.delay + 1000 * k) x all.0,
         slot station begin k x rs all.1,
       )
 

@@ -50,9 +50,9 @@ same_heard : (a b : Hearing) → ◌≡◌ {A = HeardDue Hearing} (Heard a) (Hea
 same_heard a b e = cc
 
 sums : (window : Window) (bank : Bank) (c : ℕ) (q : Sequence) (next : Option ℕ) → window.stations ≡ stations_heard bank.receivers
-    → IsBankAnswer window bank (answers.Decided c q next) → sum_by (λ r. r.cost) (receiver_sums (hearing_of window bank q)) ≡ c
+    → IsBankAnswer window bank (answers.Decided c q next) → sum_by (λ r. r.cost) (receiver_sums (hearing_of window bank q next)) ≡ c
 sums window bank c q next stations is =
-    sums_law (hearing_of window bank q)
+    sums_law (hearing_of window bank q next)
     (subst (λ s. list_all (λ (r : Receiver). has_station s r.station) bank.receivers ≡ true) (sym stations) (all_are_heard bank.receivers bank.receivers (λ s e. e)))
     ∙ sym is.1
 

@@ -1,6 +1,6 @@
 -- What a run owes that shows what was heard: the words of `tsheard` are those of a decode, without two of its options, and what it
 -- owes is what the decode owes, but where a sequence is decided it is what was heard of it.
-use Rattle.std.specs.Prelude.{ℕ, ◌≡◌, Bool, false, if◌then◌else◌, List, [], ◌∷◌, Some, Ok, Err, bytes_eq, codes}
+use Rattle.std.specs.Prelude.{ℕ, ◌≡◌, Bool, false, if◌then◌else◌, List, [], ◌∷◌, Option, Some, Ok, Err, bytes_eq, codes}
 use Rattle.std.specs.List.{list_any}
 use Rattle.signal_base.specs.declared.window.Window.{Window}
 use Rattle.definitions.specs.declared.answer.Answer.{Answer}
@@ -52,13 +52,13 @@ heard_order words = if names_left_out words then Err Usage else order_in (decode
 abbrev pub AsksHeard : List (List ℕ) → BankOrder → Type 0
 AsksHeard words o = (order : Order) × (heard_order words ≡ Ok order) × (bank_order order ≡ Some o)
 
--- what is looked at of a bank, in a window, of the sequence that was decided
-abbrev pub hearing_of : Window → Bank → Sequence → Hearing
-hearing_of window bank q = record { receivers = bank.receivers; table = bank.table; window = window; sequence = q }
+-- what is looked at of a bank, in a window, of the sequence that was decided and of what the next one costs
+abbrev pub hearing_of : Window → Bank → Sequence → Option ℕ → Hearing
+hearing_of window bank q next = record { receivers = bank.receivers; table = bank.table; window = window; sequence = q; next = next }
 
 -- how an answer is shown: by what was heard, where it is decided, and else by its report
 abbrev pub shown : Window → Bank → Answer → HeardDue Hearing
-shown window bank (answers.Decided cost q next) = Heard (hearing_of window bank q)
+shown window bank (answers.Decided cost q next) = Heard (hearing_of window bank q next)
 shown window bank answer = Told (dues.Report window answer (duts_of window bank answer))
 
 -- this is what is asked about a bank

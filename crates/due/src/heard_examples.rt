@@ -40,7 +40,7 @@ pub fn words_that_are_no_hearing()
 
 /// A decided answer is shown by what was heard, and any other by its report.
 pub fn what_is_shown()
-    ensures decided { (window : Window) (bank : Bank) (q : Sequence) (next : Option ℕ) → shown window bank (answer.Decided 7 q next) ≡ Heard (hearing_of window bank q) }
+    ensures decided { (window : Window) (bank : Bank) (q : Sequence) (next : Option ℕ) → shown window bank (answer.Decided 7 q next) ≡ Heard (hearing_of window bank q next) }
     ensures tie { (window : Window) (bank : Bank) (q r : Sequence) → shown window bank (answer.Undecided 7 q r) ≡ Told (Report window (answer.Undecided 7 q r) []) }
     ensures nothing { (window : Window) (bank : Bank) → shown window bank answer.Nothing ≡ Told (Report window answer.Nothing []) }
     ensures refused { heard_outputs (Told (Refused WordsUsage)) ≡ record { file = codes "-"; anew = false; text = line (codes "words: usage") } ∷ [] }

@@ -6,7 +6,6 @@ use Rattle.std.proofs.lemmas.Nat.{mul-le}
 use Rattle.signal_base.specs.declared.station.Station.{Station}
 use Rattle.signal_base.specs.declared.tuning.CostTable.{CostTable}
 use Rattle.signal_base.specs.declared.window.Window.{Window}
-use Rattle.signal_base.specs.Waveform.{waveform}
 use Rattle.definitions.specs.heard.Costs.{second_cost, slot_cost}
 use Rattle.definitions.specs.heard.Receivers.{Reception, heard_of}
 use Rattle.definitions.specs.sequences.Windows.{IsWindow}
@@ -36,10 +35,10 @@ later_cost : (table : CostTable) (rs : List Reception) (station : Station) (begi
     → slot_cost table rs station later k x ≡ slot_cost table rs station begin (k + n) x
 later_cost table [] station begin later n k x is = refl
 later_cost table (r ∷ rs) station begin later n k x is =
-    let f = λ (r : Reception). second_cost table r (later + r.tuning.delay + 1000 * k) (waveform station x) in
-    let g = λ (r : Reception). second_cost table r (begin + r.tuning.delay + 1000 * (k + n)) (waveform station x) in
+    let f = λ (r : Reception). second_cost table r station (later + r.tuning.delay + 1000 * k) x in
+    let g = λ (r : Reception). second_cost table r station (begin + r.tuning.delay + 1000 * (k + n)) x in
     let at : later + r.tuning.delay + 1000 * k ≡ begin + r.tuning.delay + 1000 * (k + n) = omega arith in
-    let first : f r ≡ g r = ap (λ m. second_cost table r m (waveform station x)) at in
+    let first : f r ≡ g r = ap (λ m. second_cost table r station m x) at in
     omega (arith, sum_by-cons f r rs, sum_by-cons g r rs, first, later_cost table rs station begin later n k x is)
 
 starts_later : (start phase n : ℕ) → start + 1000 * n + phase ≡ start + phase + 1000 * n

@@ -195,4 +195,4 @@ slots_lines h (suc n) = slots_lines h n ++ slot_lines h n
 
 -- the whole text: the slots, the sum of each receiver, and what the next sequence costs
 abbrev pub heard_text : Hearing → List ℕ
-heard_text h = slots_lines h h.window.seconds ++ flat_map sum_line (receiver_sums h) ++ next_line h.next
+heard_text h = slots_lines h h.window.seconds ++ (flat_map sum_line (receiver_sums h) ++ next_line h.next)

@@ -8,7 +8,8 @@ mod refusals;
 mod reports;
 
 pub use frames::{
-    bad_frames, element_tables, frame_lines, good_frames, limits_of_frames, refused_frames,
+    bad_frames, element_tables, elements_told_apart, frame_lines, good_frames, limits_of_frames,
+    refused_frames,
 };
 pub use heard::{
     slots_by_their_dut1, slots_by_their_sets, sums_of_two_seconds, text_of_silence,

@@ -20,8 +20,8 @@ mod word_law;
 mod words;
 
 pub use examples::{
-    bad_frames, bad_lines, element_tables, feeds, frame_lines, good_frames, good_logs,
-    heads_of_reports, limits_of_frames, limits_of_logs, lines_of_texts, listed_minutes,
+    bad_frames, bad_lines, element_tables, elements_told_apart, feeds, frame_lines, good_frames,
+    good_logs, heads_of_reports, limits_of_frames, limits_of_logs, lines_of_texts, listed_minutes,
     minutes_of_reports, refused_certificates, refused_configurations, refused_frames, refused_logs,
     refused_words, reports_without_a_decision, sentences, slots_by_their_dut1, slots_by_their_sets,
     summaries_of_trials, sums_of_two_seconds, text_of_silence, text_of_two_seconds,

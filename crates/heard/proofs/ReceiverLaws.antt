@@ -5,7 +5,6 @@ use Rattle.signal_base.specs.declared.station.Station.{Station}
 use Rattle.signal_base.specs.declared.station.Station.TheVariants.{Dcf77, Msf, Wwvb, Jjy}
 use Rattle.signal_base.specs.declared.tuning.Tuning.{Tuning}
 use Rattle.signal_base.specs.Number.{number_of}
-use Rattle.signal_base.specs.Waveform.{waveform}
 use Rattle.definitions.specs.heard.Costs.{second_cost, sum_below}
 use Rattle.definitions.specs.heard.Logs.{Records}
 use Rattle.definitions.specs.heard.Receivers.{Receiver}
@@ -43,14 +42,14 @@ item_at xs p q x d is same within = is ∙ get_or_default xs p x d within ∙ ap
 module _ (h : Hearing) (k i : ℕ) (r : Receiver) where
   made : Station → Tuning → Records → ℕ → Option ℕ → ReceiverHeard
   made station tuning log from sent =
-      record { number = i + 1; unknown = unknown_tenths log from; cost = cost_of (λ x. second_cost h.table (heard tuning log) from (waveform station x)) sent }
+      record { number = i + 1; unknown = unknown_tenths log from; cost = cost_of (second_cost h.table (heard tuning log) station from) sent }
 
   by_parts : (F : Station → Tuning → Records → ℕ → Option ℕ → ReceiverHeard) (s s' : Station) (t t' : Tuning) (l l' : Records) (m m' : ℕ) (o o' : Option ℕ)
       → s ≡ s' → t ≡ t' → l ≡ l' → m ≡ m' → o ≡ o' → F s t l m o ≡ F s' t' l' m' o'
   by_parts F s s' t t' l l' m m' o o' a b c d e = cc
 
   pub receiver_is : (station : Station) (tuning : Tuning) (log : Records) (from : ℕ) (sent : Option ℕ) (x : ReceiverHeard)
-      → x ≡ record { number = i + 1; unknown = unknown_tenths log from; cost = cost_of (λ x. second_cost h.table (heard tuning log) from (waveform station x)) sent }
+      → x ≡ record { number = i + 1; unknown = unknown_tenths log from; cost = cost_of (second_cost h.table (heard tuning log) station from) sent }
       → station ≡ r.station → tuning ≡ r.heard.tuning → log ≡ r.heard.log → from ≡ h.window.start + h.window.phase + tuning.delay + 1000 * k → sent ≡ sent_in h k r.station
       → x ≡ receiver_heard h k (i + 1, r)
   unfolding made

@@ -46,18 +46,18 @@ module _ (asked : Asked) (bank : PlainBank) (b : Bank) (is : IsBank b) (same : b
   costs_are w = ap (costs_in w) same ∙ same_costs w bank
 
   -- the same is looked at
-  abbrev made : List Receiver → CostTable → Window → Sequence → Hearing
-  made receivers table w q = record { receivers = receivers; table = table; window = w; sequence = q }
+  abbrev made : List Receiver → CostTable → Window → Sequence → Option ℕ → Hearing
+  made receivers table w q next = record { receivers = receivers; table = table; window = w; sequence = q; next = next }
 
-  by_parts : (rs ss : List Receiver) (t u : CostTable) (w : Window) (q : Sequence) → rs ≡ ss → t ≡ u → made rs t w q ≡ made ss u w q
-  by_parts rs ss t u w q e f = cc
+  by_parts : (rs ss : List Receiver) (t u : CostTable) (w : Window) (q : Sequence) (next : Option ℕ) → rs ≡ ss → t ≡ u → made rs t w q next ≡ made ss u w q next
+  by_parts rs ss t u w q next e f = cc
 
-  pub hearing_is : (w : Window) (q : Sequence) → hearing_in b places w q ≡ hearing_of w bank q
-  hearing_is w q =
-      by_parts (map (receiver_at b) places) bank.receivers b.table bank.table w q (same_receivers b is bank.receivers order) (ap (λ (x : PlainBank). x.table) same)
+  pub hearing_is : (w : Window) (q : Sequence) (next : Option ℕ) → hearing_in b places w q next ≡ hearing_of w bank q next
+  hearing_is w q next =
+      by_parts (map (receiver_at b) places) bank.receivers b.table bank.table w q next (same_receivers b is bank.receivers order) (ap (λ (x : PlainBank). x.table) same)
 
-  pub have_costs : (w : Window) (q : Sequence) (grids : List Grid) → HaveCosts w grids (costs_in w (bank_seen b)) → HaveCosts w grids (costs_of (hearing_in b places w q))
-  have_costs w q grids = subst (HaveCosts w grids) (costs_are w ∙ ap costs_of (sym (hearing_is w q)))
+  pub have_costs : (w : Window) (q : Sequence) (next : Option ℕ) (grids : List Grid) → HaveCosts w grids (costs_in w (bank_seen b)) → HaveCosts w grids (costs_of (hearing_in b places w q next))
+  have_costs w q next grids = subst (HaveCosts w grids) (costs_are w ∙ ap costs_of (sym (hearing_is w q next)))
 
   pub have_bank_costs : (w : Window) (grids : List Grid) → HaveCosts w grids (costs_in w (bank_seen b)) → HaveCosts w grids (costs_in w bank)
   have_bank_costs w grids = subst (HaveCosts w grids) (costs_are w)
@@ -89,9 +89,9 @@ module _ (asked : Asked) (bank : PlainBank) (b : Bank) (is : IsBank b) (same : b
 
   -- is shown
   pub heard_shown : (w : Window) (c : ℕ) (q : Sequence) (next : Option ℕ) (h : Hearing) → w ≡ window_of asked bank.receivers
-      → IsWindowAnswer w (costs_in w (bank_seen b)) b.ceiling (answers.Decided c q next) → h ≡ hearing_in b places w q → IsShownFor asked bank (Heard h)
+      → IsWindowAnswer w (costs_in w (bank_seen b)) b.ceiling (answers.Decided c q next) → h ≡ hearing_in b places w q next → IsShownFor asked bank (Heard h)
   heard_shown w c q next h e a k =
-      (answers.Decided c q next, answer_is w (answers.Decided c q next) e a, ap Heard (k ∙ hearing_is w q ∙ ap (λ (v : Window). hearing_of v bank q) e))
+      (answers.Decided c q next, answer_is w (answers.Decided c q next) e a, ap Heard (k ∙ hearing_is w q next ∙ ap (λ (v : Window). hearing_of v bank q next) e))
 
   told_by : (w : Window) (answer : Answer) (duts : List StationDut) → w ≡ window_of asked bank.receivers → duts ≡ duts_of w bank answer
       → ◌≡◌ {A = HeardDue Hearing} (Told (dues.Report w answer duts)) (Told (dues.Report (window_of asked bank.receivers) answer (duts_of (window_of asked bank.receivers) bank answer)))

@@ -35,7 +35,7 @@ places_in ss = map (place_in ss) (range_with_len 0 (length ss))
 
 -- the receiver at a place of a bank
 abbrev pub untuned : Tuning
-untuned = record { delay = 0; weight = 0 }
+untuned = record { delay = 0; weight = 0; table = None }
 
 abbrev pub receiver_at : Bank → ℕ → Receiver
 receiver_at b p =
@@ -45,8 +45,8 @@ receiver_at b p =
     }
 
 -- what is looked at
-abbrev pub hearing_in : Bank → List ℕ → Window → Sequence → Hearing
-hearing_in b places window q = record { receivers = map (receiver_at b) places; table = b.table; window = window; sequence = q }
+abbrev pub hearing_in : Bank → List ℕ → Window → Sequence → Option ℕ → Hearing
+hearing_in b places window q next = record { receivers = map (receiver_at b) places; table = b.table; window = window; sequence = q; next = next }
 
 -- receiver i of the configuration, with its number
 abbrev pub numbered_at : Bank → List ℕ → ℕ → Numbered
@@ -78,9 +78,9 @@ pub record IsKept (b : Bank) (places : List ℕ) (grids : List Grid) (told : Tol
   pub within : (i : ℕ) → i < length places → slice_index places i < length b.stations.items
   pub heard : (i : ℕ) → i < length places → has_station window.stations (station_at b.stations.items (slice_index places i)) ≡ true
   pub grids_are : AreGrids window grids
-  pub costs_are : HaveCosts window grids (costs_of (hearing_in b places window q))
+  pub costs_are : HaveCosts window grids (costs_of (hearing_in b places window q None))
   pub told_are : (station : Station) → has_station window.stations station ≡ true
-      → IsTold station (costs_of (hearing_in b places window q) station) window.seconds q (told_of told station)
+      → IsTold station (costs_of (hearing_in b places window q None) station) window.seconds q (told_of told station)
   pub window_is : IsWindow window
   pub sequence_is : IsSequence q
   pub walkable : IsWalkable window q

@@ -14,7 +14,7 @@ use Rattle.heard.specs.declared.hearing.Hearing.{Hearing}
 use Rattle.heard.specs.Kept.{hearing_in}
 
 abbrev pub hearing_seen : Hearing → PlainHearing
-hearing_seen h = hearing_in h.bank h.places.items h.window h.sequence
+hearing_seen h = hearing_in h.bank h.places.items h.window h.sequence h.next
 
 abbrev pub due_seen : HeardDue Hearing → HeardDue PlainHearing
 due_seen (Told due) = Told due

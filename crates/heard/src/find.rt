@@ -123,8 +123,8 @@ fn show<R: Threads + Sync, G: Gate + Sync>(
         gate,
     )?;
     match decoded.answer {
-        Answer::Decided { sequence, .. } => Ok(HeardDue::Heard {
-            hearing: hearing_of(civil, bank, places, grids, window, sequence),
+        Answer::Decided { sequence, next, .. } => Ok(HeardDue::Heard {
+            hearing: hearing_of(civil, bank, places, grids, window, sequence, next),
         }),
         Answer::Undecided { .. } => Ok(reported(decoded)),
         Answer::Nothing => Ok(reported(decoded)),
@@ -154,17 +154,18 @@ fn hearing_of(
     grids: Vec<CostGrid>,
     window: Window,
     sequence: Sequence,
+    next: Option<u32>,
 ) -> Hearing
     requires bank { IsBank bank }
     requires few { length places.items ≤ MOST_RECEIVERS }
     requires within { (i : ℕ) → i < length places.items → slice_index places.items i < length bank.stations.items }
     requires heard { (i : ℕ) → i < length places.items → has_station window.stations (station_at bank.stations.items (slice_index places.items i)) ≡ true }
     requires grids { AreGrids window grids.items }
-    requires costs { HaveCosts window grids.items (costs_of (hearing_in bank places.items window sequence)) }
+    requires costs { HaveCosts window grids.items (costs_of (hearing_in bank places.items window sequence next)) }
     requires window { IsWindow window }
     requires sequence { IsSequence sequence }
     requires walkable { IsWalkable window sequence }
-    ensures { hearing_seen result ≡ hearing_in bank places.items window sequence }
+    ensures { hearing_seen result ≡ hearing_in bank places.items window sequence next }
 {
     let told = Told {
         msf: told_in(grids.as_slice(), civil, &window, &sequence, Station::Msf),
@@ -177,6 +178,7 @@ fn hearing_of(
         told,
         window,
         sequence,
+        next,
     }
 }
 

@@ -23,5 +23,7 @@ pub struct Hearing {
     pub window: Window,
     /// The sequence that was decided.
     pub sequence: Sequence,
+    /// What the next sequence costs, if there is one.
+    pub next: Option<u32>,
     ghost kept: { IsKept bank places.items grids.items told window sequence },
 }

@@ -1,26 +1,20 @@
 //! What a second costs a receiver, and how much of it the receiver doesn't know.
 
-ghost use Rattle.std.specs.Prelude.{◌≡◌, ◌+◌, ◌*◌, ◌<◌, ◌≤◌, false, if◌then◌else◌, is_none, slice_index_or};
+ghost use Rattle.std.specs.Prelude.{◌≡◌, ◌<◌, ◌≤◌, if◌then◌else◌, is_none};
 ghost use Rattle.std.specs.Option.{ForSome};
 ghost use Rattle.signal_base.specs.Limits.{IsPriced, IsTuned};
-ghost use Rattle.signal_base.specs.Waveform.{symbol_count, waveform};
-ghost use Rattle.definitions.specs.heard.Costs.{second_cost, tenth_cost};
+ghost use Rattle.signal_base.specs.Waveform.{symbol_count};
+ghost use Rattle.definitions.specs.heard.Costs.{second_cost};
 ghost use Rattle.formats.specs.Heard.{cost_of, unknown_tenths};
 ghost use Rattle.symbol_cost.specs.Rows.{heard};
 
-use formats::{ReceiverHeard, TIME_LIMIT};
-use pulse_log::{Log, TENTH};
-use signal_base::{CostTable, MOST_COST, MOST_WEIGHT, Station, Tuning, wave};
-use symbol_cost::RECEIVER_COST;
-
-/// The seconds of a window begin before this millisecond, for a receiver that lags too.
-pub const SECOND_LIMIT: u64 = TIME_LIMIT + 2_000_000;
+use formats::ReceiverHeard;
+use pulse_log::Log;
+use signal_base::{CostTable, Station, Tuning};
+use symbol_cost::{RECEIVER_COST, SECOND_LIMIT, second_costs};
 
 // How many tenths a second has.
 const TENTHS: usize = 10;
-
-// The most that a tenth of a second costs a receiver.
-const TENTH_COST: u32 = MOST_WEIGHT as u32 * MOST_COST as u32;
 
 /// What a receiver of this number heard in the second that begins at a millisecond of its log, where its station sent this
 /// symbol, if it sent one.
@@ -40,7 +34,7 @@ pub fn receiver_heard(
     ensures heard { result ≡ record {
       number = number;
       unknown = unknown_tenths log.now from;
-      cost = cost_of (λ x. second_cost table.now (heard tuning.now log.now) from (waveform station x)) sent;
+      cost = cost_of (second_cost table.now (heard tuning.now log.now) station from) sent;
     } }
     ensures few { result.unknown ≤ 10 }
     ensures bound { result.cost ≤ RECEIVER_COST }
@@ -50,7 +44,7 @@ pub fn receiver_heard(
         unknown: unknown_tenths(log, from),
         cost: match sent {
             None => 0,
-            Some(x) => second_cost(table, tuning, log, from, station, x),
+            Some(x) => second_costs(table, tuning, log, from, station)[x as usize],
         },
     }
 }
@@ -78,59 +72,4 @@ fn is_unknown(count: Option<u32>) -> u16
         None => 1,
         Some(_) => 0,
     }
-}
-
-// What the ten tenths from a millisecond on cost a receiver under a symbol.
-fn second_cost(
-    table: &CostTable,
-    tuning: &Tuning,
-    log: &Log,
-    from: u64,
-    station: Station,
-    x: u8,
-) -> u32
-    requires tuned { IsTuned tuning.now }
-    requires priced { IsPriced table.now }
-    requires from { from < SECOND_LIMIT }
-    requires symbol { x < symbol_count station }
-    ensures cost { result ≡ second_cost table.now (heard tuning.now log.now) from (waveform station x) }
-    ensures bound { result ≤ RECEIVER_COST }
-{
-    let wave = wave(station, x);
-    let mut tenths = log.tenths(from);
-    let mut cost = 0;
-    for j in 0..TENTHS {
-        cost += tenth_cost(table, tuning.weight, wave[j], tenths.next());
-    }
-    cost
-}
-
-// What a tenth costs a receiver: nothing where some of its milliseconds are unknown.
-fn tenth_cost(table: &CostTable, weight: u8, is_low: bool, count: Option<u32>) -> u32
-    requires weight { weight ≤ MOST_WEIGHT }
-    requires priced { IsPriced table.now }
-    requires count { ForSome count (λ n. n ≤ TENTH) }
-    ensures cost { result ≡ tenth_cost table.now weight is_low count }
-    ensures bound { result ≤ TENTH_COST }
-{
-    match count {
-        None => 0,
-        Some(n) => {
-            let entry = if is_low {
-                table.low[n as usize]
-            } else {
-                table.high[n as usize]
-            };
-            weighed(weight, entry)
-        }
-    }
-}
-
-fn weighed(weight: u8, entry: u8) -> u32
-    requires weight { weight ≤ MOST_WEIGHT }
-    requires entry { entry ≤ MOST_COST }
-    ensures product { result ≡ weight * entry }
-    ensures bound { result ≤ TENTH_COST }
-{
-    weight as u32 * entry as u32
 }

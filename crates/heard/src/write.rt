@@ -19,12 +19,12 @@ use texts::{write_slot_heard, write_sums_heard};
 const STATIONS: [Station; 4] = [Station::Dcf77, Station::Msf, Station::Wwvb, Station::Jjy];
 
 impl Hearing {
-    /// Writes what was heard to standard output: slot by slot, in each station by station, and then the sums.
+    /// Writes what was heard to standard output: slot by slot, in each station by station, then the sums, and the next cost.
     pub fn write<F: Files>(&self, files: &mut F, civil: &Civil) -> Result<(), Failed>
         ensures { Writes output_name (F.view files.old) (F.view files.new) (heard_text (hearing_seen self.now)) result }
     {
         self.write_slots(files, civil)?;
-        write_sums_heard(files, self.sums(civil).as_slice())
+        write_sums_heard(files, self.sums(civil).as_slice(), self.next)
     }
 
     // Writes the lines of all slots.

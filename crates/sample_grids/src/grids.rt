@@ -42,6 +42,7 @@ pub fn grid(
     let tuning = Tuning {
         delay: 0,
         weight: 1,
+        table: None,
     };
     let grid = CostGrid::make(alloc, station, &[tuning], table, &[log], 0, 0, seconds)?;
     Ok(grid)

@@ -49,6 +49,7 @@ fn tuning(chance: &mut Chance) -> Tuning
     Tuning {
         delay: chance.between(0, MOST_DELAY as u32) as u16,
         weight: chance.between(1, MOST_WEIGHT as u32) as u8,
+        table: None,
     }
 }
 

@@ -102,5 +102,6 @@ pub fn plain_tuning() -> Tuning
     Tuning {
         delay: 0,
         weight: 1,
+        table: None,
     }
 }

@@ -24,6 +24,7 @@ fn largest_text(alloc: Global) -> Result<String, AllocError> {
 const PLAIN: Tuning = Tuning {
     delay: 0,
     weight: 1,
+    table: None,
 };
 
 // So many logs of a text.

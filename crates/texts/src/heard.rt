@@ -12,12 +12,14 @@ ghost use Rattle.definitions.specs.time.Spelling.{minute_text};
 ghost use Rattle.definitions.specs.codes.Vocabulary.{only};
 ghost use Rattle.formats.specs.Bytes.{line_feed, space, station_name};
 ghost use Rattle.formats.specs.Heard.{receiver_line, set_of_symbol, slot_line, sum_line, symbol_text};
+ghost use Rattle.formats.specs.Reports.{next_line};
 ghost use Rattle.texts.specs.declared.heard.TheConstants.{MOST_SYMBOLS};
 ghost use Rattle.texts.specs.declared.page.TheConstants.{LINE_ROOM};
 
 use crate::listing::listed;
 use crate::page::{Line, MOST_LINES, Page};
 use crate::pieces::{name_of, push_ascii, push_minute};
+use crate::report::next_line;
 use bank_files::{Failed, Files, push_number};
 use civil::Civil;
 use formats::{ReceiverHeard, SlotHeard};
@@ -42,12 +44,16 @@ pub fn write_slot_heard<F: Files>(
     slot_page(civil, slot, receivers).write(files)
 }
 
-/// Writes the line of each receiver's sum to standard output.
-pub fn write_sums_heard<F: Files>(files: &mut F, sums: &[ReceiverHeard]) -> Result<(), Failed>
+/// Writes the line of each receiver's sum to standard output, and behind them that of the next cost, as a report says it.
+pub fn write_sums_heard<F: Files>(
+    files: &mut F,
+    sums: &[ReceiverHeard],
+    next: Option<u32>,
+) -> Result<(), Failed>
     requires { length sums.now ≤ MOST_RECEIVERS }
-    ensures { Writes output_name (F.view files.old) (F.view files.new) (flat_map sum_line sums.now) result }
+    ensures { Writes output_name (F.view files.old) (F.view files.new) (flat_map sum_line sums.now ++ next_line next) result }
 {
-    sums_page(sums).write(files)
+    sums_page(sums, next).write(files)
 }
 
 fn slot_page(civil: &Civil, slot: &SlotHeard, receivers: &[ReceiverHeard]) -> Page
@@ -73,15 +79,25 @@ fn push_receivers(page: &mut Page, receivers: &[ReceiverHeard])
     }
 }
 
-fn sums_page(sums: &[ReceiverHeard]) -> Page
+fn sums_page(sums: &[ReceiverHeard], next: Option<u32>) -> Page
     requires { length sums.now ≤ MOST_RECEIVERS }
-    ensures { result.text.bytes ≡ flat_map sum_line sums.now }
+    ensures { result.text.bytes ≡ flat_map sum_line sums.now ++ next_line next }
 {
     let mut page = Page::new();
-    for sum in sums {
-        push_sum(&mut page, sum);
-    }
+    push_sums(&mut page, sums);
+    page.push(&next_line(next));
     page
+}
+
+// Adds the line of each receiver's sum.
+fn push_sums(page: &mut Page, sums: &[ReceiverHeard])
+    requires { page.old.lines + 2 * length sums.now ≤ MOST_LINES }
+    ensures bytes { page.new.text.bytes ≡ page.old.text.bytes ++ flat_map sum_line sums.now }
+    ensures lines { page.new.lines ≡ page.old.lines + 2 * length sums.now }
+{
+    for sum in sums {
+        push_sum(page, sum);
+    }
 }
 
 // Adds the line of a slot, which is longer than a line of a page, so that it takes the room of three.

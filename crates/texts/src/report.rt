@@ -90,7 +90,8 @@ fn phase_line(window: &Window) -> Line
     text
 }
 
-fn next_line(next: Option<u32>) -> Line
+/// The line of what the next sequence costs.
+pub fn next_line(next: Option<u32>) -> Line
     ensures { result.bytes ≡ next_line next }
 {
     let mut text = Line::new();

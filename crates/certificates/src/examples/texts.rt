@@ -55,6 +55,15 @@ pub fn text_of_an_hour()
     ensures is_text { IsText hour_certificate (certificate_text hour_certificate) }
 {}
 
+/// The greatest second and the last minute that a step can name, and those beyond. A block has a minute.
+pub fn steps_at_their_limits()
+    ensures last_second { IsLine (line_of Pruned (record (block_of Day 700 1_440) { second = 60 }) (Some 0)) }
+    ensures last_minute { IsLine (line_of Pruned (block_of Minute 52_595_999 52_596_000) (Some 0)) }
+    ensures second { (rest : List ℕ) → IsRefused (text_to_steps ++ (line (codes "P D 0 61 700 1440 0") ++ rest)) 12 Shape }
+    ensures nothing { (rest : List ℕ) → IsRefused (text_to_steps ++ (line (codes "P D 0 0 700 700 0") ++ rest)) 12 Shape }
+    ensures minute { (rest : List ℕ) → IsRefused (text_to_steps ++ (line (codes "P M 0 0 52595999 52596001 0") ++ rest)) 12 Shape }
+{}
+
 /// First bad lines: nothing at all, a needless zero, a key of no sequence, a part that isn't the first, a minute that is opened, a
 /// leaf that is no minute, an empty block with a bound, an end without its LF, and a line behind the end. A step is one too many
 /// after 2,000,000.

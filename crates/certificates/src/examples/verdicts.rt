@@ -33,10 +33,11 @@ pub fn walks_of_an_hour()
     bound_is_one();
 }
 
-/// Which key is the limit, and which keys the leaves tell under a ceiling. The least of the true keys that isn't named is told.
+/// Which key is the limit: the named second one, but none above the ceiling's; and which keys the leaves tell under a ceiling. The least of the true keys that isn't named is told.
 pub fn limits_that_keys_name()
     ensures second { limit_named 1_000 (Some (118 * 2 ^ 33 + 701)) ≡ 118 * 2 ^ 33 + 701 }
     ensures none { limit_named 1_000 None ≡ 1_000 * 2 ^ 33 + (2 ^ 33 - 1) }
+    ensures above_the_ceiling { limit_named 117 (Some (118 * 2 ^ 33 + 701)) ≡ 117 * 2 ^ 33 + (2 ^ 33 - 1) }
     ensures two { leaf_ends 118 opened_hour ≡ record { least = 116 * 2 ^ 33 + 700; second = 118 * 2 ^ 33 + 701 } }
     ensures under_the_ceiling { leaf_ends 117 opened_hour ≡ record { least = 116 * 2 ^ 33 + 700; second = no_key } }
     ensures first_wrong { IsOfEnds None (Some 7) (Some 7) None (WrongEnds (Some 7)) }

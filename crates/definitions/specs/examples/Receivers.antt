@@ -1,6 +1,6 @@
 -- Small logs, for examples of what they cost, their phase, and the DUT1 that they tell.
-use Rattle.std.specs.Prelude.{ℕ, ◌-◌, ◌==◌, ◌&&◌, not, if◌then◌else◌, List, [], ◌∷◌, ◌++◌, map, Some, None}
-use Rattle.std.specs.List.{flat_map}
+use Rattle.std.specs.Prelude.{ℕ, ◌-◌, ◌*◌, ◌==◌, ◌&&◌, not, if◌then◌else◌, List, [], ◌∷◌, ◌++◌, map, Some, None}
+use Rattle.std.specs.List.{flat_map, range_with_len}
 use Rattle.signal_base.specs.declared.station.Station.{Station}
 use Rattle.signal_base.specs.declared.station.Station.TheVariants.{Dcf77, Msf, Wwvb, Jjy}
 use Rattle.signal_base.specs.declared.dut.Dut.{Dut}
@@ -26,6 +26,10 @@ with_table table r = record r { heard = record r.heard { tuning = record r.heard
 abbrev pub at_most : ℕ → CostTable
 at_most most = record difference_table { second = Some most }
 
+-- the table by which a millisecond that differs costs 2
+unfoldable pub double_table : CostTable
+double_table = record { low = map (λ n. 200 - 2 * n) (range_with_len 0 101); high = map (λ n. 2 * n) (range_with_len 0 101); second = None }
+
 -- DCF77, heard 30 ms late: a 0 of 95 ms and a 1 of 205 ms
 abbrev pub two_pulses : List Receiver
 two_pulses = heard Dcf77 30 1 ((0, High) ∷ (30, Low) ∷ (125, High) ∷ (1030, Low) ∷ (1235, High) ∷ (3000, High) ∷ []) ∷ []
@@ -39,6 +43,10 @@ heard_one = heard Msf 0 1 ((0, Low) ∷ (100, High) ∷ (200, Low) ∷ (300, Hig
 
 abbrev pub at_odds : List Receiver
 at_odds = heard_zero ∷ heard_one ∷ []
+
+-- MSF's second 0, heard 20 ms too short
+abbrev pub short_marker : List Receiver
+short_marker = heard Msf 0 1 ((0, Low) ∷ (480, High) ∷ (1000, High) ∷ []) ∷ []
 
 -- JJY by a receiver that heard no pulse in a second
 abbrev pub silence : List Receiver

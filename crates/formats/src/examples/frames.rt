@@ -33,6 +33,19 @@ pub fn element_tables()
         ≡ codes "M00000000M000000000M000000000M100000000M000000000M000000000M000000000M000000000M000000000M000000000M" }
 {}
 
+/// Four seconds more, the last of the century among them. Any two elements that carry bits of one number differ in some second of
+/// these and of those above, so that no two can be exchanged.
+pub fn elements_told_apart()
+    ensures century_end { signs (elements (at (on 2099 12 31) 23 59) 60)
+        ≡ codes "M00000011M100101010M110000100M101000110M110000000M100101001M000000000M000000000M000000011M000101010M" }
+    ensures may { signs (elements (at (on 2000 5 4) 13 21) 43)
+        ≡ codes "M11000001M100000100M110001000M101000100M100000000M000000000M000000000M000000000M111001111M101110100M" }
+    ensures november { signs (elements (at (on 2003 11 9) 14 26) 14)
+        ≡ codes "M00100100M011000100M001001000M110001000M110000000M110000000M000000000M000000000M011000001M101001100M" }
+    ensures march { signs (elements (at (on 2008 3 9) 7 53) 49)
+        ≡ codes "M10010001M110001010M111000000M100100110M000000000M000100000M000000000M000000000M101100001M111011000M" }
+{}
+
 /// The first lines of a frame, the pulses of a one, and what is printed of frames that were read.
 pub fn frame_lines()
     ensures first { take 18 (frame_text (frame_at 0 (at (on 2024 6 10) 6 16) 0))

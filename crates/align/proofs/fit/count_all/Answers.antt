@@ -1,4 +1,4 @@
-use Rattle.std.proofs.Common.{◌≡◌, ℕ, ◌+◌, ◌-◌, ◌<◌, ◌∷◌, List, length, get_or, drop, replicate, sym, ap, ◌∙◌, arith}
+use Rattle.std.proofs.Common.{◌≡◌, ℕ, ◌+◌, ◌-◌, ◌<◌, ◌∷◌, List, length, get_or, drop, replicate, sym, ap, ◌∙◌, arith, None}
 use Rattle.std.proofs.lemmas.List.{drop_more, drop_all}
 use Rattle.signal_base.specs.declared.station.Station.{Station}
 use Rattle.signal_base.specs.declared.station.Station.TheVariants.{Dcf77}
@@ -19,7 +19,7 @@ loop-i-preserved c =
     let ss = c.args.stations.now in
     let ts = c.args.tunings.now in
     let ls = c.args.logs.now in
-    let t : Tuning = record { delay = 0; weight = 0 } in
+    let t : Tuning = record { delay = 0; weight = 0; table = None } in
     let log = c.index-logs-i.result in
     let in_logs : i < length ls = omega arith in
     let logs : drop i ls ≡ log ∷ drop (i + 1) ls = drop_more ls i log in_logs ∙ ap (λ x. x ∷ drop (i + 1) ls) (sym c.index-logs-i.is) in

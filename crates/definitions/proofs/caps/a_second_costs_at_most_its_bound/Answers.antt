@@ -1,7 +1,7 @@
 -- No symbol costs more than the bound, by weight.
 use Rattle.std.proofs.Math.Nat.{mul-le-mul_left}
 use Rattle.signal_base.specs.Waveform.{waveform}
-use Rattle.definitions.specs.heard.Costs.{counted, table_of, tenths_cost}
+use Rattle.definitions.specs.heard.Costs.{table_of, tenths_cost}
 use Rattle.definitions.proofs.CapLaws.{counted_capped}
 use Rattle.definitions.proofs.caps.a_second_costs_at_most_its_bound.Goals as goal
 

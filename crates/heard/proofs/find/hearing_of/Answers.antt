@@ -10,7 +10,7 @@ use Rattle.heard.proofs.find.hearing_of.Goals as goal
 pub invariant_of-result : goal.invariant_of-result
 invariant_of-result c =
     let window = c.args.window in
-    let costs = costs_of (hearing_in c.args.bank c.args.places.items window c.args.sequence) in
+    let costs = costs_of (hearing_in c.args.bank c.args.places.items window c.args.sequence c.args.next) in
     let have = subst (λ (gs : List Grid). HaveCosts window gs costs) (sym c.as_slice.ensures.value) c.requires.costs in
     let also = subst (λ (gs : List Grid). HaveCosts window gs costs) (sym c.as_slice-2.ensures.value) c.requires.costs in
     record {

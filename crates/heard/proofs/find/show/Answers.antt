@@ -77,8 +77,9 @@ hearing_of-requires-clause-costs g c =
     ∙ ap places_in (c.as_slice-2.ensures.value ∙ c.in_ok-stations.ensures ∙ ap (map (λ (r : Entry). r.station)) c.as_slice.ensures.value
     ∙ sym (same_stations c.args.config.receivers.items logs c.requires.one_each)) in
     let q = c.in-Decided.sequence in
-    subst (λ (ps : List ℕ). HaveCosts w c.in_ok-grids.grids.items (costs_of (hearing_in b ps w q))) (sym placed)
-    (have_costs c.args.asked.now bank b is same w q c.in_ok-grids.grids.items c.in_ok-grids.ensures.costs)
+    let next = c.in-Decided.next in
+    subst (λ (ps : List ℕ). HaveCosts w c.in_ok-grids.grids.items (costs_of (hearing_in b ps w q next))) (sym placed)
+    (have_costs c.args.asked.now bank b is same w q next c.in_ok-grids.grids.items c.in_ok-grids.ensures.costs)
 
 pub hearing_of-requires-clause-sequence : goal.hearing_of-requires-clause-sequence
 hearing_of-requires-clause-sequence g c = (rw c.in-Decided.is at c.in_ok-decoded.ensures.reportable).2
@@ -102,7 +103,7 @@ returns-in-Decided-clause-shown g c =
     ∙ ap places_in (c.as_slice-2.ensures.value ∙ c.in_ok-stations.ensures ∙ ap (map (λ (r : Entry). r.station)) c.as_slice.ensures.value
     ∙ sym (same_stations c.args.config.receivers.items logs c.requires.one_each)) in
     let d = c.in-Decided in
-    heard_shown c.args.asked.now bank b is same w d.cost d.sequence d.next _ here answer (c.hearing_of.ensures ∙ ap (λ ps. hearing_in b ps w d.sequence) placed)
+    heard_shown c.args.asked.now bank b is same w d.cost d.sequence d.next _ here answer (c.hearing_of.ensures ∙ ap (λ ps. hearing_in b ps w d.sequence d.next) placed)
 
 pub returns-in-Undecided-clause-shown : goal.returns-in-Undecided-clause-shown
 returns-in-Undecided-clause-shown g c =

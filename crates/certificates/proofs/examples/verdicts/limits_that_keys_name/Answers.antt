@@ -8,6 +8,9 @@ returns-clause-second c = refl
 pub returns-clause-none : goal.returns-clause-none
 returns-clause-none c = refl
 
+pub returns-clause-above_the_ceiling : goal.returns-clause-above_the_ceiling
+returns-clause-above_the_ceiling c = refl
+
 pub returns-clause-two : goal.returns-clause-two
 returns-clause-two c = refl
 
