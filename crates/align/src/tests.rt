@@ -13,7 +13,11 @@ fn read(rt: &(impl Abort + AllocGlobal), text: &[u8]) -> Result<Log, LogFault> {
 
 // A receiver that hears this late.
 fn tuned(delay: u16) -> Tuning {
-    Tuning { delay, weight: 1 }
+    Tuning {
+        delay,
+        weight: 1,
+        table: None,
+    }
 }
 
 // The carrier of JJY rises at 237, 1237 and 2237 ms.
