@@ -22,3 +22,4 @@ pub mod TrialLaws
 pub mod CertifiedLaws
 pub mod CertifyLaws
 pub mod MovedLaws
+mod ExampleLaws

@@ -5,3 +5,4 @@ pub mod Hearing
 pub mod Loading
 pub mod Order
 pub mod Tasks
+pub mod Examples

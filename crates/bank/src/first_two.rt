@@ -112,36 +112,8 @@ pub fn decide_by<R: Threads + Sync, G: Gate + Sync>(
     }
 }
 
-/// Decides as `decide` does, and tells the recorder of each step of the search: it is parted among the workers and joined
-/// again. Where a step can't be kept, the fault is answered in place of the keys.
-pub fn decide_with<R: Threads + Sync, G: Gate + Sync, K: Recorder + Send + Drop>(
-    rt: &R,
-    alloc: Global,
-    civil: &Civil,
-    grids: &[CostGrid],
-    window: &Window,
-    ceiling: u32,
-    workers: u8,
-    gate: &G,
-    recorder: &mut K,
-) -> Result<Result<Found, K::Fault>, DecideFault>
-where
-    K::Fault: Send,
-    requires window { IsWindow window.now }
-    requires grids { AreGrids window.now grids.now }
-    requires ceiling { ceiling ≤ GREATEST_COST }
-    requires workers { (1 ≤ workers) × (workers ≤ 8) }
-    ensures found { IfOk result (λ kept. IfOk kept (λ found. AreLeastTwo (IsWindowKey window.now (grid_costs grids.now) ceiling) found.first found.second)) }
-    ensures recorded { IfOk result (λ kept. OnOk kept ((items : List Block) × (v : View) × AreItemsOf window.now items
-        × HaveRecorded K.told K.parts K.joins (grid_costs grids.now) window.now ceiling items workers v recorder.old recorder.new)) }
-{
-    let parts = parts_of(alloc, civil, window)?;
-    recorded_by(
-        rt, alloc, civil, &parts, grids, window, ceiling, workers, gate, recorder,
-    )
-}
-
-// The same by parts that were made.
+// The same, and the recorder is told of each step of the search: it is parted among the workers and joined again. Where a step can't
+// be kept, the fault is answered in place of the keys.
 fn recorded_by<R: Threads + Sync, G: Gate + Sync, K: Recorder + Send + Drop>(
     rt: &R,
     alloc: Global,

@@ -3,3 +3,4 @@ mod Appending
 mod Telling
 mod MemoryLaws
 mod DiskLaws
+pub mod SeeingLaws

@@ -4,3 +4,4 @@ pub mod Opened
 pub mod Seeing
 pub mod Stored
 pub mod Memory
+pub mod Examples

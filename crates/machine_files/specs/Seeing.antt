@@ -1,5 +1,5 @@
 -- What is seen of files through a machine.
-use Rattle.std.specs.Prelude.{ℕ, ◌≡◌, ◌≤◌, Bool, List, if◌then◌else◌}
+use Rattle.std.specs.Prelude.{ℕ, ◌≡◌, ◌<◌, ◌≤◌, Bool, true, List, if◌then◌else◌}
 use Rattle.std.specs.Str.{bytes_eq}
 use Rattle.bank_files.specs.Told.{Told, Untold, output_name}
 use Rattle.bank_files.specs.Seen.{Seen}
@@ -13,6 +13,7 @@ told_of disk in_doubt name = if bytes_eq name output_name then disk.output else 
 abbrev pub seen_of : Disk → Bool → ℕ → Seen
 seen_of disk in_doubt faults = record { told = told_of disk in_doubt; read_faults = λ _. faults; write_faults = λ _. faults }
 
--- so files are seen of which no more faults were counted than their machine has had failures
+-- So files are seen of which no more faults were counted than their machine has had failures, and which are in doubt only where a fault was counted.
 abbrev pub IsSeenThrough : Disk → ℕ → Seen → Type 0
-IsSeenThrough disk failures seen = (in_doubt : Bool) × (faults : ℕ) × (faults ≤ failures) × (seen ≡ seen_of disk in_doubt faults)
+IsSeenThrough disk failures seen =
+    (in_doubt : Bool) × (faults : ℕ) × (faults ≤ failures) × (in_doubt ≡ true → 0 < faults) × (seen ≡ seen_of disk in_doubt faults)

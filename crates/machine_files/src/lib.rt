@@ -2,6 +2,7 @@
 //! taken, over a small trait of what an operating system gives.
 #![tactic(auto)]
 
+mod examples;
 mod failure;
 mod files;
 mod kept;
@@ -11,6 +12,7 @@ mod opened;
 mod store;
 mod tries;
 
+pub use examples::{what_is_seen_of_one_file, without_a_fault_files_are_as_the_disk_tells};
 pub use failure::Failure;
 pub use files::RealFiles;
 pub use machine::{Machine, count_answer, count_taking};

@@ -14,7 +14,9 @@ use Rattle.judge_due.specs.JudgeTexts.{JudgeOwed}
 use Rattle.board_due.specs.declared.board_due.BoardDue.{BoardDue}
 use Rattle.board_due.specs.BoardPlans.{board_plan_by}
 use Rattle.program.specs.declared.family.Family.{Family}
-use Rattle.program.specs.declared.family.Family.TheVariants.{OfBoard, OfCheck, OfFollow, OfFrames, OfJudge, OfRun, OfSweep}
+use Rattle.program.specs.declared.family.Family.TheVariants.{OfBoard, Returns}
+use Rattle.program.specs.declared.family.Returning.{Returning}
+use Rattle.program.specs.declared.family.Returning.TheVariants.{OfCheck, OfFollow, OfFrames, OfJudge, OfRun, OfSweep}
 
 -- the word is the first of a command of frames
 abbrev pub is_of_frames : List ℕ → Bool
@@ -40,40 +42,47 @@ is_judge word = bytes_eq word (codes "judge")
 abbrev pub is_board : List ℕ → Bool
 is_board word = bytes_eq word (codes "board")
 
--- the commands to which a first word belongs
+-- which call runs words with this first word
 abbrev pub family_of_word : List ℕ → Family
 family_of_word word =
-    if is_of_frames word then OfFrames
-    else if is_follow word then OfFollow
-    else if is_sweep word then OfSweep
-    else if is_check word then OfCheck
-    else if is_judge word then OfJudge
+    if is_of_frames word then Returns OfFrames
+    else if is_follow word then Returns OfFollow
+    else if is_sweep word then Returns OfSweep
+    else if is_check word then Returns OfCheck
+    else if is_judge word then Returns OfJudge
     else if is_board word then OfBoard
-    else OfRun
+    else Returns OfRun
 
--- the commands to which words belong
+-- which call runs these words
 abbrev pub family_of : List (List ℕ) → Family
-family_of [] = OfRun
+family_of [] = Returns OfRun
 family_of (first ∷ more) = family_of_word first
 
--- What such commands can owe, and their plan for some words. By so many entries a board answered its queries while windows were
--- published: no other plan asks for these numbers.
+-- what commands can owe whose call waits for nobody, and their plan for some words
+abbrev pub ReturningOwed : Returning → Type 0
+ReturningOwed OfRun = RunOwed
+ReturningOwed OfFrames = FrameDue
+ReturningOwed OfFollow = FollowDue
+ReturningOwed OfSweep = SweepOwed
+ReturningOwed OfCheck = CheckOwed
+ReturningOwed OfJudge = JudgeOwed
+
+abbrev pub returning_plan : (commands : Returning) → List (List ℕ) → Plan (ReturningOwed commands)
+returning_plan OfRun words = run_plan words
+returning_plan OfFrames words = frame_plan words
+returning_plan OfFollow words = follow_plan words
+returning_plan OfSweep words = sweep_plan words
+returning_plan OfCheck words = check_plan words
+returning_plan OfJudge words = judge_plan words
+
+-- What words can owe, and their plan. By so many entries a board answered its queries while windows were published: no other plan
+-- asks for these numbers.
 abbrev pub Owed : Family → Type 0
-Owed OfRun = RunOwed
-Owed OfFrames = FrameDue
-Owed OfFollow = FollowDue
-Owed OfSweep = SweepOwed
-Owed OfCheck = CheckOwed
-Owed OfJudge = JudgeOwed
+Owed (Returns commands) = ReturningOwed commands
 Owed OfBoard = BoardDue
 
 abbrev pub family_plan : (family : Family) → List ℕ → List (List ℕ) → Plan (Owed family)
-family_plan OfRun live words = run_plan words
-family_plan OfFrames live words = frame_plan words
-family_plan OfFollow live words = follow_plan words
-family_plan OfSweep live words = sweep_plan words
-family_plan OfCheck live words = check_plan words
-family_plan OfJudge live words = judge_plan words
+family_plan (Returns commands) live words = returning_plan commands words
 family_plan OfBoard live words = board_plan_by live words
 
 -- the plan of the program for its words

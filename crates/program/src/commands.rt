@@ -3,17 +3,18 @@
 ghost use Rattle.std.specs.Prelude.{◌≡◌, [], codes};
 ghost use Rattle.bank_words.specs.Seen.{texts_of};
 ghost use Rattle.formats.specs.WordExamples.{words_in};
-ghost use Rattle.program.specs.declared.family.Family.TheVariants.{OfBoard, OfCheck, OfFollow, OfFrames, OfJudge, OfRun, OfSweep};
+ghost use Rattle.program.specs.declared.family.Family.TheVariants.{OfBoard, Returns};
+ghost use Rattle.program.specs.declared.family.Returning.TheVariants.{OfCheck, OfFollow, OfFrames, OfJudge, OfRun, OfSweep};
 ghost use Rattle.program.specs.Families.{family_of, family_of_word, is_board, is_check, is_follow, is_judge, is_of_frames, is_sweep};
 
-use crate::family::Family;
+use crate::family::{Family, Returning};
 
-/// The commands to which words belong, by their first word.
+/// Which call runs these words, by the first of them.
 pub fn family_of(words: &[String]) -> Family
     ensures { result ≡ family_of (texts_of words.now) }
 {
     match words {
-        [] => Family::OfRun,
+        [] => Family::Returns(Returning::OfRun),
         [first, ..] => family_of_word(first.as_str()),
     }
 }
@@ -22,24 +23,24 @@ fn family_of_word(word: &str) -> Family
     ensures { result ≡ family_of_word word.now }
 {
     if is_of_frames(word) {
-        return Family::OfFrames;
+        return Family::Returns(Returning::OfFrames);
     }
     if is_follow(word) {
-        return Family::OfFollow;
+        return Family::Returns(Returning::OfFollow);
     }
     if is_sweep(word) {
-        return Family::OfSweep;
+        return Family::Returns(Returning::OfSweep);
     }
     if is_check(word) {
-        return Family::OfCheck;
+        return Family::Returns(Returning::OfCheck);
     }
     if is_judge(word) {
-        return Family::OfJudge;
+        return Family::Returns(Returning::OfJudge);
     }
     if is_board(word) {
         return Family::OfBoard;
     }
-    Family::OfRun
+    Family::Returns(Returning::OfRun)
 }
 
 fn is_of_frames(word: &str) -> bool
@@ -78,17 +79,17 @@ fn is_board(word: &str) -> bool
     word == "board"
 }
 
-/// Whose commands some words are.
+/// Which call runs some words.
 pub fn families_of_words()
-    ensures irig { family_of (words_in (codes "irig k.toml --seconds 120")) ≡ OfFrames }
-    ensures irig_read { family_of (words_in (codes "irig-read f.txt")) ≡ OfFrames }
-    ensures decode { family_of (words_in (codes "decode irig")) ≡ OfRun }
-    ensures longer { family_of (words_in (codes "irig-reads f.txt")) ≡ OfRun }
-    ensures follow { family_of (words_in (codes "follow k.toml --count 2")) ≡ OfFollow }
-    ensures sweep { family_of (words_in (codes "sweep k.toml --workers 2")) ≡ OfSweep }
-    ensures check { family_of (words_in (codes "check k.toml x.cert")) ≡ OfCheck }
+    ensures irig { family_of (words_in (codes "irig k.toml --seconds 120")) ≡ Returns OfFrames }
+    ensures irig_read { family_of (words_in (codes "irig-read f.txt")) ≡ Returns OfFrames }
+    ensures decode { family_of (words_in (codes "decode irig")) ≡ Returns OfRun }
+    ensures longer { family_of (words_in (codes "irig-reads f.txt")) ≡ Returns OfRun }
+    ensures follow { family_of (words_in (codes "follow k.toml --count 2")) ≡ Returns OfFollow }
+    ensures sweep { family_of (words_in (codes "sweep k.toml --workers 2")) ≡ Returns OfSweep }
+    ensures check { family_of (words_in (codes "check k.toml x.cert")) ≡ Returns OfCheck }
     ensures board { family_of (words_in (codes "board k.toml q.txt")) ≡ OfBoard }
-    ensures judge { family_of (words_in (codes "judge k.toml s")) ≡ OfJudge }
-    ensures later { family_of (words_in (codes "decode judge")) ≡ OfRun }
-    ensures none { family_of [] ≡ OfRun }
+    ensures judge { family_of (words_in (codes "judge k.toml s")) ≡ Returns OfJudge }
+    ensures later { family_of (words_in (codes "decode judge")) ≡ Returns OfRun }
+    ensures none { family_of [] ≡ Returns OfRun }
 {}

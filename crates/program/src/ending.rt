@@ -1,7 +1,6 @@
 //! How the program ends: the status for its command line, and the process's exit code.
-ghost use Rattle.std.specs.Prelude.{◌≡◌, ℕ};
+ghost use Rattle.std.specs.Prelude.{◌≡◌};
 ghost use Rattle.std.specs.Process.{exit_status};
-ghost use Rattle.machine_files.specs.Disk.{Disk};
 ghost use Rattle.program.specs.Endings.{Ends};
 
 use crate::command_line::{CommandLine, words};
@@ -15,18 +14,30 @@ use std::rt::Clock;
 use std::sync::Wait;
 use std::thread::Threads;
 
-/// The exit code of the program for this command line, over this machine.
+/// How the program ended.
+#[derive(Drop)]
+pub struct Exited<M> {
+    /// The exit code of its process.
+    pub code: ExitCode,
+    /// The machine as the program left it.
+    pub machine: M,
+}
+
+/// Ends the program for this command line, over this machine.
 pub fn end<
     R: Threads + Wait + Sync,
     C: CommandLine,
     M: Machine,
     E: Eprint,
     S: Clock + Eprint + Sync,
->(rt: &R, alloc: Global, line: &C, machine: M, error: &E, progress: &Progress<'_, S>) -> ExitCode
-    ensures { (disk : Disk) × (failures : ℕ) × Ends (C.given line.now) (M.disk machine) disk failures (exit_status result) }
+>(rt: &R, alloc: Global, line: &C, machine: M, error: &E, progress: &Progress<'_, S>) -> Exited<M>
+    ensures { Ends (C.given line.now) (M.disk machine) (M.disk result.machine) (M.failures result.machine) (exit_status result.code) }
 {
     let ended = status(rt, alloc, line, machine, error, progress);
-    exit_code(ended.status)
+    Exited {
+        code: exit_code(ended.status),
+        machine: ended.machine,
+    }
 }
 
 /// Runs the words of the command line over the machine. Where these can't be had, nothing is run, and standard error says why.

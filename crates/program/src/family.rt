@@ -1,8 +1,18 @@
-//! Commands that one call runs.
+//! Which call runs some words.
 
-/// Commands that one call runs.
+/// Which call runs some words.
 #[derive(Clone, Copy)]
 pub enum Family {
+    /// One that has no leave to wait for another thread's word, and so is proved to return.
+    Returns(Returning),
+    /// That of a board which askers ask while windows are decoded: `board`. It waits until no asker reads the copy that is
+    /// changed next.
+    OfBoard,
+}
+
+/// Commands that one call runs, which is proved to return.
+#[derive(Clone, Copy)]
+pub enum Returning {
     /// Those of a run: `decode`, `feed`, `encode` and `trial`. All words that are of no other command belong to them, and are
     /// refused.
     OfRun,
@@ -16,6 +26,4 @@ pub enum Family {
     OfCheck,
     /// That of the judgement of a sweep's certificates: `judge`.
     OfJudge,
-    /// That of a board which askers ask while windows are decoded: `board`.
-    OfBoard,
 }

@@ -1,21 +1,19 @@
 //! The program `tsheard`, which shows what was heard: all as in `tsbank`, but for the one call in its middle.
 
-ghost use Rattle.std.specs.Prelude.{ℕ};
 ghost use Rattle.std.specs.Process.{exit_status};
 ghost use Rattle.bank_words.specs.Seen.{texts_of};
 ghost use Rattle.due.specs.HeardRuns.{heard_plan};
 ghost use Rattle.bank.specs.Ending.{HasRun};
-ghost use Rattle.machine_files.specs.Disk.{Disk};
 ghost use Rattle.program.specs.HeardRuns.{EndsHeard};
 ghost use Rattle.program.specs.Runs.{HasRunOn};
 
 use crate::command_line::{CommandLine, HostLine, words};
-use crate::ending::exit_code;
+use crate::ending::{Exited, exit_code};
 use crate::host::hold;
 use crate::machine::HostMachine;
-use crate::messages::{Speaker, explain, explain_no_words};
+use crate::messages::{Speaker, explain_no_words};
 use crate::progress::Progress;
-use crate::running::Ended;
+use crate::running::{Ended, end_run};
 use bank_files::Files;
 use machine_files::{Machine, RealFiles};
 use std::alloc::Global;
@@ -32,17 +30,18 @@ pub fn run_on<R: Threads + Clock + rt::Files + rt::Env + Print + Eprint + AllocG
 ) -> ExitCode {
     let _held = (hold(rt), hold(rt), hold(rt));
     let progress = Progress::of(Speaker::Tsheard, rt, error_is_terminal);
-    end(
+    let ended = end(
         rt,
         rt.alloc(),
         &HostLine(rt),
         HostMachine::new(rt, &progress),
         rt,
         &progress,
-    )
+    );
+    ended.code
 }
 
-/// The exit code of the program for this command line, over this machine.
+/// Ends the program for this command line, over this machine.
 pub fn end<R: Threads + Sync, C: CommandLine, M: Machine, E: Eprint, S: Clock + Eprint + Sync>(
     rt: &R,
     alloc: Global,
@@ -50,11 +49,14 @@ pub fn end<R: Threads + Sync, C: CommandLine, M: Machine, E: Eprint, S: Clock + 
     machine: M,
     error: &E,
     progress: &Progress<'_, S>,
-) -> ExitCode
-    ensures { (disk : Disk) × (failures : ℕ) × EndsHeard (C.given line.now) (M.disk machine) disk failures (exit_status result) }
+) -> Exited<M>
+    ensures { EndsHeard (C.given line.now) (M.disk machine) (M.disk result.machine) (M.failures result.machine) (exit_status result.code) }
 {
     let ended = status(rt, alloc, line, machine, error, progress);
-    exit_code(ended.status)
+    Exited {
+        code: exit_code(ended.status),
+        machine: ended.machine,
+    }
 }
 
 /// Runs the words of the command line over the machine. Where these can't be had, nothing is run, and standard error says why.
@@ -93,12 +95,7 @@ pub fn run<R: Threads + Sync, M: Machine, E: Eprint, S: Clock + Eprint + Sync>(
 {
     let mut files = RealFiles::new(alloc, machine);
     let status = answer(rt, alloc, words, &mut files, progress);
-    progress.end();
-    explain(error, Speaker::Tsheard, status, files.failure());
-    Ended {
-        status,
-        machine: files.into_machine(),
-    }
+    end_run(Speaker::Tsheard, status, files, error, progress)
 }
 
 /// The program's one call of `heard`. All that `heard::run` promises holds of it.

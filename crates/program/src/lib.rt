@@ -6,6 +6,7 @@
 mod command_line;
 mod commands;
 mod ending;
+mod ending_examples;
 #[cfg(test)]
 mod fake;
 mod family;
@@ -22,9 +23,13 @@ mod tests;
 
 pub use command_line::{CommandLine, HostLine, NoWords};
 pub use commands::{families_of_words, family_of};
-pub use ending::{end, exit_code, status};
-pub use family::Family;
+pub use ending::{Exited, end, exit_code, status};
+pub use ending_examples::{
+    no_run_empties_its_configuration, no_run_fails_without_a_failure, runs_leave_other_files,
+    what_a_run_without_words_does,
+};
+pub use family::{Family, Returning};
 pub use host::run_on;
 pub use machine::HostMachine;
 pub use progress::Progress;
-pub use running::{Ended, answer, run};
+pub use running::{Ended, answer, run, run_board, run_returning};

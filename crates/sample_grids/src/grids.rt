@@ -19,6 +19,7 @@ pub fn table(low: u8, high: u8) -> CostTable
     CostTable {
         low: [low; 101],
         high: [high; 101],
+        second: None,
     }
 }
 
