@@ -6,8 +6,8 @@ use std::alloc::{AllocError, Global};
 use std::process::Abort;
 use std::test::Fail;
 
-// The places of a configuration's lines, in the order in which they are judged. Each of the two receivers has five, from that of its
-// name on.
+// The places of a configuration's lines, in the order in which they are judged. Each of the two receivers has nine, from that of its
+// name on, of which the last three are of its own cost table.
 const STATION: usize = 0;
 
 const CEILING: usize = 1;
@@ -16,21 +16,25 @@ const RECEIVER: usize = 2;
 
 const FIRST: usize = 3;
 
-const SECOND: usize = 8;
+const SECOND: usize = 12;
 
-const TABLE: usize = 13;
+const TABLE: usize = 21;
 
-const LOW: usize = 14;
+const LOW: usize = 22;
 
-const HIGH: usize = 15;
+const HIGH: usize = 23;
 
-const UNKNOWN: usize = 16;
+const MOST: usize = 24;
 
-const UNKNOWN_OF_RECEIVER: usize = 17;
+const UNKNOWN: usize = 25;
 
-const UNKNOWN_OF_TABLE: usize = 18;
+const UNKNOWN_OF_RECEIVER: usize = 26;
 
-const PLACES: usize = 19;
+const UNKNOWN_OF_OWN_TABLE: usize = 27;
+
+const UNKNOWN_OF_TABLE: usize = 28;
+
+const PLACES: usize = 29;
 
 // The values of a receiver, in the order in which its lines stand.
 const NAME: usize = 0;
@@ -42,6 +46,14 @@ const DELAY: usize = 2;
 const WEIGHT: usize = 3;
 
 const OWN_STATION: usize = 4;
+
+const OWN_TABLE: usize = 5;
+
+const OWN_LOW: usize = 6;
+
+const OWN_HIGH: usize = 7;
+
+const OWN_MOST: usize = 8;
 
 // A line that is at fault.
 #[derive(Clone, Copy)]
@@ -58,7 +70,7 @@ const NOWHERE: BadLine<'static> = BadLine {
     fault: ConfigFault::UnknownKey,
 };
 
-// The lines of a configuration with no fault. Its receivers and its cost table stand under headers, and so not at their
+// The lines of a configuration with no fault. Its receivers and the cost tables stand under headers, and so not at their
 // own places, where other kinds of values may stand.
 const LINES: [&str; PLACES] = [
     "station = \"jjy\"\n",
@@ -69,6 +81,10 @@ const LINES: [&str; PLACES] = [
     "delay_ms = 1\n",
     "weight = 2\n",
     "station = \"msf\"\n",
+    "",
+    "",
+    "",
+    "second = 1\n",
     "name = \"b\"\n",
     "log = \"b\"\n",
     "delay_ms = 1\n",
@@ -76,6 +92,12 @@ const LINES: [&str; PLACES] = [
     "station = \"msf\"\n",
     "",
     "",
+    "",
+    "",
+    "",
+    "",
+    "",
+    "second = 2000\n",
     "",
     "",
     "",
@@ -94,35 +116,55 @@ fn line_at<'a>(place: usize, first: BadLine<'a>, second: BadLine<'a>) -> &'a str
     if place < PLACES { lines[place] } else { "" }
 }
 
-// The pieces of a configuration: the place where another value may stand for it, what stands before its line, and its place. The
-// first five stand before the first header, and nothing stands for them.
-const PIECES: [(usize, &str, usize); 19] = [
-    (PLACES, "", STATION),
-    (PLACES, "", CEILING),
-    (PLACES, "", UNKNOWN),
-    (PLACES, "", TABLE),
-    (PLACES, "", RECEIVER),
-    (RECEIVER, "[[receiver]]\n", FIRST + NAME),
-    (RECEIVER, "", FIRST + FILE),
-    (RECEIVER, "", FIRST + DELAY),
-    (RECEIVER, "", FIRST + WEIGHT),
-    (RECEIVER, "", FIRST + OWN_STATION),
-    (RECEIVER, "[[receiver]]\n", SECOND + NAME),
-    (RECEIVER, "", SECOND + FILE),
-    (RECEIVER, "", SECOND + DELAY),
-    (RECEIVER, "", SECOND + WEIGHT),
-    (RECEIVER, "", SECOND + OWN_STATION),
-    (RECEIVER, "", UNKNOWN_OF_RECEIVER),
-    (TABLE, "[table]\n", LOW),
-    (TABLE, "", HIGH),
-    (TABLE, "", UNKNOWN_OF_TABLE),
+// The pieces of a configuration: the two places where another value may stand for it, what stands before its line, and its place.
+// The first five stand before the first header, and nothing stands for them.
+const PIECES: [(usize, usize, &str, usize); 29] = [
+    (PLACES, PLACES, "", STATION),
+    (PLACES, PLACES, "", CEILING),
+    (PLACES, PLACES, "", UNKNOWN),
+    (PLACES, PLACES, "", TABLE),
+    (PLACES, PLACES, "", RECEIVER),
+    (RECEIVER, PLACES, "[[receiver]]\n", FIRST + NAME),
+    (RECEIVER, PLACES, "", FIRST + FILE),
+    (RECEIVER, PLACES, "", FIRST + DELAY),
+    (RECEIVER, PLACES, "", FIRST + WEIGHT),
+    (RECEIVER, PLACES, "", FIRST + OWN_STATION),
+    (RECEIVER, PLACES, "", FIRST + OWN_TABLE),
+    (
+        RECEIVER,
+        FIRST + OWN_TABLE,
+        "[receiver.table]\n",
+        FIRST + OWN_LOW,
+    ),
+    (RECEIVER, FIRST + OWN_TABLE, "", FIRST + OWN_HIGH),
+    (RECEIVER, FIRST + OWN_TABLE, "", FIRST + OWN_MOST),
+    (RECEIVER, FIRST + OWN_TABLE, "", UNKNOWN_OF_OWN_TABLE),
+    (RECEIVER, PLACES, "[[receiver]]\n", SECOND + NAME),
+    (RECEIVER, PLACES, "", SECOND + FILE),
+    (RECEIVER, PLACES, "", SECOND + DELAY),
+    (RECEIVER, PLACES, "", SECOND + WEIGHT),
+    (RECEIVER, PLACES, "", SECOND + OWN_STATION),
+    (RECEIVER, PLACES, "", UNKNOWN_OF_RECEIVER),
+    (RECEIVER, PLACES, "", SECOND + OWN_TABLE),
+    (
+        RECEIVER,
+        SECOND + OWN_TABLE,
+        "[receiver.table]\n",
+        SECOND + OWN_LOW,
+    ),
+    (RECEIVER, SECOND + OWN_TABLE, "", SECOND + OWN_HIGH),
+    (RECEIVER, SECOND + OWN_TABLE, "", SECOND + OWN_MOST),
+    (TABLE, PLACES, "[table]\n", LOW),
+    (TABLE, PLACES, "", HIGH),
+    (TABLE, PLACES, "", MOST),
+    (TABLE, PLACES, "", UNKNOWN_OF_TABLE),
 ];
 
 // The configuration with these two faults.
 fn text_with(alloc: Global, first: BadLine<'_>, second: BadLine<'_>) -> Result<String, AllocError> {
     let mut text = String::new(alloc);
-    for (whole, header, place) in &PIECES {
-        if line_at(*whole, first, second).is_empty() {
+    for (whole, part, header, place) in &PIECES {
+        if line_at(*whole, first, second).is_empty() && line_at(*part, first, second).is_empty() {
             text.push_str(header)?;
             text.push_str(line_at(*place, first, second))?;
         }
@@ -138,14 +180,14 @@ enum Wrong {
     Range,
 }
 
-// How many are judged before the receivers, of each receiver, of the cost table and last.
+// How many are judged before the receivers, of each receiver, of the bank's cost table and last.
 const TOP: usize = 14;
 
-const OWN: usize = 21;
+const OWN: usize = 29;
 
-const COSTS: usize = 6;
+const COSTS: usize = 9;
 
-const LAST: usize = 3;
+const LAST: usize = 4;
 
 // How many there are.
 const BAD_LINES: usize = TOP + 2 * OWN + COSTS + LAST;
@@ -183,7 +225,8 @@ const BAD_AT_THE_TOP: [(usize, &str, Wrong, Key); TOP] = [
     ),
 ];
 
-// What is judged of a receiver.
+// What is judged of a receiver, its own cost table last. The lists that are out of range are made in memory: an empty line
+// stands for them here.
 const BAD_OF_RECEIVER: [(usize, &str, Wrong); OWN] = [
     (NAME, "\n", Wrong::Missing),
     (NAME, "name = 1\n", Wrong::Kind),
@@ -210,23 +253,34 @@ const BAD_OF_RECEIVER: [(usize, &str, Wrong); OWN] = [
     (OWN_STATION, "station = [\"jjy\"]\n", Wrong::Kind),
     (OWN_STATION, "station = \"bpc\"\n", Wrong::Range),
     (OWN_STATION, "station = \"JJY\"\n", Wrong::Range),
+    (OWN_TABLE, "table = 1\n", Wrong::Kind),
+    (OWN_LOW, "low = 1\n", Wrong::Kind),
+    (OWN_LOW, "", Wrong::Range),
+    (OWN_HIGH, "high = 1\n", Wrong::Kind),
+    (OWN_HIGH, "", Wrong::Range),
+    (OWN_MOST, "second = 1.0\n", Wrong::Kind),
+    (OWN_MOST, "second = 0\n", Wrong::Range),
+    (OWN_MOST, "second = 2001\n", Wrong::Range),
 ];
 
-// What is judged of the cost table, behind the receivers. The lists that are out of range are made in memory: an empty line
-// stands for them here.
-const BAD_OF_TABLE: [(usize, &str, Wrong, Key); COSTS] = [
-    (TABLE, "table = 1\n", Wrong::Kind, Key::CostTable),
-    (TABLE, "table = []\n", Wrong::Kind, Key::CostTable),
-    (LOW, "low = 1\n", Wrong::Kind, Key::Low),
-    (LOW, "", Wrong::Range, Key::Low),
-    (HIGH, "high = 1\n", Wrong::Kind, Key::High),
-    (HIGH, "", Wrong::Range, Key::High),
+// What is judged of the bank's cost table, behind the receivers. An empty line stands for the lists that are out of range.
+const BAD_OF_TABLE: [(usize, &str, Wrong); COSTS] = [
+    (TABLE, "table = 1\n", Wrong::Kind),
+    (TABLE, "table = []\n", Wrong::Kind),
+    (LOW, "low = 1\n", Wrong::Kind),
+    (LOW, "", Wrong::Range),
+    (HIGH, "high = 1\n", Wrong::Kind),
+    (HIGH, "", Wrong::Range),
+    (MOST, "second = \"1\"\n", Wrong::Kind),
+    (MOST, "second = 0\n", Wrong::Range),
+    (MOST, "second = 2001\n", Wrong::Range),
 ];
 
 // What is judged last.
 const UNKNOWN_LINES: [(usize, &str); LAST] = [
     (UNKNOWN, "other = {}\n"),
     (UNKNOWN_OF_RECEIVER, "x = 1\n"),
+    (UNKNOWN_OF_OWN_TABLE, "x = 1\n"),
     (UNKNOWN_OF_TABLE, "x = 1\n"),
 ];
 
@@ -250,43 +304,74 @@ fn at_the_top(number: usize) -> BadLine<'static> {
     }
 }
 
-// One of those of a receiver, whose lines begin at this place.
-fn of_receiver(number: usize, at: usize, receiver: u8) -> BadLine<'static> {
-    let Some((value, line, wrong)) = BAD_OF_RECEIVER.get(number) else {
-        return NOWHERE;
-    };
-    let key = match *value {
+// The keys of a receiver, by its values.
+fn key_of(value: usize, receiver: u8) -> Key {
+    let own = Some(receiver);
+    match value {
         NAME => Key::Name { receiver },
         FILE => Key::File { receiver },
         DELAY => Key::Delay { receiver },
         WEIGHT => Key::Weight { receiver },
-        _ => Key::ReceiverStation { receiver },
-    };
-    BadLine {
-        place: at.saturating_add(*value),
-        line,
-        fault: fault_at(*wrong, key),
+        OWN_STATION => Key::ReceiverStation { receiver },
+        OWN_TABLE => Key::CostTable { receiver: own },
+        OWN_LOW => Key::Low { receiver: own },
+        OWN_HIGH => Key::High { receiver: own },
+        _ => Key::Second { receiver: own },
     }
 }
 
-// One of those of the cost table, with these lists out of range.
-fn of_table<'a>(number: usize, low: &'a str, high: &'a str) -> BadLine<'a> {
-    if number >= COSTS {
-        return NOWHERE;
+// The keys of the bank's cost table, by their places.
+fn table_key(place: usize) -> Key {
+    let receiver = None;
+    match place {
+        TABLE => Key::CostTable { receiver },
+        LOW => Key::Low { receiver },
+        HIGH => Key::High { receiver },
+        _ => Key::Second { receiver },
     }
-    let rows = &BAD_OF_TABLE;
-    let (place, own, wrong, key) = rows[number];
-    let line = if !own.is_empty() {
-        own
-    } else if place == LOW {
-        low
-    } else {
-        high
+}
+
+// A list that is out of range, by the key of each.
+#[derive(Clone, Copy)]
+struct Lists<'a> {
+    low: &'a str,
+    high: &'a str,
+}
+
+impl<'a> Lists<'a> {
+    // The line, or the list that an empty one stands for.
+    fn line(self, line: &'a str, is_low: bool) -> &'a str {
+        if !line.is_empty() {
+            line
+        } else if is_low {
+            self.low
+        } else {
+            self.high
+        }
+    }
+}
+
+// One of those of a receiver, whose lines begin at this place.
+fn of_receiver<'a>(number: usize, at: usize, receiver: u8, lists: Lists<'a>) -> BadLine<'a> {
+    let Some((value, line, wrong)) = BAD_OF_RECEIVER.get(number) else {
+        return NOWHERE;
     };
     BadLine {
-        place,
-        line,
-        fault: fault_at(wrong, key),
+        place: at.saturating_add(*value),
+        line: lists.line(line, *value == OWN_LOW),
+        fault: fault_at(*wrong, key_of(*value, receiver)),
+    }
+}
+
+// One of those of the bank's cost table.
+fn of_table<'a>(number: usize, lists: Lists<'a>) -> BadLine<'a> {
+    let Some((place, line, wrong)) = BAD_OF_TABLE.get(number) else {
+        return NOWHERE;
+    };
+    BadLine {
+        place: *place,
+        line: lists.line(line, *place == LOW),
+        fault: fault_at(*wrong, table_key(*place)),
     }
 }
 
@@ -303,21 +388,21 @@ fn unknown(number: usize) -> BadLine<'static> {
 }
 
 // One of all of them, in the order in which they are judged.
-fn bad_line<'a>(number: usize, low: &'a str, high: &'a str) -> BadLine<'a> {
+fn bad_line<'a>(number: usize, lists: Lists<'a>) -> BadLine<'a> {
     if number < TOP {
         return at_the_top(number);
     }
     let number = number - TOP;
     if number < OWN {
-        return of_receiver(number, FIRST, 1);
+        return of_receiver(number, FIRST, 1, lists);
     }
     let number = number - OWN;
     if number < OWN {
-        return of_receiver(number, SECOND, 2);
+        return of_receiver(number, SECOND, 2, lists);
     }
     let number = number - OWN;
     if number < COSTS {
-        return of_table(number, low, high);
+        return of_table(number, lists);
     }
     unknown(number - COSTS)
 }
@@ -345,11 +430,11 @@ fn first_decides(rt: &(impl Abort + AllocGlobal), first: BadLine<'_>, second: Ba
 }
 
 // Each fault alone, and with each of those that are judged later.
-fn first_of_two_decides(rt: &(impl Abort + AllocGlobal), low: &str, high: &str) {
+fn first_of_two_decides<'a>(rt: &(impl Abort + AllocGlobal), lists: Lists<'a>) {
     for i in 0..BAD_LINES {
-        let first = bad_line(i, low, high);
+        let first = bad_line(i, lists);
         for k in i..BAD_LINES {
-            first_decides(rt, first, bad_line(k, low, high));
+            first_decides(rt, first, bad_line(k, lists));
         }
     }
 }
@@ -358,7 +443,11 @@ fn first_of_two_decides(rt: &(impl Abort + AllocGlobal), low: &str, high: &str) 
 fn first_fault_decides(rt: HostRuntime) -> Result<(), Fail> {
     let low = text_of(rt.alloc(), &[("low = [", 1), ("1, ", 100), ("201]\n", 1)])?;
     let high = text_of(rt.alloc(), &[("high = [", 1), ("1, ", 100), ("201]\n", 1)])?;
-    first_of_two_decides(&rt, &low, &high);
+    let lists = Lists {
+        low: &low,
+        high: &high,
+    };
+    first_of_two_decides(&rt, lists);
     Ok(())
 }
 

@@ -50,51 +50,32 @@ fn fault_of(rt: &(impl Abort + AllocGlobal), pieces: &[(&str, usize)]) -> Option
 // What stands before the lists of a cost table.
 const BEFORE_LISTS: &str = "station = \"jjy\"\nreceiver = [{name = \"a\", log = \"a\"}]\n[table]\n";
 
+const WRONG_LOW: Option<ConfigFault> = Some(ConfigFault::WrongKind {
+    key: Key::Low { receiver: None },
+});
+
+const LOW_OUT_OF_RANGE: Option<ConfigFault> = Some(ConfigFault::OutOfRange {
+    key: Key::Low { receiver: None },
+});
+
+const WRONG_HIGH: Option<ConfigFault> = Some(ConfigFault::WrongKind {
+    key: Key::High { receiver: None },
+});
+
+const HIGH_OUT_OF_RANGE: Option<ConfigFault> = Some(ConfigFault::OutOfRange {
+    key: Key::High { receiver: None },
+});
+
 // A list by its key, how many ones it has, its last number, and what is wrong with it.
 const LISTS: [(&str, usize, &str, Option<ConfigFault>); 9] = [
-    (
-        "low",
-        99,
-        "1",
-        Some(ConfigFault::WrongKind { key: Key::Low }),
-    ),
-    (
-        "low",
-        101,
-        "1",
-        Some(ConfigFault::WrongKind { key: Key::Low }),
-    ),
-    (
-        "low",
-        100,
-        "1.0",
-        Some(ConfigFault::WrongKind { key: Key::Low }),
-    ),
-    (
-        "low",
-        100,
-        "201",
-        Some(ConfigFault::OutOfRange { key: Key::Low }),
-    ),
-    (
-        "low",
-        100,
-        "-1",
-        Some(ConfigFault::OutOfRange { key: Key::Low }),
-    ),
+    ("low", 99, "1", WRONG_LOW),
+    ("low", 101, "1", WRONG_LOW),
+    ("low", 100, "1.0", WRONG_LOW),
+    ("low", 100, "201", LOW_OUT_OF_RANGE),
+    ("low", 100, "-1", LOW_OUT_OF_RANGE),
     ("low", 100, "200", None),
-    (
-        "high",
-        99,
-        "1",
-        Some(ConfigFault::WrongKind { key: Key::High }),
-    ),
-    (
-        "high",
-        100,
-        "201",
-        Some(ConfigFault::OutOfRange { key: Key::High }),
-    ),
+    ("high", 99, "1", WRONG_HIGH),
+    ("high", 100, "201", HIGH_OUT_OF_RANGE),
     ("high", 100, "0", None),
 ];
 
@@ -135,8 +116,56 @@ fn judges_the_cost_table(rt: HostRuntime) {
         let found = fault_of_list(&rt, key, *ones, last);
         check_row(&rt, found == *fault, last);
     }
-    let found = fault_of_both_lists(&rt);
-    assert!(rt; found == Some(out_of_range(Key::Low)));
+    assert!(rt; fault_of_both_lists(&rt) == LOW_OUT_OF_RANGE);
+}
+
+// What a second may cost at the most, and what is out of its range or no whole number.
+const SECONDS: [&str; 4] = ["1", "2", "1_999", "2000"];
+
+const SECONDS_OUT_OF_RANGE: [&str; 6] = [
+    "0",
+    "-1",
+    "2001",
+    "65536",
+    "65537",
+    "9223372036854775807",
+];
+
+const NO_SECONDS: [&str; 6] = ["1.0", "\"1\"", "[1]", "{}", "true", "1e2"];
+
+// These are all judged so in the table that stands behind this text.
+fn judges_seconds<'a>(
+    rt: &(impl Abort + AllocGlobal),
+    before: &'a str,
+    values: &[&'a str],
+    fault: Option<ConfigFault>,
+) {
+    for value in values {
+        let found = fault_of(rt, &[(before, 1), ("second = ", 1), (*value, 1), ("\n", 1)]);
+        check_row(rt, found == fault, value);
+    }
+}
+
+#[test]
+fn judges_what_a_second_costs(rt: HostRuntime) {
+    let key = Key::Second { receiver: None };
+    judges_seconds(&rt, BANK_AND_TABLE, &SECONDS, None);
+    judges_seconds(
+        &rt,
+        BANK_AND_TABLE,
+        &SECONDS_OUT_OF_RANGE,
+        Some(out_of_range(key)),
+    );
+    judges_seconds(&rt, BANK_AND_TABLE, &NO_SECONDS, Some(wrong_kind(key)));
+    let key = Key::Second { receiver: Some(1) };
+    judges_seconds(&rt, BANK_AND_OWN_TABLE, &SECONDS, None);
+    judges_seconds(
+        &rt,
+        BANK_AND_OWN_TABLE,
+        &SECONDS_OUT_OF_RANGE,
+        Some(out_of_range(key)),
+    );
+    judges_seconds(&rt, BANK_AND_OWN_TABLE, &NO_SECONDS, Some(wrong_kind(key)));
 }
 
 // What is checked of a configuration that is read.
@@ -144,8 +173,10 @@ fn judges_the_cost_table(rt: HostRuntime) {
 enum Check {
     Little,
     Whole,
-    // The first, the last but one and the last of both lists of costs.
-    Costs([u8; 6]),
+    // Of the bank's cost table: the first, the last but one and the last of both lists, and what a second costs at the most.
+    Costs([u8; 6], Option<u16>),
+    // The same of the first receiver's own table, where the second receiver has none.
+    Own([u8; 6], Option<u16>),
 }
 
 // What owns the configuration does nothing else: each place at which it may be dropped is proved.
@@ -160,7 +191,8 @@ fn holds(config: &Config, check: Check) -> bool {
     match check {
         Check::Little => config.station == Station::Wwvb && config.ceiling == 1_920_000_000,
         Check::Whole => says_its_values(config) && says_its_receivers(&config.receivers),
-        Check::Costs(costs) => costs_of(&config.table) == costs,
+        Check::Costs(costs, most) => is_table(&config.table, costs, most),
+        Check::Own(costs, most) => has_first_own(&config.receivers, costs, most),
     }
 }
 
@@ -187,6 +219,7 @@ fn is_receiver(
         && receiver.file.as_str() == texts.1
         && receiver.tuning.delay == numbers.0
         && receiver.tuning.weight == numbers.1
+        && receiver.tuning.table.is_none()
         && receiver.station == station
 }
 
@@ -267,11 +300,14 @@ fn judges_names_and_logs(rt: HostRuntime) {
     }
 }
 
-// A configuration of one receiver, and the same with a cost table to come.
+// A configuration of one receiver, and the same with a cost table to come, the bank's or the receiver's own.
 const BANK: &str = "station = \"jjy\"\n[[receiver]]\nname = \"a\"\nlog = \"b\"\n";
 
 const BANK_AND_TABLE: &str =
     "station = \"jjy\"\n[[receiver]]\nname = \"a\"\nlog = \"b\"\n[table]\n";
+
+const BANK_AND_OWN_TABLE: &str =
+    "station = \"jjy\"\n[[receiver]]\nname = \"a\"\nlog = \"b\"\n[receiver.table]\n";
 
 // Whether a list of a hundred ones and a last cost under this key gives these costs.
 fn gives_costs<'a>(
@@ -289,7 +325,7 @@ fn gives_costs<'a>(
         ("]\n", 1),
     ];
     match text_of(rt.alloc(), &pieces) {
-        Ok(text) => is_read(rt, text.as_bytes(), Check::Costs(costs)),
+        Ok(text) => is_read(rt, text.as_bytes(), Check::Costs(costs, None)),
         Err(_) => false,
     }
 }
@@ -297,6 +333,94 @@ fn gives_costs<'a>(
 fn costs_of(table: &CostTable) -> [u8; 6] {
     let (low, high) = (&table.low, &table.high);
     [low[0], low[99], low[100], high[0], high[99], high[100]]
+}
+
+// Whether a table has these costs, and this bound of what a second costs.
+fn is_table(table: &CostTable, costs: [u8; 6], most: Option<u16>) -> bool {
+    costs_of(table) == costs && table.second == most
+}
+
+// Whether the first of two receivers has such a table of its own, and the second none.
+fn has_first_own(receivers: &[Receiver], costs: [u8; 6], most: Option<u16>) -> bool {
+    let [first, second] = receivers else {
+        return false;
+    };
+    match &first.tuning.table {
+        Some(table) => is_table(table, costs, most) && second.tuning.table.is_none(),
+        None => false,
+    }
+}
+
+// The costs of the table that counts the milliseconds that differ.
+const USUAL: [u8; 6] = [100, 1, 0, 0, 99, 100];
+
+// Lines of the bank's table, and what a second costs at the most by them.
+const GIVEN_SECONDS: [(&str, Option<u16>); 3] = [
+    ("", None),
+    ("second = 1\n", Some(1)),
+    ("second = 2000\n", Some(2_000)),
+];
+
+#[test]
+fn reads_what_a_second_costs(rt: HostRuntime) {
+    for (line, most) in &GIVEN_SECONDS {
+        let is_so = match text_of(rt.alloc(), &[(BANK_AND_TABLE, 1), (*line, 1)]) {
+            Ok(text) => is_read(&rt, text.as_bytes(), Check::Costs(USUAL, *most)),
+            Err(_) => false,
+        };
+        check_row(&rt, is_so, line);
+    }
+}
+
+// What stands behind a receiver's own table: a receiver without one, and a table of the bank in which all is given, up to its lists.
+const BEHIND_OWN_TABLE: &str =
+    "[[receiver]]\nname = \"c\"\nlog = \"d\"\n[table]\nsecond = 40\nlow = [";
+
+// A receiver's own table: its text, of which the middle stands a hundred times, and its costs. What it leaves out is as in the
+// usual table and not as in the bank's.
+const OWN_TABLES: [(&str, &str, &str, [u8; 6], Option<u16>); 5] = [
+    ("", "", "", USUAL, None),
+    ("second = 150\n", "", "", USUAL, Some(150)),
+    ("low = [", "7, ", "7]\n", [7, 7, 7, 0, 99, 100], None),
+    ("high = [", "7, ", "7]\n", [100, 1, 0, 7, 7, 7], None),
+    (
+        "second = 2000\nhigh = [",
+        "7, ",
+        "7]\n",
+        [100, 1, 0, 7, 7, 7],
+        Some(2_000),
+    ),
+];
+
+// The configuration with this table of a receiver's own.
+fn text_with_own(alloc: Global, own: (&str, &str, &str)) -> Result<String, AllocError> {
+    let pieces = [
+        (BANK_AND_OWN_TABLE, 1),
+        (own.0, 1),
+        (own.1, 100),
+        (own.2, 1),
+        (BEHIND_OWN_TABLE, 1),
+        ("3, ", 100),
+        ("3]\nhigh = [", 1),
+        ("5, ", 100),
+        ("5]\n", 1),
+    ];
+    text_of(alloc, &pieces)
+}
+
+#[test]
+fn reads_tables_of_receivers(rt: HostRuntime) {
+    let of_bank = Check::Costs([3, 3, 3, 5, 5, 5], Some(40));
+    for (head, unit, tail, costs, most) in &OWN_TABLES {
+        let is_so = match text_with_own(rt.alloc(), (*head, *unit, *tail)) {
+            Ok(text) => {
+                is_read(&rt, text.as_bytes(), Check::Own(*costs, *most))
+                    && is_read(&rt, text.as_bytes(), of_bank)
+            }
+            Err(_) => false,
+        };
+        check_row(&rt, is_so, head);
+    }
 }
 
 // A list of costs stands under its own key, and the other list is the usual one.
@@ -320,18 +444,19 @@ fn knows_none<'a>(
     }
 }
 
-const NOT_AT_THE_TOP: [&str; 6] = ["name", "log", "delay_ms", "weight", "low", "high"];
+const NOT_AT_THE_TOP: [&str; 7] = ["name", "log", "delay_ms", "weight", "low", "high", "second"];
 
-const NOT_OF_A_RECEIVER: [&str; 5] = ["ceiling", "receiver", "table", "low", "high"];
+const NOT_OF_A_RECEIVER: [&str; 5] = ["ceiling", "receiver", "low", "high", "second"];
 
-const NOT_OF_THE_TABLE: [&str; 6] = ["station", "ceiling", "receiver", "table", "name", "log"];
+const NOT_OF_A_TABLE: [&str; 6] = ["station", "ceiling", "receiver", "table", "name", "log"];
 
 // A key that is known in one place is unknown in another.
 #[test]
 fn knows_keys_in_their_places(rt: HostRuntime) {
     knows_none(&rt, "", &NOT_AT_THE_TOP, BANK);
     knows_none(&rt, BANK, &NOT_OF_A_RECEIVER, "");
-    knows_none(&rt, BANK_AND_TABLE, &NOT_OF_THE_TABLE, "");
+    knows_none(&rt, BANK_AND_TABLE, &NOT_OF_A_TABLE, "");
+    knows_none(&rt, BANK_AND_OWN_TABLE, &NOT_OF_A_TABLE, "");
 }
 
 // What is wrong with a list of so many empty tables, behind a comment that is no table.
