@@ -84,20 +84,11 @@ fn sums_page(sums: &[ReceiverHeard], next: Option<u32>) -> Page
     ensures { result.text.bytes ≡ flat_map sum_line sums.now ++ next_line next }
 {
     let mut page = Page::new();
-    push_sums(&mut page, sums);
+    for sum in sums {
+        push_sum(&mut page, sum);
+    }
     page.push(&next_line(next));
     page
-}
-
-// Adds the line of each receiver's sum.
-fn push_sums(page: &mut Page, sums: &[ReceiverHeard])
-    requires { page.old.lines + 2 * length sums.now ≤ MOST_LINES }
-    ensures bytes { page.new.text.bytes ≡ page.old.text.bytes ++ flat_map sum_line sums.now }
-    ensures lines { page.new.lines ≡ page.old.lines + 2 * length sums.now }
-{
-    for sum in sums {
-        push_sum(page, sum);
-    }
 }
 
 // Adds the line of a slot, which is longer than a line of a page, so that it takes the room of three.

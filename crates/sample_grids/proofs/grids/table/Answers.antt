@@ -6,4 +6,5 @@ pub returns : goal.returns
 returns c = record {
   low = λ n. omega (arith, repeated 101 c.args.low n, c.requires.low);
   high = λ n. omega (arith, repeated 101 c.args.high n, c.requires.high);
+  second = λ most e. cc;
 }
