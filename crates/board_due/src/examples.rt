@@ -1,7 +1,7 @@
 //! Worked examples of what `board` owes.
 #![tactic(auto, unfolding(crate::specs::Examples::digits, definitions::specs::time::Calendar::day_at, definitions::specs::sequences::Walks::place_at))]
 
-ghost use Rattle.std.specs.Prelude.{ℕ, ◌≡◌, List, [], ◌∷◌, ◌++◌, Some, codes};
+ghost use Rattle.std.specs.Prelude.{ℕ, ◌≡◌, List, [], ◌∷◌, ◌++◌, All, Some, codes, length};
 ghost use Rattle.definitions.specs.examples.Sequences.{from_place};
 ghost use Rattle.definitions.specs.heard.Logs.{Records};
 ghost use Rattle.formats.specs.Bytes.{line};
@@ -25,12 +25,23 @@ ghost use Rattle.board_due.specs.BoardOrders.{AsksBoard};
 ghost use Rattle.board_due.specs.BoardRules.{IsBoardDue, IsBoardRead};
 ghost use Rattle.board_due.specs.BoardTexts.{bad_query_line, too_large_line};
 ghost use Rattle.board_due.specs.Examples.{four_queries, order_of_q, three_reports};
-ghost use Rattle.board_due.specs.Queries.{IsRefused, IsTextOf, queries_text};
+ghost use Rattle.board_due.specs.Queries.{IsQuery, IsRefused, IsTextOf, IsToldOf, queries_text};
+ghost use Rattle.board_due.specs.Queries.QueriesTold.{TooLarge as TooManyBytes};
 
 /// Texts of queries. An empty one has none.
 pub fn queries_in_a_text()
     ensures text { queries_text (0 ∷ 60_000 ∷ 999_999_999_999 ∷ []) ≡ line (codes "0") ++ line (codes "60000") ++ line (codes "999999999999") }
     ensures empty { IsTextOf [] [] }
+{}
+
+/// The greatest query and the most of them, the greatest text, and those beyond.
+pub fn limits_of_queries()
+    ensures last { IsQuery 999_999_999_999 }
+    ensures beyond { ¬ (IsQuery 1_000_000_000_000) }
+    ensures most { (queries : List ℕ) → All IsQuery queries → length queries ≡ 10_000 → IsTextOf queries (queries_text queries) }
+    ensures one_more { (queries : List ℕ) → All IsQuery queries → length queries ≡ 10_000 → IsRefused (queries_text queries ++ line (codes "0")) 10_001 }
+    ensures largest { (text : List ℕ) → length text ≡ 200_000 → ¬ (IsToldOf text TooManyBytes) }
+    ensures too_large { (text : List ℕ) → length text ≡ 200_001 → IsToldOf text TooManyBytes }
 {}
 
 /// Lines that are refused: one with a needless zero inside a text, one that isn't ended, and an empty one; and the lines that say so.
@@ -49,7 +60,7 @@ pub fn refused_words_of_board()
     ensures readers { (contents : Contents) → IsBoardDue (words_in (codes "board k.toml q.txt --readers 5")) contents (Told (Refused (WordsBad Readers))) }
 {}
 
-/// What words ask: two askers, unless they say otherwise. Of a bank that isn't loaded the queries aren't read.
+/// What words ask: two askers, unless they say otherwise; and which file is read first.
 pub fn what_is_asked_of_a_board()
     ensures usual { AsksBoard (words_in (codes "board k.toml q.txt")) (order_of_q asked_usually 60 10 2) }
     ensures own { AsksBoard (words_in (codes "board k.toml q.txt --count 3 --readers 4")) (order_of_q asked_usually 60 3 4) }

@@ -2,7 +2,14 @@
 
 ghost use Rattle.std.specs.Prelude.{ℕ, ◌≡◌, ◌≢◌, ◌↔◌, ◌⊎◌, List};
 ghost use Rattle.due.specs.declared.status.Status.TheVariants.{Failed, NoMemory};
-ghost use Rattle.due.specs.Inputs.{Contents, Input};
+ghost use Rattle.definitions.specs.heard.Logs.{Records};
+ghost use Rattle.formats.specs.declared.refusal.Refusal.{Refusal};
+ghost use Rattle.bank_config.specs.Configuration.{PlainConfig};
+ghost use Rattle.due.specs.Banks.{bank_of};
+ghost use Rattle.due.specs.Inputs.{Contents, Input, QueriesText};
+ghost use Rattle.due.specs.Loads.{IsBankLoaded, IsBankRead, IsBankRefused};
+ghost use Rattle.follow_due.specs.FollowOrders.{first_window};
+ghost use Rattle.follow_due.specs.Windows.{StartInTime, StartTooLate};
 ghost use Rattle.board_entries.specs.Board.{PlainEntry};
 ghost use Rattle.board_due.specs.declared.board_due.BoardDue.{BoardDue};
 ghost use Rattle.board_due.specs.declared.board_due.BoardDue.TheVariants.{Answers};
@@ -46,6 +53,23 @@ pub fn reads_decide_board()
     ensures reads { (words : List (List ℕ)) (some other : Contents)
         → ((input : Input) (file : List ℕ) → IsBoardRead words some input file → some input ≡ other input)
         → (input : Input) (file : List ℕ) → IsBoardRead words some input file ↔ IsBoardRead words other input file }
+{}
+
+/// The queries are read last, from the file that is named for them: where the bank is refused or the last window starts too late, they
+/// aren't read. All else is read of the bank, as for a decode of it.
+pub fn the_queries_are_read_last()
+    ensures refused { (words : List (List ℕ)) (contents : Contents) (refusal : Refusal) (file : List ℕ)
+        → IsBankRefused contents refusal → ¬ (IsBoardRead words contents QueriesText file) }
+    ensures late { (words : List (List ℕ)) (contents : Contents) (o : BoardOrder) (config : PlainConfig) (records : List Records) (file : List ℕ)
+        → AsksBoard words o → IsBankLoaded contents config records → StartTooLate (first_window o.follow (bank_of config records)) o.follow.step o.follow.count
+        → ¬ (IsBoardRead words contents QueriesText file) }
+    ensures read { (words : List (List ℕ)) (contents : Contents) (o : BoardOrder) (config : PlainConfig) (records : List Records)
+        → AsksBoard words o → IsBankLoaded contents config records → StartInTime (first_window o.follow (bank_of config records)) o.follow.step o.follow.count
+        → IsBoardRead words contents QueriesText o.queries }
+    ensures only { (words : List (List ℕ)) (contents : Contents) (o : BoardOrder) (file : List ℕ)
+        → AsksBoard words o → IsBoardRead words contents QueriesText file → file ≡ o.queries }
+    ensures bank { (words : List (List ℕ)) (contents : Contents) (o : BoardOrder) (input : Input) (file : List ℕ)
+        → AsksBoard words o → input ≢ QueriesText → IsBoardRead words contents input file ↔ IsBankRead o.follow.config contents input file }
 {}
 
 /// That a file fails or memory runs out is never due.

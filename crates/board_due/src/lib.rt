@@ -10,13 +10,13 @@ mod queries;
 
 pub use board_due::BoardDue;
 pub use examples::{
-    entries_of_reports, lines_of_two_windows, numbers_of_entries, queries_in_a_text,
-    queries_that_are_refused, refused_words_of_board, what_is_asked_of_a_board,
+    entries_of_reports, limits_of_queries, lines_of_two_windows, numbers_of_entries,
+    queries_in_a_text, queries_that_are_refused, refused_words_of_board, what_is_asked_of_a_board,
     what_is_due_of_queries, what_is_refused_behind_the_logs,
 };
 pub use laws::{
     no_failure_is_due_of_board, one_thing_is_due_of_board, queries_have_one_outcome,
-    reads_decide_board,
+    reads_decide_board, the_queries_are_read_last,
 };
 pub use lists::{Entries, Numbers};
 pub use queries::{MOST_QUERIES, QUERIES_LIMIT, QUERY_LIMIT};

@@ -1,3 +1,4 @@
 pub mod CheckOrderLaws
 pub mod CheckDueLaws
 pub mod CheckReadLaws
+pub mod DoneLaws

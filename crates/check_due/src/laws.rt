@@ -1,17 +1,19 @@
 //! What follows from the rules of what `check` owes.
 
-ghost use Rattle.std.specs.Prelude.{ℕ, ◌≡◌, ◌≢◌, ◌≤◌, ◌↔◌, List, Some, length};
+ghost use Rattle.std.specs.Prelude.{ℕ, ◌≡◌, ◌≢◌, ◌≤◌, ◌↔◌, ◌++◌, List, Some, codes, length};
 ghost use Rattle.signal_base.specs.declared.dut.StationDut.{StationDut};
 ghost use Rattle.signal_base.specs.declared.window.Window.{Window};
 ghost use Rattle.definitions.specs.declared.answer.Answer.{Answer};
 ghost use Rattle.definitions.specs.heard.Logs.{Records};
+ghost use Rattle.formats.specs.Bytes.{line};
+ghost use Rattle.formats.specs.Reports.{report};
 ghost use Rattle.formats.specs.declared.refusal.Refusal.{Refusal};
 ghost use Rattle.bank_config.specs.Configuration.{PlainConfig};
 ghost use Rattle.certificates.specs.declared.limits.TheConstants.{MOST_STEPS};
 ghost use Rattle.certificates.specs.Certificates.{Certificate as PlainCertificate, lines_of};
 ghost use Rattle.certificates.specs.Texts.{certificate_text};
 ghost use Rattle.due.specs.declared.check_due.CheckDue.TheVariants.{Certified};
-ghost use Rattle.due.specs.declared.status.Status.TheVariants.{Failed, NoMemory};
+ghost use Rattle.due.specs.declared.status.Status.TheVariants.{Done, Failed, NoMemory};
 ghost use Rattle.due.specs.Banks.{IsBankAnswer, bank_of, duts_of, window_of};
 ghost use Rattle.due.specs.CertificateRules.{AsksCertificate, AsksCheck, CertificateOrder, CheckOrder, IsCertificateDue, certified};
 ghost use Rattle.due.specs.Inputs.{Certificate, Contents, Input};
@@ -20,6 +22,7 @@ ghost use Rattle.check_due.specs.declared.check_owed.CheckOwed.{CheckOwed};
 ghost use Rattle.check_due.specs.declared.check_owed.CheckOwed.TheVariants.{Judged};
 ghost use Rattle.check_due.specs.CheckPlans.{check_plan};
 ghost use Rattle.check_due.specs.CheckRules.{IsCheckDue, IsCheckRead};
+ghost use Rattle.check_due.specs.CheckTexts.{owed_status, owed_text};
 
 use due::{certificates_that_are_due_are_certified, one_thing_is_told_of_a_certificate};
 
@@ -69,6 +72,18 @@ pub fn what_a_check_certifies_is_the_answer()
         → IsCheckDue words contents (Judged (Certified window answer duts))
         → (window ≡ window_of o.asked (bank_of config records).receivers) × IsBankAnswer window (bank_of config records) answer
         × (duts ≡ duts_of window (bank_of config records) answer) }
+{
+    one_thing_is_told_of_a_certificate();
+}
+
+/// A `check` that ends with 0 prints that it is certified and the report of the answer for the bank, and nothing else, whoever made
+/// the certificate.
+pub fn a_check_that_ends_with_0_prints_the_answer()
+    ensures { (words : List (List ℕ)) (contents : Contents) (owed : CheckOwed) → IsCheckDue words contents owed → owed_status owed ≡ Done
+        → (o : CheckOrder) × AsksCheck words o × ((config : PlainConfig) × (records : List Records) × IsBankLoaded contents config records
+        × ((answer : Answer) × IsBankAnswer (window_of o.asked (bank_of config records).receivers) (bank_of config records) answer
+        × (owed_text owed ≡ line (codes "certified") ++ report (window_of o.asked (bank_of config records).receivers)
+        (duts_of (window_of o.asked (bank_of config records).receivers) (bank_of config records) answer) answer))) }
 {
     one_thing_is_told_of_a_certificate();
 }

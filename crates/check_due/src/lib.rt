@@ -12,7 +12,7 @@ pub use examples::{
     what_is_asked_of_a_check,
 };
 pub use laws::{
-    no_failure_is_due_of_a_check, one_thing_is_due_of_a_check, reads_decide_a_check,
-    the_certificate_is_read_last, what_a_check_certifies_is_the_answer,
-    written_certificates_are_certified,
+    a_check_that_ends_with_0_prints_the_answer, no_failure_is_due_of_a_check,
+    one_thing_is_due_of_a_check, reads_decide_a_check, the_certificate_is_read_last,
+    what_a_check_certifies_is_the_answer, written_certificates_are_certified,
 };

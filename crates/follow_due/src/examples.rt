@@ -95,7 +95,7 @@ pub fn reports_of_two_minutes()
         ≡ record { file = codes "-"; anew = false; text = line (codes "window 7000") ++ line (codes "none") ++ line (codes "phase 237") } ∷ [] }
 {}
 
-/// A run ends with 0 where all windows are decided, and with 1 where some aren't, also where nothing is admitted.
+/// A run ends with 0 where all windows are decided, and with 1 where some aren't, also where nothing is admitted in any of them.
 pub fn statuses_of_windows()
     ensures decided { follow_status (Windows (told_of (two_minutes 0) (answer.Decided 0 (from_place 720 0) None)
         ∷ told_of (two_minutes 60_000) (answer.Decided 7 (from_place 721 0) (Some 9)) ∷ [])) ≡ Done }
@@ -103,4 +103,5 @@ pub fn statuses_of_windows()
         ∷ open_told (two_minutes 60_000) (answer.Undecided 0 (from_place 0 0) (from_place 1 0)) ∷ [])) ≡ Undecided }
     ensures nothing { follow_status (Windows (open_told (two_minutes 0) answer.Nothing
         ∷ told_of (two_minutes 60_000) (answer.Decided 0 (from_place 720 0) None) ∷ [])) ≡ Undecided }
+    ensures nothing_at_all { follow_status (Windows (open_told (two_minutes 0) answer.Nothing ∷ open_told (two_minutes 60_000) answer.Nothing ∷ [])) ≡ Undecided }
 {}

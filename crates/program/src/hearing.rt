@@ -30,15 +30,15 @@ pub fn run_on<R: Threads + Clock + rt::Files + rt::Env + Print + Eprint + AllocG
 ) -> ExitCode {
     let _held = (hold(rt), hold(rt), hold(rt));
     let progress = Progress::of(Speaker::Tsheard, rt, error_is_terminal);
-    let ended = end(
+    end(
         rt,
         rt.alloc(),
         &HostLine(rt),
         HostMachine::new(rt, &progress),
         rt,
         &progress,
-    );
-    ended.code
+    )
+    .code
 }
 
 /// Ends the program for this command line, over this machine.

@@ -17,15 +17,15 @@ pub fn run_on<
 >(rt: &R, error_is_terminal: bool) -> ExitCode {
     let _held = (hold(rt), hold(rt), hold(rt));
     let progress = Progress::new(rt, error_is_terminal);
-    let ended = end(
+    end(
         rt,
         rt.alloc(),
         &HostLine(rt),
         HostMachine::new(rt, &progress),
         rt,
         &progress,
-    );
-    ended.code
+    )
+    .code
 }
 
 /// Opens /dev/null to occupy a standard stream's descriptor. Where the stream was closed, a file that is opened later would else
