@@ -136,6 +136,35 @@ def are_costs(value):
     return isinstance(value, list) and len(value) == 101 and all(map(is_number, value))
 
 
+def is_table(value):
+    return isinstance(value, dict)
+
+
+class Table:
+    """A cost table: what a tenth costs by its low milliseconds, and what a second costs at the most (0: no bound)."""
+
+    def __init__(self, told, table):
+        fits = lambda costs: all(0 <= cost <= 200 for cost in costs)
+        self.low = key_of(table, told, "low", list(range(100, -1, -1)), are_costs, fits)
+        self.high = key_of(table, told, "high", list(range(101)), are_costs, fits)
+        self.second = key_of(table, told, "second", 0, is_number, within(1, 2000))
+        self.known = not set(table) - {"low", "high", "second"}
+
+    def counted(self, costs):
+        """What counts of what the ten tenths cost by each symbol of the station."""
+        if not self.second:
+            return costs
+        bounded = {symbol: min(self.second, cost) for symbol, cost in costs.items()}
+        least = min(bounded.values())
+        return {symbol: cost - least for symbol, cost in bounded.items()}
+
+
+def table_of(told, holder):
+    """The cost table that stands here, or None."""
+    table = key_of(holder, told, "table", {}, is_table, lambda value: True)
+    return Table(told, table) if "table" in holder else None
+
+
 class Receiver:
     """One receiver of a bank."""
 
@@ -147,7 +176,8 @@ class Receiver:
         self.delay = key_of(table, told, "delay_ms", 0, is_number, within(0, 500))
         self.weight = key_of(table, told, "weight", 1, is_number, within(1, 100))
         self.station = key_of(table, told, "station", station, is_text, is_station)
-        self.known = not set(table) - {"name", "log", "delay_ms", "weight", "station"}
+        self.table = table_of(told, table)
+        self.known = not set(table) - {"name", "log", "delay_ms", "weight", "station", "table"}
 
 
 class Configuration:
@@ -159,12 +189,11 @@ class Configuration:
         self.ceiling = key_of(top, "", "ceiling", GREATEST_COST, is_number, within(0, GREATEST_COST))
         tables = key_of(top, "", "receiver", None, are_tables, lambda value: 1 <= len(value) <= 8)
         self.receivers = [Receiver(number, table, station) for number, table in enumerate(tables, 1)]
-        table = key_of(top, "", "table", {}, lambda value: isinstance(value, dict), lambda value: True)
-        fits = lambda costs: all(0 <= cost <= 200 for cost in costs)
-        self.low = key_of(table, "", "low", list(range(100, -1, -1)), are_costs, fits)
-        self.high = key_of(table, "", "high", list(range(101)), are_costs, fits)
-        known = not set(top) - {"station", "ceiling", "receiver", "table"} and not set(table) - {"low", "high"}
-        if not known or not all(one.known for one in self.receivers):
+        of_bank = table_of("", top) or Table("", {})
+        for one in self.receivers:
+            one.table = one.table or of_bank
+        known = not set(top) - {"station", "ceiling", "receiver", "table"}
+        if not known or not all(one.known and one.table.known for one in self.receivers) or not of_bank.known:
             raise Refused("configuration: unknown key", 4)
         self.stations = [one for one in radio.STATIONS if any(receiver.station == one for receiver in self.receivers)]
 
@@ -235,6 +264,19 @@ def phase_of(start_edges):
     return sums.index(max(sums))
 
 
+def tenths_cost(receiver, second):
+    """What the ten tenths of a second cost by each symbol of the receiver's station."""
+    costs = dict.fromkeys(radio.LOW[receiver.station], 0)
+    for tenth in range(10):
+        part = second[100 * tenth:100 * tenth + 100]
+        if b"X" in part:
+            continue
+        n = part.count(b"L")
+        for symbol, lows in radio.LOW[receiver.station].items():
+            costs[symbol] += receiver.table.low[n] if tenth in lows else receiver.table.high[n]
+    return costs
+
+
 class Heard:
     """A bank over a window: its stations, start, phase and seconds, the range, and what each symbol costs in each slot."""
 
@@ -248,7 +290,7 @@ class Heard:
         ])
         self.costs = {station: [dict.fromkeys(radio.LOW[station], 0) for _ in range(self.seconds)] for station in self.stations}
         for receiver, records in zip(configuration.receivers, logs):
-            self.add(configuration, receiver, records)
+            self.add(receiver, records)
 
     def edges(self, receiver, records):
         """How far behind a whole second of the receiver's window its start edges lie."""
@@ -258,19 +300,13 @@ class Heard:
             if (before, level) == pair and begin <= at < begin + 1000 * self.seconds:
                 yield (at - begin) % 1000
 
-    def add(self, configuration, receiver, records):
+    def add(self, receiver, records):
         """Adds what the symbols cost at a receiver."""
         heard = levels(records, self.start + self.phase + receiver.delay, 1000 * self.seconds)
         for slot, costs in enumerate(self.costs[receiver.station]):
-            for tenth in range(10):
-                begin = 1000 * slot + 100 * tenth
-                part = heard[begin:begin + 100]
-                if b"X" in part:
-                    continue
-                n = part.count(b"L")
-                for symbol, lows in radio.LOW[receiver.station].items():
-                    table = configuration.low if tenth in lows else configuration.high
-                    costs[symbol] += receiver.weight * table[n]
+            told = receiver.table.counted(tenths_cost(receiver, heard[1000 * slot:1000 * slot + 1000]))
+            for symbol, cost in told.items():
+                costs[symbol] += receiver.weight * cost
 
 
 def read_bank(name, values):

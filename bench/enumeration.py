@@ -62,7 +62,7 @@ class Enumeration:
         self.phase = self.find_phase(configuration.receivers, logs)
         self.prices = {station: [{} for _ in range(self.seconds)] for station in self.stations}
         for receiver, records in zip(configuration.receivers, logs):
-            self.listen(configuration, receiver, records)
+            self.listen(receiver, records)
         for slots in self.prices.values():
             for price in slots:
                 price["?"] = min(price["0"], price["1"])
@@ -82,17 +82,25 @@ class Enumeration:
             return sum(max(0, 50 - min(one, 1000 - one)) for one in apart)
         return max(range(1000), key=lambda phase: (points(phase), -phase))
 
-    def listen(self, configuration, receiver, records):
+    def listen(self, receiver, records):
         times = [at for at, _ in records]
         begin = self.start + self.phase + receiver.delay
         for slot, price in enumerate(self.prices[receiver.station]):
-            for tenth in range(10):
-                first = begin + 1000 * slot + 100 * tenth
-                heard = [level_at(times, records, at) for at in range(first, first + 100)]
-                low = heard.count("L")
-                for symbol, lows in radio.LOW[receiver.station].items():
-                    one = configuration.low[low] if tenth in lows else configuration.high[low]
-                    price[symbol] = price.get(symbol, 0) + (0 if "X" in heard else receiver.weight * one)
+            first = begin + 1000 * slot
+            heard = ["".join(level_at(times, records, first + 100 * n + at) for at in range(100)) for n in range(10)]
+            plain = {symbol: self.plain_price(receiver.table, heard, lows) for symbol, lows in radio.LOW[receiver.station].items()}
+            most = receiver.table.second
+            bounded = min(most, min(plain.values()))
+            for symbol, cost in plain.items():
+                told = min(most, cost) - bounded if most else cost
+                price[symbol] = price.get(symbol, 0) + receiver.weight * told
+
+    @staticmethod
+    def plain_price(table, heard, lows):
+        """What ten tenths cost by a symbol that is low in these of them."""
+        return sum(
+            (table.low if n in lows else table.high)[part.count("L")] for n, part in enumerate(heard) if "X" not in part
+        )
 
     def text(self, station, minute, announced):
         """What the station may send in a minute."""
