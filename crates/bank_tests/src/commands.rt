@@ -66,12 +66,29 @@ fn refuses_words(rt: HostRuntime) -> Result<(), Fail> {
     Ok(())
 }
 
-const REFUSED_CONFIGURATIONS: [(&str, &str); 3] = [
+const REFUSED_CONFIGURATIONS: [(&str, &str); 7] = [
     ("", "configuration: missing station\n"),
     ("station = ", "configuration: not toml\n"),
     (
         "station = \"jjy\"\n[[receiver]]\nname = \"a\"\nlog = \"a.log\"\nstation = \"bpc\"\n",
         "configuration: out of range receiver 1 station\n",
+    ),
+    (
+        "station = \"jjy\"\n[table]\nsecond = 2001\n[[receiver]]\nname = \"a\"\nlog = \"a.log\"\n",
+        "configuration: out of range second\n",
+    ),
+    (
+        "station = \"jjy\"\n[[receiver]]\nname = \"a\"\nlog = \"a.log\"\ntable = 60\n",
+        "configuration: wrong kind receiver 1 table\n",
+    ),
+    // What is wrong with a receiver's table is told before what is wrong with the bank's.
+    (
+        "station = \"jjy\"\n[table]\nsecond = 0\n[[receiver]]\nname = \"a\"\nlog = \"a.log\"\n[receiver.table]\nsecond = 0\n",
+        "configuration: out of range receiver 1 second\n",
+    ),
+    (
+        "station = \"jjy\"\n[[receiver]]\nname = \"a\"\nlog = \"a.log\"\n[receiver.table]\nsecond = 60\nthird = 60\n",
+        "configuration: unknown key\n",
     ),
 ];
 

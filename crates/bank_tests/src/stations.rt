@@ -208,6 +208,93 @@ fn counts_by_its_own_table_and_ceiling(rt: HostRuntime) -> Result<(), Fail> {
     Ok(())
 }
 
+// The minute as DCF77 sends it, and the second receiver hears it.
+const UNDISTURBED: &str = "00000000000000000100110000001001010010101010011100001001001-";
+
+// What stands in a configuration: at the top, at the first receiver and behind it. Then what 12:00 costs, and 12:06, which is next. In the
+// two disturbed seconds, and in the two bits that tell 12:06, another symbol was heard, which differs in one tenth: 100 ms, of
+// which HIGH makes 200 where the carrier should be high, as in second 16. A receiver costs no more than its own table says, or
+// else the bank's, and then as often as its weight.
+const BOUNDED: [(&str, &str, &str, u32, u32); 8] = [
+    ("[table]\nsecond = 1\n", "", "", 2, 4),
+    ("[table]\nsecond = 60\n", "", "", 120, 240),
+    ("[table]\nsecond = 2000\n", "", "", 200, 400),
+    (
+        "[table]\nsecond = 60\n",
+        "weight = 3\n",
+        "[[receiver]]\nname = \"b\"\nlog = \"b.log\"\nweight = 2\n[receiver.table]\nsecond = 40\n",
+        360,
+        880,
+    ),
+    // A table without `second` bounds nothing.
+    (
+        "[table]\nsecond = 60\n",
+        "weight = 3\n",
+        "[[receiver]]\nname = \"b\"\nlog = \"b.log\"\n[receiver.table]\n",
+        360,
+        920,
+    ),
+    (
+        "",
+        "weight = 3\n",
+        "[[receiver]]\nname = \"b\"\nlog = \"b.log\"\n[receiver.table]\nsecond = 40\n",
+        600,
+        1280,
+    ),
+    (
+        "[table]\nsecond = 60\n",
+        "[receiver.table]\nHIGH\n",
+        "[[receiver]]\nname = \"b\"\nlog = \"b.log\"\n",
+        300,
+        620,
+    ),
+    (
+        "[table]\nsecond = 60\n",
+        "[receiver.table]\nsecond = 150\nHIGH\n",
+        "[[receiver]]\nname = \"b\"\nlog = \"b.log\"\n",
+        250,
+        570,
+    ),
+];
+
+// A configuration of these parts.
+fn config_of(alloc: Global, top: &str, first: &str, behind: &str) -> Result<String, Fail> {
+    let mut high = String::new(alloc);
+    high.push_str("high = [0")?;
+    push_high(&mut high)?;
+    high.push_str("]")?;
+    let first = first.replacen(alloc, "HIGH", &high, 1)?;
+    Ok(format!(in alloc;
+        "station = \"dcf77\"\n{top}[[receiver]]\nname = \"a\"\nlog = \"a.log\"\n{first}{behind}"
+    )?)
+}
+
+// Tells whether a decode by this configuration, of the disturbed minute and the other, comes to these costs.
+fn costs_are<R: Threads + Sync + AllocGlobal>(
+    rt: &R,
+    config: &str,
+    cost: u32,
+    next: u32,
+) -> Result<bool, Fail> {
+    let log = log_of(rt.alloc(), &DCF77_WAVES, &[DISTURBED])?;
+    let other = log_of(rt.alloc(), &DCF77_WAVES, &[UNDISTURBED])?;
+    let mut files = files_of_two(rt.alloc(), config, &log, &other)?;
+    let text = format!(in rt.alloc();
+        "decided {cost}\nphase 0\nsequence 2024-07-15T12:00Z 0 no\nnext {next}\nminute 2024-07-15T12:00Z at 0\n"
+    )?;
+    let line = "decode k.toml --seconds 60 --from 2024-07-15T12:00Z --to 2024-07-15T12:59Z";
+    tells(rt, &mut files, line, 0, &text)
+}
+
+#[test]
+fn a_second_costs_no_more_than_its_bound(rt: HostRuntime) -> Result<(), Fail> {
+    for (top, first, behind, cost, next) in BOUNDED {
+        let config = config_of(rt.alloc(), top, first, behind)?;
+        assert!(rt; costs_are(&rt, &config, cost, next)?, "{config}");
+    }
+    Ok(())
+}
+
 // Four minutes of DCF77: the first three from 2024-10-27T00:58Z on, which tell 02:59 in summer time, then 02:00 and 02:01 in
 // winter time, and the one that begins 19 minutes after the first and tells 02:18.
 const CHANGE: [&str; 3] = [

@@ -3,7 +3,7 @@
 
 ghost use Rattle.std.specs.Prelude.{◌≤◌};
 
-use crate::made::{JJY, MINUTES, files_of, printed, words};
+use crate::made::{JJY, MINUTES, clean_log, files_of, files_of_two, printed, words};
 use bank_files::MemoryFiles;
 use heard::run;
 use std::alloc::{AllocError, Global};
@@ -80,7 +80,7 @@ fn push_told(text: &mut String) -> Result<(), AllocError> {
             slot = slot.wrapping_add(1);
         }
     }
-    text.push_str("sum receiver 1 unknown 1 cost 100\n")
+    text.push_str("sum receiver 1 unknown 1 cost 100\nnext 1300\n")
 }
 
 fn push_slot(text: &mut String, minute: usize, slot: u32, symbol: char) -> Result<(), AllocError> {
@@ -132,7 +132,7 @@ const FIRST: &str =
     "slot 0 2024-06-10T06:16Z 0 dcf77 sent 0 cost 0 best 0 cost 0\nreceiver 2 unknown 10 cost 0\nslot 0 2024-06-10T06:16Z 0 jjy sent M cost 0 best M cost 0\nreceiver 1 unknown 0 cost 0\nreceiver 3 unknown 10 cost 0\n";
 
 const LAST: &str =
-    "sum receiver 1 unknown 1 cost 100\nsum receiver 2 unknown 1200 cost 0\nsum receiver 3 unknown 1200 cost 0\n";
+    "sum receiver 1 unknown 1 cost 100\nsum receiver 2 unknown 1200 cost 0\nsum receiver 3 unknown 1200 cost 0\nnext 1300\n";
 
 fn files_of_three(alloc: Global) -> Result<MemoryFiles, Fail> {
     let mut files = disturbed(alloc, THREE)?;
@@ -159,6 +159,65 @@ fn are_numbered(rt: &impl Abort, files: &MemoryFiles) {
             .contents("-")
             .is_some_and(|found| found.ends_with(LAST.as_bytes()))
     );
+}
+
+// Two receivers: a second costs the first 150 at the most, and the second, by a table of its own, 60, three times.
+const BOUNDED: &str =
+    "station = \"jjy\"\n[table]\nsecond = 150\n[[receiver]]\nname = \"a\"\nlog = \"a.log\"\n[[receiver]]\nname = \"b\"\nlog = \"b.log\"\nweight = 3\n[receiver.table]\nsecond = 60\n";
+
+// The first minute, but that in second 3, which is a 1, the first receiver heard a 0 and the second an M.
+fn files_of_bounded(alloc: Global) -> Result<MemoryFiles, Fail> {
+    let minute = MINUTES[0];
+    let first = minute.replacen(alloc, "M001", "M000", 1)?;
+    let second = minute.replacen(alloc, "M001", "M00M", 1)?;
+    let log = clean_log(alloc, &[&first], 0)?;
+    let other = clean_log(alloc, &[&second], 0)?;
+    files_of_two(alloc, BOUNDED, &log, &other)
+}
+
+// What is told of them. In second 3 another symbol than was heard costs the first receiver 150 and the second 60, which counts 180.
+fn told_of_bounded(alloc: Global, next: &str) -> Result<String, AllocError> {
+    let mut text = String::new(alloc);
+    let mut slot = 0u32;
+    for symbol in MINUTES[0].chars() {
+        let (cost, best, least, first, second) = match slot {
+            3 => (330, 'M', 150, 150, 180),
+            _ => (0, symbol, 0, 0, 0),
+        };
+        write!(
+            text,
+            "slot {slot} 2024-06-10T06:16Z {slot} jjy sent {symbol} cost {cost} best {best} cost {least}\nreceiver 1 unknown 0 cost {first}\nreceiver 2 unknown 0 cost {second}\n"
+        )?;
+        slot = slot.wrapping_add(1);
+    }
+    write!(
+        text,
+        "sum receiver 1 unknown 0 cost 150\nsum receiver 2 unknown 0 cost 180\nnext {next}\n"
+    )?;
+    Ok(text)
+}
+
+// Tells whether this is told of them under this ceiling, and this cost as the next.
+fn tells_of_bounded<R: Threads + Sync + AllocGlobal>(
+    rt: &R,
+    ceiling: u32,
+    next: &str,
+) -> Result<bool, Fail> {
+    let mut files = files_of_bounded(rt.alloc())?;
+    let config = format!(in rt.alloc(); "ceiling = {ceiling}\n{BOUNDED}")?;
+    files.put("k.toml", config.as_bytes())?;
+    let text = told_of_bounded(rt.alloc(), next)?;
+    let line = "k.toml --seconds 60 --from 2024-06-10T06:00Z --to 2024-06-10T06:59Z";
+    tells(rt, &mut files, line, 0, &text)
+}
+
+// 06:06 tells a 0 in second 3, which costs 180 there, and another parity, which costs 150 and 180.
+#[test]
+fn tells_what_bounded_seconds_cost(rt: HostRuntime) -> Result<(), Fail> {
+    for (ceiling, next) in [(510, "510"), (509, "none")] {
+        assert!(rt; tells_of_bounded(&rt, ceiling, next)?, "{ceiling}");
+    }
+    Ok(())
 }
 
 // Files whose log was emptied.

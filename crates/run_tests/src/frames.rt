@@ -1,7 +1,7 @@
 //! Runs of the commands of frames over files in memory, with ample memory. The texts are worked out by hand from
 //! docs/FORMATS.md.
 
-use crate::made::{JJY, MINUTES, files_of, printed, words};
+use crate::made::{JJY, MINUTES, MSF, MSF_WAVES, files_of, heard, printed, words};
 use bank_files::{MemoryFiles, OneByte};
 use formats::FRAMES_LIMIT;
 use frame_runs::irig;
@@ -120,6 +120,42 @@ fn has_lines(text: &[u8], count: usize, front: &[u8], end: &[u8]) -> bool {
     text.iter().filter(|byte| **byte == b'\n').count() == count
         && text.starts_with(front)
         && text.ends_with(end)
+}
+
+// The minutes of MSF from 2016-12-31T23:59Z on. The first of them has 61 seconds, of which the one behind second 16 is inserted.
+const LEAP: [&str; 2] = [
+    "M000000000000000000002022200002000002000000000000000002333320",
+    "M00000000000000000002022200002000002000000000000000202333220",
+];
+
+// What frames of two minutes tell, of which the first has the leap second.
+fn told_of_the_leap_second(alloc: Global) -> Result<String, AllocError> {
+    let mut text = String::new(alloc);
+    for second in 0..61u32 {
+        write!(text, "at {} 2016-12-31T23:59Z {second}\n", 1_000 * second)?;
+    }
+    for second in 0..59u32 {
+        write!(
+            text,
+            "at {} 2017-01-01T00:00Z {second}\n",
+            61_000 + 1_000 * second
+        )?;
+    }
+    Ok(text)
+}
+
+#[test]
+fn prints_the_frame_of_a_leap_second(rt: HostRuntime) -> Result<(), Fail> {
+    let log = heard(rt.alloc(), &MSF_WAVES, &LEAP)?;
+    let line = "irig k.toml --seconds 120 --from 2016-12-31T23:50Z --to 2017-01-01T00:09Z";
+    let (status, text) = run(&rt, MSF, &log, line)?;
+    assert_eq!(rt; status, 0);
+    let front = b"0 H\n8 L\n10 H\n12 L\n";
+    let end = b"\n119990 H\n119998 L\n";
+    assert!(rt; has_lines(&text, 24_000, front, end));
+    let told = told_of_the_leap_second(rt.alloc())?;
+    assert_eq!(rt; reads(&rt, &text, &told)?, (0, true));
+    Ok(())
 }
 
 #[test]

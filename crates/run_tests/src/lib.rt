@@ -5,6 +5,8 @@
 #[cfg(test)]
 mod certified;
 #[cfg(test)]
+mod certified_banks;
+#[cfg(test)]
 mod frames;
 #[cfg(test)]
 mod made;

@@ -24,6 +24,84 @@ pub(crate) const JJY: &str = "station = \"jjy\"\n[[receiver]]\nname = \"a\"\nlog
 
 pub(crate) const DCF77: &str = "station = \"dcf77\"\n[[receiver]]\nname = \"a\"\nlog = \"a.log\"\n";
 
+pub(crate) const MSF: &str = "station = \"msf\"\n[[receiver]]\nname = \"a\"\nlog = \"a.log\"\n";
+
+// What is low and high in the ten tenths of a second, by symbol.
+pub(crate) const JJY_WAVES: [(u8, &str); 3] = [
+    (b'0', "HHHHHHHHLL"),
+    (b'1', "HHHHHLLLLL"),
+    (b'M', "HHLLLLLLLL"),
+];
+
+pub(crate) const DCF77_WAVES: [(u8, &str); 3] = [
+    (b'0', "LHHHHHHHHH"),
+    (b'1', "LLHHHHHHHH"),
+    (b'-', "HHHHHHHHHH"),
+];
+
+pub(crate) const MSF_WAVES: [(u8, &str); 5] = [
+    (b'0', "LHHHHHHHHH"),
+    (b'1', "LHLHHHHHHH"),
+    (b'2', "LLHHHHHHHH"),
+    (b'3', "LLLHHHHHHH"),
+    (b'M', "LLLLLHHHHH"),
+];
+
+pub(crate) const WWVB_WAVES: [(u8, &str); 3] = [
+    (b'0', "LLHHHHHHHH"),
+    (b'1', "LLLLLHHHHH"),
+    (b'M', "LLLLLLLLHH"),
+];
+
+// How many tenths a log has at most.
+const MOST_TENTHS: u64 = 12_000;
+
+fn wave_of(waves: &[(u8, &'static str)], symbol: u8) -> &'static str {
+    for wave in waves {
+        if wave.0 == symbol {
+            return wave.1;
+        }
+    }
+    "XXXXXXXXXX"
+}
+
+fn name_of(level: u8) -> &'static str {
+    match level {
+        b'L' => "L",
+        b'H' => "H",
+        _ => "X",
+    }
+}
+
+// The log of a receiver without noise that hears these minutes from millisecond 0 on.
+pub(crate) fn heard(
+    alloc: Global,
+    waves: &[(u8, &'static str)],
+    minutes: &[&str],
+) -> Result<String, AllocError> {
+    let mut text = String::new(alloc);
+    let mut tenth = 0u64;
+    let mut last = b'-';
+    for minute in minutes {
+        for symbol in minute.bytes() {
+            for level in wave_of(waves, symbol).bytes() {
+                // Never reached: it bounds the sums.
+                if tenth >= MOST_TENTHS {
+                    return Ok(text);
+                }
+                if level != last {
+                    let name = name_of(level);
+                    write!(text, "{} {name}\n", 100 * tenth)?;
+                }
+                last = level;
+                tenth += 1;
+            }
+        }
+    }
+    write!(text, "{} X\n", 100 * tenth.min(MOST_TENTHS))?;
+    Ok(text)
+}
+
 // The three minutes from 2024-06-10T06:16Z on, as JJY sends them.
 pub(crate) const MINUTES: [&str; 3] = [
     "M00100110M000100101M000100110M001000110M000100100M001000000M",

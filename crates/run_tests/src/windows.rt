@@ -1,86 +1,14 @@
 //! Runs of `follow` over files in memory, with ample memory. The texts are worked out from docs/FORMATS.md and the code
 //! descriptions, by hand and by a program that tries one sequence after the other.
 
-use crate::made::{DCF77, JJY, MINUTES, files_of, printed, words};
+use crate::made::{
+    DCF77, DCF77_WAVES, JJY, JJY_WAVES, MINUTES, MSF, MSF_WAVES, files_of, heard, printed, words,
+};
 use bank_files::OneByte;
 use follow::follow;
-use std::alloc::{AllocError, Global};
 use std::test::Fail;
 use std::thread::Threads;
 use workers::NoGate;
-
-// One receiver of MSF, named a, whose log is a.log.
-const MSF: &str = "station = \"msf\"\n[[receiver]]\nname = \"a\"\nlog = \"a.log\"\n";
-
-// What is low and high in the ten tenths of a second, by symbol.
-const JJY_WAVES: [(u8, &str); 3] = [
-    (b'0', "HHHHHHHHLL"),
-    (b'1', "HHHHHLLLLL"),
-    (b'M', "HHLLLLLLLL"),
-];
-
-const DCF77_WAVES: [(u8, &str); 3] = [
-    (b'0', "LHHHHHHHHH"),
-    (b'1', "LLHHHHHHHH"),
-    (b'-', "HHHHHHHHHH"),
-];
-
-const MSF_WAVES: [(u8, &str); 5] = [
-    (b'0', "LHHHHHHHHH"),
-    (b'1', "LHLHHHHHHH"),
-    (b'2', "LLHHHHHHHH"),
-    (b'3', "LLLHHHHHHH"),
-    (b'M', "LLLLLHHHHH"),
-];
-
-// How many tenths a log has at most.
-const MOST_TENTHS: u64 = 12_000;
-
-fn wave_of(waves: &[(u8, &'static str)], symbol: u8) -> &'static str {
-    for wave in waves {
-        if wave.0 == symbol {
-            return wave.1;
-        }
-    }
-    "XXXXXXXXXX"
-}
-
-fn name_of(level: u8) -> &'static str {
-    match level {
-        b'L' => "L",
-        b'H' => "H",
-        _ => "X",
-    }
-}
-
-// The log of a receiver without noise that hears these minutes from millisecond 0 on.
-fn heard(
-    alloc: Global,
-    waves: &[(u8, &'static str)],
-    minutes: &[&str],
-) -> Result<String, AllocError> {
-    let mut text = String::new(alloc);
-    let mut tenth = 0u64;
-    let mut last = b'-';
-    for minute in minutes {
-        for symbol in minute.bytes() {
-            for level in wave_of(waves, symbol).bytes() {
-                // Never reached: it bounds the sums.
-                if tenth >= MOST_TENTHS {
-                    return Ok(text);
-                }
-                if level != last {
-                    let name = name_of(level);
-                    write!(text, "{} {name}\n", 100 * tenth)?;
-                }
-                last = level;
-                tenth += 1;
-            }
-        }
-    }
-    write!(text, "{} X\n", 100 * tenth.min(MOST_TENTHS))?;
-    Ok(text)
-}
 
 // Whether a run of this line ends with this status and prints this text.
 fn tells<R: Threads + Sync + AllocGlobal>(
