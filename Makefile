@@ -40,7 +40,7 @@ build: ## proves the programs' crates and leaves build/tsbank and build/tsheard 
 
 picture: ## draws what was heard of the sample, as docs/sample.svg
 	@$(FRESH) || $(MAKE) build
-	cd sample && ../build/tsheard dcf77.toml | ../contrib/picture > ../docs/sample.svg
+	cd sample && { ../build/tsbank decode dcf77.toml && ../build/tsheard dcf77.toml; } | ../contrib/picture --config dcf77.toml > ../docs/sample.svg
 
 install: ## puts the programs and their manual pages under PREFIX (/usr/local), and builds them first where need be
 	@$(FRESH) || $(MAKE) build
