@@ -1,0 +1,118 @@
+"""A bank in a window: its logs are cut, tsbank decodes them, and each receiver is heard alone too."""
+import re
+from collections import namedtuple
+from pathlib import Path
+
+from . import Refused, guard, phase
+from .machine import write_whole
+
+Receiver = namedtuple("Receiver", "name log delay alone")
+# What a window says, or why it is kept back; the line through its edges; what each receiver says alone, by name, as such a
+# pair of a reading and a reason; and the logs that tell nothing, with the reason. It begins at a nanosecond of the quartz.
+Window = namedtuple("Window", "begin reading why line alone silent")
+
+EVEN = 0.004               # seconds by which a part of a window may lie beside the line through all
+TABLE = re.compile(r"\s*\[\[?\s*([\w.-]+)\s*\]\]?")
+
+
+def value(text, key, otherwise):
+    found = re.search(rf"""^\s*{key}\s*=\s*(?:"([^"]*)"|'([^']*)'|(\d+))""", text, re.MULTILINE)
+    return next(one for one in found.groups() if one is not None) if found else otherwise
+
+
+def receivers_of(config):
+    """The receivers of a configuration, each with a configuration in which it stands alone."""
+    shared, parts, at = [], [], None
+    for line in config.splitlines():
+        table = TABLE.match(line)
+        if table and table[1] == "receiver":
+            at = []
+            parts.append(at)
+        elif table and not table[1].startswith("receiver."):
+            at = None
+        (shared if at is None else at).append(line)
+    # What stands in front of the first table belongs to no table, so the receiver comes behind it and before the others.
+    first = next((number for number, line in enumerate(shared) if TABLE.match(line)), len(shared))
+    top, tables = shared[:first], shared[first:]
+    found = []
+    for part in parts:
+        text = "\n".join(part)
+        name, log = value(text, "name", ""), value(text, "log", "")
+        found.append(Receiver(name, log, int(value(text, "delay_ms", 0)) / 1000, "\n".join(top + part + tables) + "\n"))
+    return found
+
+
+def cut(records, begin, seconds):
+    """The text of a log from a nanosecond of the quartz on: its times count from there. It has the record that holds at its
+    begin and one that closes it."""
+    lines = []
+    for at, level in records:
+        if lines and lines[-1][0] > 1000 * seconds:
+            break
+        ms = max(0, round((at - begin) / 1_000_000))
+        if lines and ms <= lines[-1][0]:
+            lines.pop()
+        lines.append((ms, level))
+    return "".join(f"{ms} {level}\n" for ms, level in lines)
+
+
+class Bank:
+    """A configuration, and a folder in which the cuts of its logs are decoded."""
+
+    def __init__(self, machine, asked, limits, folder, meanwhile):
+        self.machine, self.asked, self.limits, self.meanwhile = machine, asked, limits, meanwhile
+        self.cuts = Path(asked.folder or folder / "cuts")
+        self.cuts.mkdir(parents=True, exist_ok=True)
+        try:
+            config = Path(asked.config).read_text()
+        except (OSError, UnicodeDecodeError) as error:
+            raise Refused(f"{asked.config}: {error}")
+        self.receivers = receivers_of(config)
+        if len(self.receivers) < len(asked.logs):
+            raise Refused(f"{asked.config} has fewer tables [[receiver]] than there are LOGs")
+        self.alone = {}
+        for number, receiver in enumerate(self.receivers if len(self.receivers) > 1 else ()):
+            path = folder / f"alone-{number + 1}.toml"
+            path.write_text(receiver.alone)
+            self.alone[receiver.name] = path
+
+    def decode(self, config):
+        words = [self.asked.tsbank, "decode", str(config), "--start", "0", "--seconds", str(self.asked.seconds), "--workers", "1"]
+        try:
+            return self.machine.run(words, self.cuts, self.meanwhile)
+        except OSError as error:
+            raise Refused(f"{self.asked.tsbank}: {error.strerror}")
+
+    def read(self, config, begin, today):
+        status, text, errors = self.decode(config)
+        return guard.read(status, text, begin / 1e9, self.asked.seconds, self.limits, today, errors)
+
+    def hear(self, begin, records, today, silent):
+        """What the window says that begins at a nanosecond of the quartz, where `records` has those of each log by its name."""
+        seconds = self.asked.seconds
+        for name, found in records.items():
+            write_whole(self.cuts / name, cut(found, begin, seconds + 2))
+        reading, why = self.read(self.asked.config, begin, today)
+        if why:
+            return Window(begin, None, why, None, {}, silent)
+        line = self.line(begin, records, reading)
+        if line is None:
+            return Window(begin, None, "too few of its seconds begin with an edge to tell the rate of the clock", None, {}, silent)
+        if line.uneven > EVEN:
+            why = f"the clock of the logs ran unevenly, by {1000 * line.uneven:.0f} ms within it"
+            return Window(begin, None, why, line, {}, silent)
+        at = reading.heard - begin / 1e9
+        heard = reading.heard + line.middle + line.rate * (at - seconds / 2)
+        reading = reading._replace(heard=heard, offset=reading.minute - heard)
+        heard_alone = {name: self.read(config, begin, today) for name, config in self.alone.items()}
+        return Window(begin, reading, None, line, heard_alone, silent)
+
+    def line(self, begin, records, reading):
+        """The line through the edges of all receivers with which seconds begin, each less its delay."""
+        at = reading.heard - begin / 1e9
+        found = []
+        for receiver in self.receivers:
+            seconds = [((moment - begin) / 1e9, level) for moment, level in records.get(receiver.log, ())]
+            edges = [(moment - receiver.delay, level) for moment, level in phase.edges_of(seconds)]
+            found += phase.starts(edges, at % 1)
+        return phase.line(found, self.asked.seconds)
