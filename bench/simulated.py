@@ -169,7 +169,7 @@ class World:
         self.at(self.now + seconds, up)
         raise Rebooted
 
-    loggers = ()
+    loggers = receivers = ()
 
 
 class Waking:
@@ -259,10 +259,10 @@ class Machine:
 
     def run(self, words, folder, meanwhile):
         world = self.world
-        if world.broken_program:
-            return world.broken_program
-        found = world.cache.run(words, folder)
-        left = world.decode_time()
+        if isinstance(world.broken_program, Exception):
+            raise world.broken_program
+        found = world.broken_program or world.cache.run(words, folder)
+        left = 120 if found[0] is None else world.decode_time()
         while left > 0:
             self.sleep(min(1.0, left))
             left -= 1.0

@@ -6,7 +6,7 @@ from pathlib import Path
 from . import Refused, guard, phase
 from .machine import write_whole
 
-Receiver = namedtuple("Receiver", "name log delay alone")
+Receiver = namedtuple("Receiver", "name log delay station alone")
 # What a window says, or why it is kept back; the line through its edges; what each receiver says alone, by name, as such a
 # pair of a reading and a reason; and the logs that tell nothing, with the reason. It begins at a nanosecond of the quartz.
 Window = namedtuple("Window", "begin reading why line alone silent")
@@ -38,7 +38,9 @@ def receivers_of(config):
     for part in parts:
         text = "\n".join(part)
         name, log = value(text, "name", ""), value(text, "log", "")
-        found.append(Receiver(name, log, int(value(text, "delay_ms", 0)) / 1000, "\n".join(top + part + tables) + "\n"))
+        station = value(text, "station", value("\n".join(top), "station", ""))
+        alone = "\n".join(top + part + tables) + "\n"
+        found.append(Receiver(name, log, int(value(text, "delay_ms", 0)) / 1000, station, alone))
     return found
 
 

@@ -27,6 +27,7 @@ class Log:
         self.place = None          # which file it is, and up to where it was read
         self.rest = b""            # a line that is still being written
         self.missing = ""          # why it can't be read now
+        self.again = False         # whether its logger was started again, and has written no record yet
 
     def follow(self, clocks):
         """Reads what is new. A file that was cut, or took the place of another, is read from its beginning."""
@@ -79,14 +80,20 @@ class Log:
         found = RECORD.fullmatch(front)
         if found and self.fits(int(found[1]), now()):
             self.records.append((int(found[1]), found[2].decode()))
+            self.again = False
         elif front:
             self.lost()
         if sign:
             self.comment(sign + comment)
 
     def fits(self, at, now):
-        """Whether a record may have this time: later than the one before it, and not later than this moment."""
-        return (not self.records or at > self.records[-1][0]) and (now is None or at <= now + SLACK)
+        """Whether a record may have this time: later than the one before it, and not later than this moment. Where a logger
+        was started again, its clock may have been set back: then what stands before tells nothing."""
+        if now is not None and at > now + SLACK:
+            return False
+        if self.again and self.records and at <= self.records[-1][0]:
+            self.records.clear()
+        return not self.records or at > self.records[-1][0]
 
     def lost(self):
         """Something was lost here: from the last record on nothing is known, until the next one."""
@@ -103,6 +110,7 @@ class Log:
             self.records.clear()
         elif not still:
             self.lost()
+        self.again = self.again or not still
         self.section = section
 
     def refusal(self, boot, watch, begin):
