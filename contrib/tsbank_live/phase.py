@@ -51,10 +51,11 @@ def line(found, seconds):
     if len(known) < PARTS or len(parts[-1]) < FEWEST:
         return None
     rate = median((two[1] - one[1]) / (two[0] - one[0]) for one, two in combinations(known, 2))
-    middle = median(behind - rate * (at - seconds / 2) for at, behind in known)
-    beside = [abs(behind - middle - rate * (at - seconds / 2)) for at, behind in found]
-    spread = sorted(beside)[len(beside) * 2 // 3]
+    middle = sum(behind - rate * (at - seconds / 2) for at, behind in known) / len(known)
     uneven = max(abs(behind - middle - rate * (at - seconds / 2)) for at, behind in known)
-    # What chance moves a part by is taken off: six tenths of the spread of single edges, by the root of their number.
-    chance = spread / (len(found) / count) ** 0.5
-    return Line(middle, rate, 4 * spread / len(found) ** 0.5 / (seconds / 3.5), max(0, uneven - 3 * chance))
+    # What chance moves a part by is taken off: it goes by how far single edges lie beside the middle of their own part.
+    means = dict(zip((round(at / width - 0.5) for at, _ in known), (behind for _, behind in known)))
+    beside = sorted(abs(behind - means[part]) for part, values in enumerate(parts) if part in means for behind in values)
+    spread = beside[len(beside) * 2 // 3]
+    chance = spread / (len(beside) / len(known)) ** 0.5
+    return Line(middle, rate, 4 * spread / len(beside) ** 0.5 / (seconds / 3.5), max(0, uneven - 3 * chance))
