@@ -11,7 +11,7 @@ Receiver = namedtuple("Receiver", "name log delay station alone")
 # pair of a reading and a reason; and the logs that tell nothing, with the reason. It begins at a nanosecond of the quartz.
 Window = namedtuple("Window", "begin reading why line alone silent")
 
-EVEN = 0.004               # seconds by which a part of a window may lie beside the line through all
+EVEN = 0.002               # seconds by which a part of a window may lie beside the line through all
 TABLE = re.compile(r"\s*\[\[?\s*([\w.-]+)\s*\]\]?")
 
 

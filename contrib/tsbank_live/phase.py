@@ -58,4 +58,4 @@ def line(found, seconds):
     beside = sorted(abs(behind - means[part]) for part, values in enumerate(parts) if part in means for behind in values)
     spread = beside[len(beside) * 2 // 3]
     chance = spread / (len(beside) / len(known)) ** 0.5
-    return Line(middle, rate, 4 * spread / len(beside) ** 0.5 / (seconds / 3.5), max(0, uneven - 3 * chance))
+    return Line(middle, rate, 4 * spread / len(beside) ** 0.5 / (seconds / 3.5), max(0, uneven - 2.5 * chance))
