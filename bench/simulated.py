@@ -351,10 +351,10 @@ class Receiver:
         self.percent, self.jitter, self.lie, self.drift, self.lies_from = percent, jitter, lie, drift, lies_from
         self.level, self.silent = "H", False
         self.kinds = [radio.wave(low) for low in radio.LOW[station.name].values()]
-        world.at(0.0, lambda: self.second(0))
+        world.at(0.0, lambda: self.second(1))
 
     def second(self, number):
-        """Hears a second, and the next one after it."""
+        """Hears a second, half of one before it begins, and then the next one."""
         lies = number >= self.lies_from
         symbol = self.station.symbol(number, self.lie if lies else 0)
         wave = radio.wave(radio.LOW[self.station.name][symbol])
@@ -365,10 +365,10 @@ class Receiver:
         for tenth, level in enumerate(wave):
             if level != before:
                 moved = (self.chance.below(2 * self.jitter + 1) - self.jitter) / 1000 if self.jitter else 0
-                self.world.at(number + 0.1 * tenth + 0.02 + late + moved, lambda level=level: self.edge(level))
+                self.world.at(number + 0.1 * tenth + late + moved, lambda level=level: self.edge(level))
                 before = level
         self.level = before
-        self.world.at(number + 1.0, lambda: self.second(number + 1))
+        self.world.at(number + 0.5, lambda: self.second(number + 1))
 
     def edge(self, level):
         if not self.silent and self.world.on and self.world.awake:
@@ -377,7 +377,8 @@ class Receiver:
 
 class Logger:
     """Writes a log as contrib/tolog does, of one of the machine's clocks: it refuses a clock that goes back, and is started
-    again behind that."""
+    again behind that. A log of an earlier tolog doesn't say its clock: its times are Unix time (unsaid), or those of the
+    monotonic clock with a shift that was noted when the world began (shifted)."""
 
     AGAIN = 5.0
     GAP = 2200
@@ -386,7 +387,7 @@ class Logger:
         self.world, self.path, self.clock = world, path, clock
         world.files[path] = File()
         world.loggers = (*world.loggers, self)
-        self.fixed = world.shift            # what a shift would have been that was noted when the world began
+        self.fixed = world.shift
         self.stop()
         self.down = 0.0
 
@@ -395,12 +396,13 @@ class Logger:
         self.down = self.world.now + self.AGAIN
 
     def millisecond(self):
-        at = self.world.mono + {"monotonic": 0, "realtime": self.world.shift, "shifted": self.fixed}[self.clock]
+        shift = {"monotonic": 0, "realtime": self.world.shift, "unsaid": self.world.shift, "shifted": self.fixed}
+        at = self.world.mono + shift[self.clock]
         return round(at / 1e6) - (0 if self.clock == "monotonic" else 1000 * ZERO)
 
     def head(self, still=""):
-        named = {"monotonic": f" clock monotonic {self.world.boot_name} zero 0", "realtime": f" clock realtime zero {ZERO}",
-                 "shifted": f" zero {ZERO}"}[self.clock]
+        named = {"monotonic": f" clock monotonic {self.world.boot_name} zero 0",
+                 "realtime": f" clock realtime zero {ZERO}"}.get(self.clock, f" zero {ZERO}")
         self.write(f"#{still}{named}: millisecond 0 is this second\n")
         self.headed = self.millisecond()
 
