@@ -1,6 +1,7 @@
 """A bank in a window: its logs are cut, tsbank decodes them, and each receiver is heard alone too."""
 import re
 from collections import namedtuple
+from itertools import combinations
 from pathlib import Path
 
 from . import Refused, guard, phase
@@ -12,6 +13,8 @@ Receiver = namedtuple("Receiver", "name log delay station alone")
 Window = namedtuple("Window", "begin reading why line alone silent")
 
 EVEN = 0.002               # seconds by which a part of a window may lie beside the line through all
+DRIFT = 20e-6              # what the rates of two receivers may differ by
+APART = 0.008              # seconds by which the seconds of two receivers may begin apart
 TABLE = re.compile(r"\s*\[\[?\s*([\w.-]+)\s*\]\]?")
 
 
@@ -97,11 +100,8 @@ class Bank:
         reading, why = self.read(self.asked.config, begin, today)
         if why:
             return Window(begin, None, why, None, {}, silent)
-        line = self.line(begin, records, reading)
-        if line is None:
-            return Window(begin, None, "too few of its seconds begin with an edge to tell the rate of the clock", None, {}, silent)
-        if line.uneven > EVEN:
-            why = f"the clock of the logs ran unevenly, by {1000 * line.uneven:.0f} ms within it"
+        line, why = self.line(begin, records, reading)
+        if why:
             return Window(begin, None, why, line, {}, silent)
         at = reading.heard - begin / 1e9
         heard = reading.heard + line.middle + line.rate * (at - seconds / 2)
@@ -110,11 +110,29 @@ class Bank:
         return Window(begin, reading, None, line, heard_alone, silent)
 
     def line(self, begin, records, reading):
-        """The line through the edges of all receivers with which seconds begin, each less its delay."""
+        """The line through the edges of all receivers with which seconds begin, each less its delay; and why it won't do."""
         at = reading.heard - begin / 1e9
-        found = []
+        found, lines = [], {}
         for receiver in self.receivers:
             seconds = [((moment - begin) / 1e9, level) for moment, level in records.get(receiver.log, ())]
             edges = [(moment - receiver.delay, level) for moment, level in phase.edges_of(seconds)]
-            found += phase.starts(edges, at % 1)
-        return phase.line(found, self.asked.seconds)
+            some = phase.starts(edges, at % 1)
+            found += some
+            lines[receiver.name] = phase.line(some, self.asked.seconds)
+        whole = phase.line(found, self.asked.seconds)
+        if whole is None:
+            return None, "too few of its seconds begin with an edge to tell the rate of the clock"
+        if whole.uneven > EVEN:
+            return whole, f"the clock of the logs ran unevenly, by {1000 * whole.uneven:.0f} ms within it"
+        return whole, self.apart([(name, line) for name, line in lines.items() if line])
+
+    def apart(self, lines):
+        """Which two receivers hear seconds begin at different times, or at different rates, or None."""
+        for (one, first), (two, second) in combinations(lines, 2):
+            apart, drifts = second.middle - first.middle, second.rate - first.rate
+            doubt = first.doubt + second.doubt
+            if abs(apart) > APART + doubt * self.asked.seconds / 3.5:
+                return f"{two} is {1000 * apart:+.0f} ms behind {one}: its delay_ms, or a time of its own"
+            if abs(drifts) > DRIFT + doubt:
+                return f"{two} drifts from {one}, by {1e6 * drifts:+.0f} parts in a million"
+        return None

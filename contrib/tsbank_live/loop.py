@@ -15,6 +15,7 @@ SLEWED = 60                # seconds by which a clock may have been slewed withi
 HOLE = 10                  # seconds for which nobody may look at the clocks
 FASTEST = 200e-6           # what a quartz may be wrong by
 STEADY = 30e-6             # what two rates of one quartz may differ by
+BESIDE = 0.05              # seconds by which a receiver alone may hear the seconds begin beside the bank
 REMEMBERED = 1800          # seconds for which it counts what a receiver said alone
 
 
@@ -121,8 +122,11 @@ class Live:
         reading, agree = window.reading, self.limits.agree
         for name, said in self.said.items():
             now = window.alone.get(name, (None, None))[0]
-            if now and abs(now.offset - reading.offset) > agree:
-                return f"{name} alone says something else, by {now.offset - reading.offset:+.3f} s"
+            apart = now.offset - reading.offset if now else 0
+            if abs(apart) > agree:
+                return f"{name} alone says something else, by {apart:+.3f} s"
+            if abs(apart) > BESIDE:
+                return f"{name} alone hears the seconds begin {-apart:+.3f} s behind the others"
             recent = [one for one in said if reading.heard - one.heard < REMEMBERED]
             if len(recent) == 2 and abs(recent[0].offset - recent[1].offset) <= agree < abs(recent[1].offset - reading.offset):
                 return f"{name} alone said something else, by {recent[1].offset - reading.offset:+.3f} s"

@@ -10,6 +10,7 @@ from .watch import SAME, SECOND, look_of
 
 HOLD = 900                 # seconds for which sentences follow a time that was told
 LATE = 0.5                 # seconds by which a sentence may be late and no more
+MOMENT = 0.01
 
 # Chrony's struct sock_sample: the time of the sample as a struct timeval, the offset in seconds, whether it is a pulse,
 # the leap second (0 none, 1 one is inserted), padding, and a number that says what it is.
@@ -108,7 +109,8 @@ class Pacer:
         if held is None:
             return None, 0.1
         utc = held.answer.utc(clocks.raw)
-        second = math.floor(utc) + 1
+        # A second that begins in less than a moment is the one for which it was woken.
+        second = math.floor(utc + MOMENT) + 1
         return second, second - utc
 
     def beat(self, second):
