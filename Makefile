@@ -101,8 +101,8 @@ bench: ## measures the program: speed, memory, and how often its answers are wro
 	bench/wrong-answers
 
 contrib-test: ## tests the scripts of contrib/ with build/tsbank: loggers in, texts read and drawn, the guard, what daemons are told
-	contrib/test
 	contrib/test-texts
+	contrib/test
 
 contrib-daemons: ## runs contrib/live beside chronyd, ntpd and gpsd, where they are installed: some minutes
 	contrib/daemons
