@@ -45,7 +45,7 @@ class Cache:
         self.base = sqlite3.connect(path or ":memory:", isolation_level=None)
         self.base.execute("create table if not exists said (words text primary key, status int, text text, errors text)")
 
-    def run(self, words, folder):
+    def run(self, words, folder, world):
         config = Path(folder, words[2])
         parts = [" ".join(words[3:]).encode(), config.read_bytes()]
         for path in sorted(Path(folder).glob("*.log")):
@@ -71,7 +71,7 @@ class File:
 class World:
     """The true time, what happens when, and the machine's clocks."""
 
-    def __init__(self, begin, ends, quartz=0.0, behind=0.0, cache=None, leap=None):
+    def __init__(self, begin, ends, quartz=0.0, behind=0.0, decoder=None, leap=None):
         self.now, self.ends, self.begin, self.leap = 0.0, ends, begin, leap
         self.queue, self.order, self.until = [], itertools.count(), None
         self.quartz, self.freq, self.awake, self.on = quartz, 0.0, True, True
@@ -79,7 +79,7 @@ class World:
         self.shift = round((begin - behind) * NANO - self.mono)
         self.boots = itertools.count(1)
         self.boot_name = self.new_boot()
-        self.files, self.cache = {}, cache or Cache()
+        self.files, self.decoder = {}, decoder or Cache()
         self.told, self.lines = [], []
         self.sockets = {}
         self.decode_time = lambda: 0.2
@@ -261,7 +261,7 @@ class Machine:
         world = self.world
         if isinstance(world.broken_program, Exception):
             raise world.broken_program
-        found = world.broken_program or world.cache.run(words, folder)
+        found = world.broken_program or world.decoder.run(words, folder, world)
         left = 120 if found[0] is None else world.decode_time()
         while left > 0:
             self.sleep(min(1.0, left))

@@ -1,0 +1,97 @@
+"""Decodes windows as `tsbank decode` does, but over the minutes near to some alone: for bench/clocks, in a few milliseconds.
+
+The rules are those of docs/FORMATS.md, written once more (near.c) with the telegrams of radio.py. A report has the cost, the phase,
+the sequence, the next cost and the minutes, of a bank of one station, by the default cost table.
+"""
+import ctypes
+import subprocess
+import tempfile
+from datetime import datetime, timezone
+from pathlib import Path
+
+import radio
+
+from tsbank_live.bank import receivers_of
+
+HERE = Path(__file__).resolve().parent
+LENGTH = 62
+NEVER = 0x3FFFFFFF
+# Minutes before and behind that are tried, and how far off receivers may be that have a time of their own.
+AROUND, BESIDE = 70, 8
+LIES = (86_400, 7 * 86_400, 365 * 86_400)
+
+
+class Receiver(ctypes.Structure):
+    _fields_ = [("at", ctypes.POINTER(ctypes.c_long)), ("level", ctypes.c_char_p), ("count", ctypes.c_int), ("station", ctypes.c_int),
+                ("delay", ctypes.c_int), ("weight", ctypes.c_int)]
+
+
+class Near:
+    """The decoder. It must be told which time it is, and whether a leap second comes in this June or December."""
+
+    def __init__(self):
+        self.folder = tempfile.TemporaryDirectory(prefix="tsbank-near-")
+        library = Path(self.folder.name) / "near.so"
+        subprocess.run(["cc", "-shared", "-fPIC", "-O2", "-o", library, HERE / "near.c"], check=True)
+        self.library = ctypes.CDLL(str(library))
+        self.telegrams = {}
+
+    def telegram(self, station, minute, announced):
+        key = station, minute, announced
+        if key not in self.telegrams:
+            date = datetime.fromtimestamp(60 * minute, timezone.utc).replace(tzinfo=None)
+            self.telegrams[key] = radio.listing(station, date, announced).encode().ljust(LENGTH, b"\0")
+        return self.telegrams[key]
+
+    def run(self, words, folder, world):
+        """What `tsbank decode` would say: its status, and what it would write to standard output and standard error."""
+        if len(self.telegrams) > 100_000:
+            self.telegrams.clear()
+        options = dict(zip(words[3::2], words[4::2]))
+        start, seconds = int(options["--start"]), int(options["--seconds"])
+        found = receivers_of(Path(folder, words[2]).read_text())
+        receivers = (Receiver * len(found))(*(self.receiver(one, folder) for one in found))
+        station = found[0].station
+        phase = self.library.phase_of(receivers, len(found), ctypes.c_long(start), seconds)
+        keys = []
+        for announced in (False, True) if world.leap is not None else (False,):
+            for first, count in self.groups(int(world.utc()) - seconds, seconds):
+                text = b"".join(self.telegram(station, minute, announced) for minute in range(first, first + count))
+                two = (ctypes.c_int * 6)(NEVER, 0, 0, NEVER, 0, 0)
+                self.library.search(receivers, len(found), ctypes.c_long(start), seconds, phase, text, count, two)
+                keys += [(two[at], announced, two[at + 2], first + two[at + 1]) for at in (0, 3) if two[at] < NEVER]
+        return self.report(sorted(set(keys)), phase, start, seconds, station)
+
+    def groups(self, unix, seconds):
+        """The minutes that are tried, as first ones and counts: near to a time, and near to those of receivers that lie."""
+        more = seconds // 60 + 2
+        yield unix // 60 - AROUND, 2 * AROUND + more
+        for lie in LIES:
+            for sign in (-1, 1):
+                if unix + sign * lie > 946_684_800:
+                    yield (unix + sign * lie) // 60 - BESIDE, 2 * BESIDE + more
+
+    def receiver(self, one, folder):
+        lines = [line.split() for line in Path(folder, one.log).read_text().splitlines() if line and line[0] != "#"]
+        at = (ctypes.c_long * max(1, len(lines)))(*(int(words[0]) for words in lines))
+        level = "".join(words[1] for words in lines).encode()
+        return Receiver(at, level, len(lines), radio.STATIONS.index(one.station), round(1000 * one.delay), 1)
+
+    def report(self, keys, phase, start, seconds, station):
+        cost, announced, second, minute = keys[0]
+        # With and without an announcement that the window doesn't show it is one sequence.
+        others = [key for key in keys[1:] if key[2:] != (second, minute) or key[0] != cost]
+        if others and others[0][0] == cost:
+            return 1, f"undecided {cost}\nphase {phase}\n", ""
+        lines = [f"decided {cost}", f"phase {phase}", f"sequence {self.written(minute)} {second} {'yes' if announced else 'no'}",
+                 f"next {others[0][0] if others else 'none'}"]
+        for slot in range(seconds):
+            if second == 0:
+                lines.append(f"minute {self.written(minute)} at {start + phase + 1000 * slot}")
+            second += 1
+            if not self.telegram(station, minute, announced)[second]:
+                minute, second = minute + 1, 0
+        return 0, "\n".join(lines) + "\n", ""
+
+    def written(self, minute):
+        return datetime.fromtimestamp(60 * minute, timezone.utc).strftime("%Y-%m-%dT%H:%MZ")
