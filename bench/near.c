@@ -81,36 +81,39 @@ static void add_costs(const struct receiver *one, long begin, int seconds, int s
         }
 }
 
-static int set_cost(const int *slot, char set) {
-    switch (set) {
-    case '*': return 0;
-    case '?': return slot[0] < slot[1] ? slot[0] : slot[1];
-    case '-': return slot[4];
-    case 'M': return slot[5];
-    default: return slot[set - '0'];
+/* What each character of a telegram costs in each slot: 0 to 3, then - and M, then ? (0 or 1) and * (not scored). */
+#define CHARACTERS 8
+
+static void set_costs(int slots[][SYMBOLS], int seconds, int costs[][CHARACTERS]) {
+    for (int k = 0; k < seconds; k++) {
+        memcpy(costs[k], slots[k], sizeof slots[k]);
+        costs[k][6] = slots[k][0] < slots[k][1] ? slots[k][0] : slots[k][1];
+        costs[k][7] = 0;
     }
 }
 
 /* The two cheapest of the sequences that begin in some of these minutes, whose telegrams stand one behind the other. `found` gets
- * of each its cost, its minute's place and its second. A bank here has one station. */
+ * of each its cost, its minute's place and its second; those that cost as much as its second cost at the begin, or more, aren't
+ * looked for. Of a telegram each second is the number of its character, and CHARACTERS ends it. A bank here has one station. */
 void search(const struct receiver *receivers, int count, long start, int seconds, int phase, const char *telegrams, int minutes,
             int found[6]) {
-    static int slots[SECONDS][SYMBOLS];
+    static int slots[SECONDS][SYMBOLS], costs[SECONDS][CHARACTERS];
     memset(slots, 0, sizeof slots);
     for (int r = 0; r < count; r++)
         add_costs(receivers + r, start + phase + receivers[r].delay, seconds, slots);
+    set_costs(slots, seconds, costs);
     for (int first = 0; first + (seconds + 59) / 60 < minutes; first++)
-        for (int second = 0; telegrams[LENGTH * first + second]; second++) {
-            int cost = 0, minute = first, at = second;
+        for (int second = 0; telegrams[LENGTH * first + second] != CHARACTERS; second++) {
+            int cost = 0;
+            const char *minute = telegrams + LENGTH * first, *at = minute + second;
             for (int k = 0; k < seconds && cost < found[3]; k++) {
-                cost += set_cost(slots[k], telegrams[LENGTH * minute + at]);
-                if (!telegrams[LENGTH * minute + ++at]) {
-                    at = 0;
-                    minute++;
-                }
+                cost += costs[k][(int)*at++];
+                if (*at == CHARACTERS)
+                    at = minute += LENGTH;
             }
             if (cost < found[0]) {
-                memcpy(found + 3, found, 3 * sizeof *found);
+                if (found[0] < found[3])
+                    memcpy(found + 3, found, 3 * sizeof *found);
                 found[0] = cost;
                 found[1] = first;
                 found[2] = second;

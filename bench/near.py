@@ -6,6 +6,7 @@ the sequence, the next cost and the minutes, of a bank of one station, by the de
 import ctypes
 import subprocess
 import tempfile
+from array import array
 from datetime import datetime, timezone
 from pathlib import Path
 
@@ -16,8 +17,10 @@ from tsbank_live.bank import receivers_of
 HERE = Path(__file__).resolve().parent
 LENGTH = 62
 NEVER = 0x3FFFFFFF
+CHARACTERS = "0123-M?*"
+END = bytes([len(CHARACTERS)])
 # Minutes before and behind that are tried, and how far off receivers may be that have a time of their own.
-AROUND, BESIDE = 70, 8
+AROUND, BESIDE = 30, 7
 LIES = (86_400, 7 * 86_400, 365 * 86_400)
 
 
@@ -32,7 +35,7 @@ class Near:
     def __init__(self):
         self.folder = tempfile.TemporaryDirectory(prefix="tsbank-near-")
         library = Path(self.folder.name) / "near.so"
-        subprocess.run(["cc", "-shared", "-fPIC", "-O2", "-o", library, HERE / "near.c"], check=True)
+        subprocess.run(["cc", "-shared", "-fPIC", "-O3", "-o", library, HERE / "near.c"], check=True)
         self.library = ctypes.CDLL(str(library))
         self.telegrams = {}
 
@@ -40,7 +43,8 @@ class Near:
         key = station, minute, announced
         if key not in self.telegrams:
             date = datetime.fromtimestamp(60 * minute, timezone.utc).replace(tzinfo=None)
-            self.telegrams[key] = radio.listing(station, date, announced).encode().ljust(LENGTH, b"\0")
+            text = radio.listing(station, date, announced)
+            self.telegrams[key] = bytes(CHARACTERS.index(one) for one in text).ljust(LENGTH, END)
         return self.telegrams[key]
 
     def run(self, words, folder, world):
@@ -53,13 +57,15 @@ class Near:
         receivers = (Receiver * len(found))(*(self.receiver(one, folder) for one in found))
         station = found[0].station
         phase = self.library.phase_of(receivers, len(found), ctypes.c_long(start), seconds)
-        keys = []
+        keys, limit = [], NEVER
         for announced in (False, True) if world.leap is not None else (False,):
             for first, count in self.groups(int(world.utc()) - seconds, seconds):
                 text = b"".join(self.telegram(station, minute, announced) for minute in range(first, first + count))
-                two = (ctypes.c_int * 6)(NEVER, 0, 0, NEVER, 0, 0)
+                two = (ctypes.c_int * 6)(NEVER, -1, 0, limit, -1, 0)
                 self.library.search(receivers, len(found), ctypes.c_long(start), seconds, phase, text, count, two)
-                keys += [(two[at], announced, two[at + 2], first + two[at + 1]) for at in (0, 3) if two[at] < NEVER]
+                keys += [(two[at], announced, two[at + 2], first + two[at + 1]) for at in (0, 3) if two[at + 1] >= 0]
+                # Without an announcement a sequence may cost the same, so three are kept.
+                limit = sorted(key[0] for key in keys)[2] + 1 if len(keys) > 2 else NEVER
         return self.report(sorted(set(keys)), phase, start, seconds, station)
 
     def groups(self, unix, seconds):
@@ -72,10 +78,11 @@ class Near:
                     yield (unix + sign * lie) // 60 - BESIDE, 2 * BESIDE + more
 
     def receiver(self, one, folder):
-        lines = [line.split() for line in Path(folder, one.log).read_text().splitlines() if line and line[0] != "#"]
-        at = (ctypes.c_long * max(1, len(lines)))(*(int(words[0]) for words in lines))
-        level = "".join(words[1] for words in lines).encode()
-        return Receiver(at, level, len(lines), radio.STATIONS.index(one.station), round(1000 * one.delay), 1)
+        # A cut has no comment.
+        found = Path(folder, one.log).read_text().split()
+        at = (ctypes.c_long * (len(found) // 2 + 1)).from_buffer(array("l", [*map(int, found[::2]), 0]))
+        level = "".join(found[1::2]).encode()
+        return Receiver(at, level, len(found) // 2, radio.STATIONS.index(one.station), round(1000 * one.delay), 1)
 
     def report(self, keys, phase, start, seconds, station):
         cost, announced, second, minute = keys[0]
@@ -89,7 +96,7 @@ class Near:
             if second == 0:
                 lines.append(f"minute {self.written(minute)} at {start + phase + 1000 * slot}")
             second += 1
-            if not self.telegram(station, minute, announced)[second]:
+            if self.telegram(station, minute, announced)[second] == END[0]:
                 minute, second = minute + 1, 0
         return 0, "\n".join(lines) + "\n", ""
 
