@@ -19,9 +19,9 @@ LENGTH = 62
 NEVER = 0x3FFFFFFF
 CHARACTERS = "0123-M?*"
 END = bytes([len(CHARACTERS)])
-# Minutes before and behind that are tried, and how far off receivers may be that have a time of their own.
+# Minutes before and behind that are tried: near to the true time, and to those of receivers that lie.
 AROUND, BESIDE = 30, 7
-LIES = (86_400, 7 * 86_400, 365 * 86_400)
+FIRST = 946_684_800        # 2000-01-01
 
 
 class Receiver(ctypes.Structure):
@@ -59,7 +59,7 @@ class Near:
         phase = self.library.phase_of(receivers, len(found), ctypes.c_long(start), seconds)
         keys, limit = [], NEVER
         for announced in (False, True) if world.leap is not None else (False,):
-            for first, count in self.groups(int(world.utc()) - seconds, seconds):
+            for first, count in self.groups(int(world.utc()) - seconds, seconds, world.lies):
                 text = b"".join(self.telegram(station, minute, announced) for minute in range(first, first + count))
                 two = (ctypes.c_int * 6)(NEVER, -1, 0, limit, -1, 0)
                 self.library.search(receivers, len(found), ctypes.c_long(start), seconds, phase, text, count, two)
@@ -68,14 +68,13 @@ class Near:
                 limit = sorted(key[0] for key in keys)[2] + 1 if len(keys) > 2 else NEVER
         return self.report(sorted(set(keys)), phase, start, seconds, station)
 
-    def groups(self, unix, seconds):
+    def groups(self, unix, seconds, lies):
         """The minutes that are tried, as first ones and counts: near to a time, and near to those of receivers that lie."""
         more = seconds // 60 + 2
         yield unix // 60 - AROUND, 2 * AROUND + more
-        for lie in LIES:
-            for sign in (-1, 1):
-                if unix + sign * lie > 946_684_800:
-                    yield (unix + sign * lie) // 60 - BESIDE, 2 * BESIDE + more
+        for lie in lies:
+            if unix + lie > FIRST and abs(lie) > 60 * AROUND // 2:
+                yield (unix + lie) // 60 - BESIDE, 2 * BESIDE + more
 
     def receiver(self, one, folder):
         # A cut has no comment.

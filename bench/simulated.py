@@ -169,7 +169,7 @@ class World:
         self.at(self.now + seconds, up)
         raise Rebooted
 
-    loggers = receivers = ()
+    loggers = receivers = lies = ()
 
 
 class Waking:
@@ -350,25 +350,33 @@ class Receiver:
         self.world, self.station, self.logger, self.chance = world, station, logger, chance
         self.percent, self.jitter, self.lie, self.drift, self.lies_from = percent, jitter, lie, drift, lies_from
         self.level, self.silent = "H", False
-        self.kinds = [radio.wave(low) for low in radio.LOW[station.name].values()]
+        world.lies += (lie,) if lie else ()
+        self.waves = {symbol: radio.wave(low) for symbol, low in radio.LOW[station.name].items()}
+        self.kinds = list(self.waves.values())
         world.at(0.0, lambda: self.second(1))
 
     def second(self, number):
         """Hears a second, half of one before it begins, and then the next one."""
-        lies = number >= self.lies_from
+        lies, at = number >= self.lies_from, self.world.at
         symbol = self.station.symbol(number, self.lie if lies else 0)
-        wave = radio.wave(radio.LOW[self.station.name][symbol])
+        wave = self.waves[symbol]
         if self.percent and self.chance.below(100) < self.percent:
             wave = radio.other(wave, self.kinds, self.chance)
-        late = self.drift * (number - self.lies_from) if lies else 0.0
+        begins = number + (self.drift * (number - self.lies_from) if lies else 0.0)
         before = self.level
         for tenth, level in enumerate(wave):
             if level != before:
                 moved = (self.chance.below(2 * self.jitter + 1) - self.jitter) / 1000 if self.jitter else 0
-                self.world.at(number + 0.1 * tenth + late + moved, lambda level=level: self.edge(level))
+                at(begins + 0.1 * tenth + moved, self.falls if level == "L" else self.rises)
                 before = level
         self.level = before
-        self.world.at(number + 0.5, lambda: self.second(number + 1))
+        at(number + 0.5, lambda: self.second(number + 1))
+
+    def rises(self):
+        self.edge("H")
+
+    def falls(self):
+        self.edge("L")
 
     def edge(self, level):
         if not self.silent and self.world.on and self.world.awake:
