@@ -45,7 +45,7 @@ class Cache:
         self.base = sqlite3.connect(path or ":memory:", isolation_level=None)
         self.base.execute("create table if not exists said (words text primary key, status int, text text, errors text)")
 
-    def run(self, words, folder):
+    def run(self, words, folder, world):
         config = Path(folder, words[2])
         parts = [" ".join(words[3:]).encode(), config.read_bytes()]
         for path in sorted(Path(folder).glob("*.log")):
@@ -71,7 +71,7 @@ class File:
 class World:
     """The true time, what happens when, and the machine's clocks."""
 
-    def __init__(self, begin, ends, quartz=0.0, behind=0.0, cache=None, leap=None):
+    def __init__(self, begin, ends, quartz=0.0, behind=0.0, decoder=None, leap=None):
         self.now, self.ends, self.begin, self.leap = 0.0, ends, begin, leap
         self.queue, self.order, self.until = [], itertools.count(), None
         self.quartz, self.freq, self.awake, self.on = quartz, 0.0, True, True
@@ -79,7 +79,7 @@ class World:
         self.shift = round((begin - behind) * NANO - self.mono)
         self.boots = itertools.count(1)
         self.boot_name = self.new_boot()
-        self.files, self.cache = {}, cache or Cache()
+        self.files, self.decoder = {}, decoder or Cache()
         self.told, self.lines = [], []
         self.sockets = {}
         self.decode_time = lambda: 0.2
@@ -169,7 +169,7 @@ class World:
         self.at(self.now + seconds, up)
         raise Rebooted
 
-    loggers = receivers = ()
+    loggers = receivers = lies = ()
 
 
 class Waking:
@@ -261,7 +261,7 @@ class Machine:
         world = self.world
         if isinstance(world.broken_program, Exception):
             raise world.broken_program
-        found = world.broken_program or world.cache.run(words, folder)
+        found = world.broken_program or world.decoder.run(words, folder, world)
         left = 120 if found[0] is None else world.decode_time()
         while left > 0:
             self.sleep(min(1.0, left))
@@ -350,25 +350,33 @@ class Receiver:
         self.world, self.station, self.logger, self.chance = world, station, logger, chance
         self.percent, self.jitter, self.lie, self.drift, self.lies_from = percent, jitter, lie, drift, lies_from
         self.level, self.silent = "H", False
-        self.kinds = [radio.wave(low) for low in radio.LOW[station.name].values()]
+        world.lies += (lie,) if lie else ()
+        self.waves = {symbol: radio.wave(low) for symbol, low in radio.LOW[station.name].items()}
+        self.kinds = list(self.waves.values())
         world.at(0.0, lambda: self.second(1))
 
     def second(self, number):
         """Hears a second, half of one before it begins, and then the next one."""
-        lies = number >= self.lies_from
+        lies, at = number >= self.lies_from, self.world.at
         symbol = self.station.symbol(number, self.lie if lies else 0)
-        wave = radio.wave(radio.LOW[self.station.name][symbol])
+        wave = self.waves[symbol]
         if self.percent and self.chance.below(100) < self.percent:
             wave = radio.other(wave, self.kinds, self.chance)
-        late = self.drift * (number - self.lies_from) if lies else 0.0
+        begins = number + (self.drift * (number - self.lies_from) if lies else 0.0)
         before = self.level
         for tenth, level in enumerate(wave):
             if level != before:
                 moved = (self.chance.below(2 * self.jitter + 1) - self.jitter) / 1000 if self.jitter else 0
-                self.world.at(number + 0.1 * tenth + late + moved, lambda level=level: self.edge(level))
+                at(begins + 0.1 * tenth + moved, self.falls if level == "L" else self.rises)
                 before = level
         self.level = before
-        self.world.at(number + 0.5, lambda: self.second(number + 1))
+        at(number + 0.5, lambda: self.second(number + 1))
+
+    def rises(self):
+        self.edge("H")
+
+    def falls(self):
+        self.edge("L")
 
     def edge(self, level):
         if not self.silent and self.world.on and self.world.awake:

@@ -75,7 +75,7 @@ static void turn_rate(double rate) {
 static void step(int64_t by) {
     __atomic_fetch_add(&state->turn, 1, __ATOMIC_ACQ_REL);
     state->shift += by;
-    state->steps += 1;
+    state->steps += by != 0;
     __atomic_fetch_add(&state->turn, 1, __ATOMIC_ACQ_REL);
 }
 

@@ -33,6 +33,9 @@ class Log:
         """Reads what is new. A file that was cut, or took the place of another, is read from its beginning."""
         try:
             identity, size = self.machine.stat(self.path)
+            if self.place == (identity, size):
+                self.missing = ""
+                return
             position = self.position(identity, size)
             data = self.machine.read(self.path, position)
             head = b"" if self.section or self.place else self.machine.read(self.path, 0, HEAD)

@@ -7,7 +7,7 @@ from .guard import judge, leap_end, when
 from .logs import Log
 from .status import Status
 from .tell import Answer
-from .watch import SECOND, Watch
+from .watch import SAME, SECOND, Watch
 
 SPARE = 2                  # seconds behind a window that are cut too: the phase is up to one, a delay up to half of one
 SILENT = 10                # seconds without a line, at a window's end, after which a log is silent
@@ -41,8 +41,14 @@ class Live:
     def look(self):
         """Looks at the clocks and reads what is new of the logs. Where the clock was set, nobody is told by it any more."""
         clocks = self.machine.clocks()
+        slept = self.watch.looks[-1].slept if self.watch.looks else clocks.boot - clocks.mono
         if self.watch.look(clocks) and self.teller:
             self.teller.stop()
+        if abs(self.watch.looks[-1].slept - slept) > SAME:
+            # While the machine slept UTC went on and the quartz didn't: what was heard before fits nothing behind it.
+            self.windows.clear()
+            for said in self.said.values():
+                said.clear()
         for log in self.logs:
             log.follow(clocks)
         return clocks

@@ -107,7 +107,7 @@ class Pacer:
         """The next second, and how long it is until it begins; or None and a moment, where no time holds."""
         held, clocks = self.held, self.machine.clocks()
         if held is None:
-            return None, 0.1
+            return None, 1.0
         utc = held.answer.utc(clocks.raw)
         # A second that begins in less than a moment is the one for which it was woken.
         second = math.floor(utc + MOMENT) + 1
