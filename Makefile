@@ -1,6 +1,7 @@
 # What can be done here. `make` alone lists it.
 
-# Where `make install` puts the program: DESTDIR stands before PREFIX, as for packages.
+# Where `make install` puts everything: DESTDIR stands before PREFIX, as for packages. Configurations and units go by
+# SYSCONFDIR too: /etc where PREFIX is /usr or /usr/local, else PREFIX/etc.
 PREFIX ?= /usr/local
 DESTDIR ?=
 # A crate of crates.txt, for the targets that work on one: make check CRATE=pulse_log
@@ -15,7 +16,7 @@ FRESH = test -x build/tsbank && test -x build/tsheard && test -z "$$(find crates
 IN_CRATE = test -n "$$CRATE" && test -d "crates/$$CRATE" || { echo "which crate? make $@ CRATE=pulse_log" >&2; exit 2; }; \
 	cd "crates/$$CRATE"
 
-.PHONY: help run build picture install test check try quick edits plant fmt bench clean toolchain contrib-test contrib-daemons
+.PHONY: help run build picture install uninstall dist deb deb-test test check try quick edits plant fmt bench clean toolchain contrib-test contrib-daemons contrib-clocks
 
 help: ## lists these targets
 	@sed -n 's/^\([a-z-]*\):.*## \(.*\)/make \1|\2/p' Makefile | awk -F'|' '{ printf "%-21s %s\n", $$1, $$2 }'
@@ -40,14 +41,25 @@ build: ## proves the programs' crates and leaves build/tsbank and build/tsheard 
 
 picture: ## draws what was heard of the sample, as docs/sample.svg
 	@$(FRESH) || $(MAKE) build
-	cd sample && ../build/tsheard dcf77.toml | ../contrib/picture > ../docs/sample.svg
+	cd sample && { ../build/tsbank decode dcf77.toml && ../build/tsheard dcf77.toml; } | ../contrib/picture --config dcf77.toml > ../docs/sample.svg
 
-install: ## puts the programs and their manual pages under PREFIX (/usr/local), and builds them first where need be
+install: ## puts programs, manual pages, contrib's scripts, documents, completion and units under PREFIX (/usr/local)
 	@$(FRESH) || $(MAKE) build
-	install -d "$$DESTDIR$$PREFIX/bin"
-	install -m 755 build/tsbank build/tsheard "$$DESTDIR$$PREFIX/bin"
-	install -d "$$DESTDIR$$PREFIX/share/man/man1"
-	install -m 644 docs/tsbank.1 docs/tsheard.1 "$$DESTDIR$$PREFIX/share/man/man1"
+	@packaging/install install
+
+uninstall: ## removes what make install put there
+	@packaging/install uninstall
+
+dist: ## makes build/dist/tsbank-VERSION-x86_64-linux.tar.xz: what make install installs, with checksums
+	@$(FRESH) || $(MAKE) build
+	@packaging/make-dist
+
+deb: ## makes build/dist/tsbank_VERSION_amd64.deb
+	@$(FRESH) || $(MAKE) build
+	@packaging/make-deb
+
+deb-test: deb ## installs and purges that package in a new Debian 12 and 13, as root: some minutes
+	@packaging/try-deb bookworm trixie
 
 test: toolchain ## the gate: proves all, tries the edits, runs the tests and the program
 	.ci/run
@@ -88,11 +100,17 @@ bench: ## measures the program: speed, memory, and how often its answers are wro
 	bench/terminal
 	bench/wrong-answers
 
-contrib-test: ## tests the scripts of contrib/ with build/tsbank: loggers in, the guard, what daemons are told
+contrib-test: ## tests the scripts of contrib/ with build/tsbank: loggers in, texts read and drawn, the guard, what daemons are told
+	contrib/test-texts
 	contrib/test
+	contrib/test-live
 
 contrib-daemons: ## runs contrib/live beside chronyd, ntpd and gpsd, where they are installed: some minutes
 	contrib/daemons
+
+contrib-clocks: ## runs contrib/live on a hundred simulated machines whose clocks are set, slewed and worse: an hour
+	bench/clocks cases
+	bench/clocks hours
 
 clean: ## removes what was built and what checks kept (some gigabytes)
 	rm -rf crates/*/out build

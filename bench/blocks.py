@@ -1,18 +1,17 @@
 """Sequences, blocks, bounds, keys and answers, by docs/FORMATS.md alone. Nothing here knows the program.
 
-A set of symbols is a byte: a bit for each symbol, in radio.py's order, and one for a second that isn't scored. What a
-station may carry over a window is one whole number with a byte a slot, so that the union of two such is one operation.
+A set of symbols is a byte, as spans.py has it. What a station may carry over a window is one whole number with a byte a slot,
+so that the union of two such is one operation.
 """
+from bisect import bisect_left
 from datetime import timedelta
-from functools import lru_cache
-from operator import getitem
+from functools import lru_cache, reduce
+from operator import getitem, or_
 
 import radio
 from banks import BEGIN, END, written
+from spans import AHEAD, UNSCORED, Spans, row_of
 
-UNSCORED = 1 << max(map(len, radio.LOW.values()))
-# By how many minutes what a station encodes is ahead of UTC as the year 2099 ends.
-AHEAD = {"dcf77": 61, "msf": 1, "wwvb": 0, "jjy": 540}
 KEY_COSTS = 2 ** 33
 SHORTER = {"Y": "D", "D": "H", "H": "M"}
 LENGTHS = {"D": 1440, "H": 60, "M": 1}
@@ -21,6 +20,7 @@ LEAP_ENDS = {
     (BEGIN.replace(year=year, month=month, day=day, hour=23, minute=59) - BEGIN) // timedelta(minutes=1)
     for year in range(2000, 2100) for month, day in ((6, 30), (12, 31))
 }
+LEAP_ORDER = sorted(LEAP_ENDS)
 
 
 def length(announced, minute):
@@ -76,18 +76,17 @@ def sequence_of(found):
     return cost, place // 61, place % 61, minute
 
 
-def mask_of(station, character):
-    if character == "*":
-        return UNSCORED
-    symbols = list(radio.LOW[station])
-    return sum(1 << symbols.index(symbol) for symbol in ("01" if character == "?" else character))
+@lru_cache(None)
+def spans_of(station, announced):
+    return Spans(station, announced)
 
 
 @lru_cache(1_000_000)
 def row(station, announced, minute):
     """What a station may carry in a minute, a byte a second."""
-    sent = radio.listing(station, BEGIN + timedelta(minutes=minute), bool(announced))
-    return int.from_bytes(bytes(mask_of(station, character) for character in sent), "little")
+    if length(announced, minute) == 60:
+        return spans_of(station, announced).union(minute, minute + 1)
+    return row_of(station, radio.listing(station, BEGIN + timedelta(minutes=minute), True))
 
 
 def costs_of_sets(costs):
@@ -123,6 +122,7 @@ class Judge:
         self.heard, self.seconds = heard, heard.seconds
         self.sets = {station: list(map(costs_of_sets, heard.costs[station])) for station in heard.stations}
         self.silent = not any(any(costs) for sets in self.sets.values() for costs in sets)
+        # The century ends in winter.
         self.encodable = END - max(AHEAD[station] for station in heard.stations)
         self.all_slots = (1 << 8 * self.seconds) - 1
         self.unions, self.duts, self.bounds = {}, {}, {}
@@ -194,23 +194,48 @@ class Judge:
         minutes = range(lo, hi) if second < 60 else sorted(end for end in LEAP_ENDS if lo <= end < hi)
         return (minute for minute in minutes if self.is_walkable(announced, second, minute))
 
+    def even_union(self, station, announced, second, lo, hi):
+        """The union of the walks that begin in these minutes, none of which meets a minute of 61 seconds."""
+        spans = spans_of(station, announced)
+        union, slots = spans.union(lo, hi) >> 8 * second, 60 - second
+        while slots < self.seconds:
+            lo, hi = lo + 1, hi + 1
+            union |= spans.union(lo, hi) << 8 * slots
+            slots += 60
+        return union & self.all_slots
+
+    def union_of_walks(self, announced, second, minutes):
+        """The union of these walks, station by station, or None where there are none."""
+        place = announced, second, minutes
+        if place not in self.unions:
+            walked = [minute for minute in minutes if self.is_walkable(announced, second, minute)]
+            self.unions[place] = [
+                reduce(or_, (self.walk(station, announced, second, minute) for minute in walked)) for station in self.heard.stations
+            ] if walked else None
+        return self.unions[place]
+
     def union(self, block):
-        """What each station may carry in some walkable sequence of the block, or None where there is none."""
-        if block in self.unions:
-            return self.unions[block]
-        span, announced, second, *_ = block
-        if span in "YD" and second < 60:
-            found = [union for union in map(self.union, children(block)) if union]
-        else:
-            found = [
-                [self.walk(station, announced, second, minute) for station in self.heard.stations]
-                for minute in self.walkable_in(block)
-            ]
-        union = [0] * len(self.heard.stations) if found else None
-        for one in found:
-            union = [known | more for known, more in zip(union, one)]
-        self.unions[block] = union
-        return union
+        """What each station may carry in some walkable sequence of the block, or None where there is none.
+
+        Near a minute of 61 seconds each walk is gone through by itself. All others tell 60 seconds of each minute.
+        """
+        _, announced, second, lo, hi = block
+        reach = (second + self.seconds - 1) // 60
+        found, even_end = [], min(hi, self.encodable - reach)
+        for end in LEAP_ORDER[bisect_left(LEAP_ORDER, lo):bisect_left(LEAP_ORDER, hi + reach)] if announced else ():
+            first, last = max(lo, end if second == 60 else end - reach), min(hi, end + 1)
+            found.append(self.union_of_walks(announced, second, range(first, last)))
+            found.append(self.even_walks(announced, second, lo, min(first, even_end)))
+            lo = last
+        found.append(self.even_walks(announced, second, lo, even_end))
+        found = [one for one in found if one]
+        return [reduce(or_, column) for column in zip(*found)] if found else None
+
+    def even_walks(self, announced, second, lo, hi):
+        """The union of such walks, station by station, or None where there are none."""
+        if lo >= hi or second == 60:
+            return None
+        return [self.even_union(station, announced, second, lo, hi) for station in self.heard.stations]
 
     def bound(self, block):
         """The bound of a block, or None."""

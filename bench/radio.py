@@ -7,6 +7,7 @@ one, as docs/DEFINITIONS.md and docs/FORMATS.md have them. Logs are made without
 import calendar
 import random
 from datetime import datetime, timedelta
+from functools import lru_cache
 
 STATIONS = ("dcf77", "msf", "wwvb", "jjy")
 
@@ -19,15 +20,14 @@ LOW = {
 }
 
 
+@lru_cache(None)
 def digits(value, weights):
     """The bits of a number that is written digit by digit, in the order of the weights."""
-    bits = []
-    for weight in weights:
-        unit = 10 ** (len(str(weight)) - 1)
-        bits.append(value // unit % 10 // (weight // unit) % 2)
-    return bits
+    units = [10 ** (len(str(weight)) - 1) for weight in weights]
+    return tuple(value // unit % 10 // (weight // unit) % 2 for weight, unit in zip(weights, units))
 
 
+@lru_cache(None)
 def sunday(year, month, which):
     """A Sunday of a month: the first, the second, or with -1 the last."""
     days = [week[6] for week in calendar.monthcalendar(year, month) if week[6]]
