@@ -13,8 +13,7 @@ Receiver = namedtuple("Receiver", "name log delay station alone")
 Window = namedtuple("Window", "begin reading why line alone silent")
 
 EVEN = 0.002               # seconds by which a part of a window may lie beside the line through all
-DRIFT = 20e-6              # what the rates of two receivers may differ by
-APART = 0.008              # seconds by which the seconds of two receivers may begin apart
+DRIFT = 10e-6              # what the rates of two receivers may differ by
 TABLE = re.compile(r"\s*\[\[?\s*([\w.-]+)\s*\]\]?")
 
 
@@ -130,8 +129,8 @@ class Bank:
         """Which two receivers hear seconds begin at different times, or at different rates, or None."""
         for (one, first), (two, second) in combinations(lines, 2):
             apart, drifts = second.middle - first.middle, second.rate - first.rate
-            doubt = first.doubt + second.doubt
-            if abs(apart) > APART + doubt * self.asked.seconds / 3.5:
+            doubt = (first.doubt + second.doubt) / 2
+            if abs(apart) > self.asked.apart / 1000 + doubt * self.asked.seconds / 3.5:
                 return f"{two} is {1000 * apart:+.0f} ms behind {one}: its delay_ms, or a time of its own"
             if abs(drifts) > DRIFT + doubt:
                 return f"{two} drifts from {one}, by {1e6 * drifts:+.0f} parts in a million"

@@ -42,7 +42,7 @@ def failure(status, text, errors):
         return "tsbank took longer than two minutes"
     if status < 0:
         return f"tsbank was ended by signal {-status}"
-    if status > 2:
+    if status > 2 or read_report(text).kind == "":
         return f"tsbank ended with status {status}: {said or 'without a word'}"
     return None
 

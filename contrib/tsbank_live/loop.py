@@ -3,10 +3,11 @@ from collections import deque
 
 from . import Refused
 from .bank import Bank, Window
-from .guard import judge, leap_end, when
+from .guard import judge, when
 from .logs import Log
+from .phase import PART, PARTS, slope
 from .status import Status
-from .tell import Answer
+from .tell import HOLD, Answer
 from .watch import SAME, SECOND, Watch
 
 SPARE = 2                  # seconds behind a window that are cut too: the phase is up to one, a delay up to half of one
@@ -16,6 +17,8 @@ HOLE = 10                  # seconds for which nobody may look at the clocks
 FASTEST = 200e-6           # what a quartz may be wrong by
 STEADY = 30e-6             # what two rates of one quartz may differ by
 BESIDE = 0.05              # seconds by which a receiver alone may hear the seconds begin beside the bank
+ALIKE = 15e-6              # what two rates may differ by that bear each other out
+BRIEFLY = 20               # seconds for which sentences follow a time whose rate isn't known well
 REMEMBERED = 1800          # seconds for which it counts what a receiver said alone
 
 
@@ -98,7 +101,7 @@ class Live:
     def judged(self, end):
         """The window that ends at a nanosecond of the quartz, the answer that it gives, and why that is kept back. Windows
         that overlap share their noise, and may agree on a wrong time: so the one that it is held against ended before it."""
-        begin = end - self.span * SECOND
+        begin, slept = end - self.span * SECOND, self.slept()
         front = self.front(begin)
         since = front.begin if front else begin - self.span * SECOND
         window = self.window(begin, since)
@@ -111,9 +114,47 @@ class Live:
         if why:
             return window, None, f"{why} ({front.why})" if front.why else why
         rate = (window.reading.offset - front.reading.offset) / (window.reading.heard - front.reading.heard)
-        answer = Answer(window.reading.minute, window.reading.heard, window.reading.offset, rate,
-                        window.reading.cost, window.reading.margin, window.reading.leap)
-        return window, answer, self.rated(rate, window.line) or self.dissent(window) or self.leapt(answer, end)
+        why = self.rated(rate, window.line) or self.dissent(window)
+        # A sleep of the machine while it was decoded is seen by how long it had slept before.
+        answer = (self.carried(window, rate) if self.watched(since) else self.ending(window, rate))._replace(slept=slept)
+        return window, answer, why or self.unwatched(end, since)
+
+    def watched(self, since):
+        """Whether it is known how the clock was slewed from a nanosecond of the quartz on."""
+        return self.watch.since(since + self.watch.looks[-1].slew) is not None
+
+    def carried(self, window, rate):
+        """The answer of the minute in the window's middle, which is carried on by the rate between both windows."""
+        return self.answer(window, window.reading.heard, window.reading.offset, rate)
+
+    def ending(self, window, between):
+        """The answer of the window's last part: slews in front of it that nobody watched don't move that. The rate is the one
+        between both windows where the window's own bears it out, else that of the parts that were watched, or none. Sentences
+        don't follow it for long."""
+        line, reading = window.line, window.reading
+        begin, begins = window.begin / 1e9, self.watch.raw(self.watch.begins()) / 1e9
+        watched = [part for part in line.parts if begin + part[0] - PART / 2 >= begins]
+        rate = -slope(watched) if len(watched) >= PARTS else 0.0
+        if abs(between + line.rate) < ALIKE:
+            rate = between
+        last, behind = line.parts[-1]
+        beside = behind - line.middle - line.rate * (last - self.asked.seconds / 2)
+        at = begin + last
+        offset = reading.offset - line.rate * (at - reading.heard) - beside
+        return self.answer(window, at, offset, rate)._replace(hold=BRIEFLY)
+
+    def answer(self, window, at, offset, rate):
+        reading = window.reading
+        return Answer(reading.minute, at, offset, rate, reading.cost, reading.margin, reading.leap, 0, HOLD)
+
+    def slept(self):
+        return self.watch.looks[-1].slept
+
+    def unwatched(self, end, since):
+        """After a start at least the last part of a window must have been watched."""
+        if self.asked.once or self.watched(since) or self.watched(end - (PART + SPARE) * SECOND):
+            return None
+        return "the clocks weren't watched through the window's last minute yet"
 
     def rated(self, rate, line):
         """Why the rate of a quartz keeps an answer back, or None."""
@@ -136,12 +177,6 @@ class Live:
             recent = [one for one in said if reading.heard - one.heard < REMEMBERED]
             if len(recent) == 2 and abs(recent[0].offset - recent[1].offset) <= agree < abs(recent[1].offset - reading.offset):
                 return f"{name} alone said something else, by {recent[1].offset - reading.offset:+.3f} s"
-        return None
-
-    def leapt(self, answer, end):
-        """A time that was heard before a leap second may lie isn't told behind it."""
-        if answer.utc(end) + self.asked.lag >= leap_end(answer.minute):
-            return "a June or December ended behind the minute that was heard, perhaps with a leap second"
         return None
 
     # Telling
@@ -170,6 +205,8 @@ class Live:
 
     def tell(self, window, answer):
         offset, sent, wrong = self.teller.tell(answer)
+        if offset is None:
+            return self.kept(window, answer, wrong[0])
         asked = sent + len(wrong)
         word = "told" if sent else "not told" if asked else "would be told"
         failed = "".join(f"; {one}" for one in wrong)
@@ -222,6 +259,12 @@ class Replay(Live):
 
     def refusals(self, since):
         return {}
+
+    def watched(self, since):
+        return True
+
+    def slept(self):
+        return 0
 
     def replay(self):
         """All windows; answers how many would be told and how many kept back."""

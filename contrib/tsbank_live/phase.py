@@ -9,12 +9,13 @@ from itertools import combinations
 from statistics import median
 
 # Seconds by which the edges lie behind the phase in the window's middle; seconds a second by which that grows; what the rate
-# may be wrong by; and by how many seconds the part lies beside the line that does most.
-Line = namedtuple("Line", "middle rate doubt uneven")
+# may be wrong by; by how many seconds the part lies beside the line that does most; and each part, as a pair of the time of its
+# middle and of how far its edges lie behind.
+Line = namedtuple("Line", "middle rate doubt uneven parts")
 
 NEAR = 0.090               # an edge that is farther from the phase doesn't begin a second
 FEWEST = 10                # edges of a part, and without them it tells nothing
-PARTS = 3                  # the fewest that tell a line, the last among them
+PARTS = 3                  # the fewest that tell a line: all but one, with the last
 PART = 60                  # seconds of one
 
 
@@ -42,15 +43,20 @@ def inner_mean(values):
     return sum(inner) / len(inner)
 
 
+def slope(parts):
+    """By how much more the edges of a part lie behind than those of a part a second before."""
+    return median((two[1] - one[1]) / (two[0] - one[0]) for one, two in combinations(parts, 2))
+
+
 def line(found, seconds):
     """The line through pairs of a time in a window and a distance, or None where too few of its parts tell something."""
     count = max(PARTS, round(seconds / PART))
     width = seconds / count
     parts = [[behind for at, behind in found if part * width <= at < (part + 1) * width] for part in range(count)]
     known = [((part + 0.5) * width, inner_mean(values)) for part, values in enumerate(parts) if len(values) >= FEWEST]
-    if len(known) < PARTS or len(parts[-1]) < FEWEST:
+    if len(known) < max(PARTS, count - 1) or len(parts[-1]) < FEWEST:
         return None
-    rate = median((two[1] - one[1]) / (two[0] - one[0]) for one, two in combinations(known, 2))
+    rate = slope(known)
     middle = sum(behind - rate * (at - seconds / 2) for at, behind in known) / len(known)
     uneven = max(abs(behind - middle - rate * (at - seconds / 2)) for at, behind in known)
     # What chance moves a part by is taken off: it goes by how far single edges lie beside the middle of their own part.
@@ -58,4 +64,4 @@ def line(found, seconds):
     beside = sorted(abs(behind - means[part]) for part, values in enumerate(parts) if part in means for behind in values)
     spread = beside[len(beside) * 2 // 3]
     chance = spread / (len(beside) / len(known)) ** 0.5
-    return Line(middle, rate, 4 * spread / len(beside) ** 0.5 / (seconds / 3.5), max(0, uneven - 2.5 * chance))
+    return Line(middle, rate, 4 * spread / len(beside) ** 0.5 / (seconds / 3.5), max(0, uneven - 2.5 * chance), known)

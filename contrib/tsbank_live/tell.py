@@ -8,7 +8,7 @@ from collections import namedtuple
 from .guard import leap_day, leap_end
 from .watch import SAME, SECOND, look_of
 
-HOLD = 900                 # seconds for which sentences follow a time that was told
+HOLD = 180                 # seconds for which sentences follow a time that was told
 LATE = 0.5                 # seconds by which a sentence may be late and no more
 MOMENT = 0.01
 
@@ -18,9 +18,10 @@ SOCK_FORMAT = "@lldiiii"
 SOCK_MAGIC = 0x534F434B
 
 
-class Answer(namedtuple("Answer", "minute heard offset rate cost margin leap")):
-    """What two windows say: when a minute began, by the quartz, in seconds; by how much UTC is ahead of it; and by how much
-    that grows a second."""
+class Answer(namedtuple("Answer", "minute heard offset rate cost margin leap slept hold")):
+    """What two windows say: a minute; when it was so much UTC, by the quartz, in seconds; by how much UTC is ahead of it; by how
+    much that grows a second; for how long the machine had slept by then, in nanoseconds; and for how many seconds sentences may
+    follow it."""
 
     def utc(self, raw):
         """UTC at a nanosecond of the quartz, in Unix time."""
@@ -30,6 +31,14 @@ class Answer(namedtuple("Answer", "minute heard offset rate cost margin leap")):
     def behind(self, clocks):
         """What the real time clock is to be moved by, as it shows now."""
         return self.utc(clocks.raw) - clocks.real / 1e9
+
+    def spoilt(self, clocks):
+        """Why the answer holds no more, or None."""
+        if abs(clocks.boot - clocks.mono - self.slept) > SAME:
+            return "the machine slept meanwhile"
+        if self.utc(clocks.raw) >= leap_end(self.minute):
+            return "a June or December ended behind the minute that was heard, perhaps with a leap second"
+        return None
 
     def leap_today(self):
         """Daemons take the leap second for the end of the day or of the month, so it is told on its own day alone."""
@@ -98,7 +107,7 @@ class Pacer:
         self.machine, self.send, self.with_rmc, self.held = machine, send, with_rmc, None
 
     def tell(self, answer, clocks):
-        self.held = Held(answer, look_of(clocks), clocks.mono + HOLD * SECOND)
+        self.held = Held(answer, look_of(clocks), clocks.mono + answer.hold * SECOND)
 
     def stop(self):
         self.held = None
@@ -119,8 +128,8 @@ class Pacer:
         if held is None:
             return
         look = look_of(clocks)
-        moved = abs(look.shift - held.look.shift) > SAME or abs(look.slept - held.look.slept) > SAME
-        if moved or clocks.mono > held.until or second >= leap_end(held.answer.minute):
+        moved = abs(look.shift - held.look.shift) > SAME or clocks.mono > held.until
+        if moved or held.answer.spoilt(clocks) or second >= leap_end(held.answer.minute):
             self.held = None
         elif 0 <= held.answer.utc(clocks.raw) - second + 0.001 < LATE:
             try:
@@ -147,9 +156,12 @@ class Teller:
             machine.beside(self.pacer.run)
 
     def tell(self, answer):
-        """Tells an answer. Answers the offset that was told, to how many it was told, and what went wrong."""
+        """Tells an answer, or nothing where it holds no more. Answers the offset that was told, to how many it was told, and what
+        went wrong."""
         clocks = self.machine.clocks()
         sent, wrong = 0, []
+        if answer.spoilt(clocks):
+            return None, 0, [answer.spoilt(clocks)]
         if self.sock:
             try:
                 self.machine.send(self.sock, sock_sample(answer, clocks))

@@ -44,6 +44,13 @@ class Watch:
         holes = any(after.mono - before.mono > self.hole for before, after in zip(looks, looks[1:]))
         return looks if looks and not holes else None
 
+    def begins(self):
+        """The monotonic time since which somebody looked often enough."""
+        for after, before in zip(reversed(self.times), reversed(self.times[:-1])):
+            if after - before > self.hole:
+                return after
+        return self.times[0]
+
     def unset(self, begin):
         """Whether it is known that the real time clock wasn't set, nor the machine asleep, from this moment on."""
         looks = self.since(begin)

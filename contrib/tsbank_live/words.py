@@ -24,6 +24,7 @@ def add_guard(parser):
     parser.add_argument("--cost", type=float, default=150, help="the most that a window costs a second: 150 for one receiver")
     parser.add_argument("--margin", type=int, default=100, help="the least margin: 100")
     parser.add_argument("--agree", type=float, default=1, help="seconds within which two windows agree: 1")
+    parser.add_argument("--apart", type=float, default=3, help="milliseconds by which receivers may hear seconds begin apart: 3")
     parser.add_argument("--days", type=float, help="the most days from the machine's date")
     parser.add_argument("--tsbank", help="the program: beside this one, in PATH, or in build/")
     parser.add_argument("--folder", help="where the cuts are written: a new folder, which is removed")
