@@ -339,15 +339,9 @@ struct Lists<'a> {
 }
 
 impl<'a> Lists<'a> {
-    // The line, or the list that an empty one stands for.
-    fn line(self, line: &'a str, is_low: bool) -> &'a str {
-        if !line.is_empty() {
-            line
-        } else if is_low {
-            self.low
-        } else {
-            self.high
-        }
+    // That of the key.
+    fn of(self, is_low: bool) -> &'a str {
+        if is_low { self.low } else { self.high }
     }
 }
 
@@ -356,9 +350,15 @@ fn of_receiver<'a>(number: usize, at: usize, receiver: u8, lists: Lists<'a>) -> 
     let Some((value, line, wrong)) = BAD_OF_RECEIVER.get(number) else {
         return NOWHERE;
     };
+    // An empty line stands for the list.
+    let line = if line.is_empty() {
+        lists.of(*value == OWN_LOW)
+    } else {
+        *line
+    };
     BadLine {
         place: at.saturating_add(*value),
-        line: lists.line(line, *value == OWN_LOW),
+        line,
         fault: fault_at(*wrong, key_of(*value, receiver)),
     }
 }
@@ -368,9 +368,15 @@ fn of_table<'a>(number: usize, lists: Lists<'a>) -> BadLine<'a> {
     let Some((place, line, wrong)) = BAD_OF_TABLE.get(number) else {
         return NOWHERE;
     };
+    // An empty line stands for the list.
+    let line = if line.is_empty() {
+        lists.of(*place == LOW)
+    } else {
+        *line
+    };
     BadLine {
         place: *place,
-        line: lists.line(line, *place == LOW),
+        line,
         fault: fault_at(*wrong, table_key(*place)),
     }
 }
