@@ -13,7 +13,7 @@ from .watch import SAME, SECOND, Watch
 SPARE = 2                  # seconds behind a window that are cut too: the phase is up to one, a delay up to half of one
 SILENT = 10                # seconds without a line, at a window's end, after which a log is silent
 SLEWED = 60                # seconds by which a clock may have been slewed within two windows
-HOLE = 10                  # seconds for which nobody may look at the clocks
+HOLE = 15                  # seconds for which nobody may look at the clocks, as while live is started again
 FASTEST = 200e-6           # what a quartz may be wrong by
 STEADY = 30e-6             # what two rates of one quartz may differ by
 BESIDE = 0.05              # seconds by which a receiver alone may hear the seconds begin beside the bank
@@ -228,15 +228,17 @@ class Live:
         return told
 
     def run(self):
-        """A look each second, and a window each minute, by a clock that nobody sets."""
+        """A look each second, and a window each minute, by a clock that nobody sets. The second comes as soon as the last part of
+        a window was watched."""
         due = self.machine.clocks().mono
+        settled = due + round((PART + SPARE + self.asked.lag + 1) * SECOND)
         while True:
             now = self.look().mono
             if now >= due:
                 self.step()
                 self.keep()
                 now = self.machine.clocks().mono
-                due = max(due + self.asked.step * SECOND, now)
+                due = settled if now < settled else max(due + self.asked.step * SECOND, now)
             self.machine.sleep(1 - now % SECOND / 1e9)
 
 
