@@ -90,6 +90,7 @@ bench: ## measures the program: speed, memory, and how often its answers are wro
 
 contrib-test: ## tests the scripts of contrib/ with build/tsbank: loggers in, the guard, what daemons are told
 	contrib/test
+	contrib/test-fit
 
 contrib-daemons: ## runs contrib/live beside chronyd, ntpd and gpsd, where they are installed: some minutes
 	contrib/daemons
