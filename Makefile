@@ -88,9 +88,9 @@ bench: ## measures the program: speed, memory, and how often its answers are wro
 	bench/terminal
 	bench/wrong-answers
 
-contrib-test: ## tests the scripts of contrib/ with build/tsbank: loggers in, the guard, what daemons are told
-	contrib/test
+contrib-test: ## tests the scripts of contrib/ with build/tsbank: loggers in, fitted costs, the guard, what daemons are told
 	contrib/test-fit
+	contrib/test
 
 contrib-daemons: ## runs contrib/live beside chronyd, ntpd and gpsd, where they are installed: some minutes
 	contrib/daemons
