@@ -15,7 +15,7 @@ FRESH = test -x build/tsbank && test -x build/tsheard && test -z "$$(find crates
 IN_CRATE = test -n "$$CRATE" && test -d "crates/$$CRATE" || { echo "which crate? make $@ CRATE=pulse_log" >&2; exit 2; }; \
 	cd "crates/$$CRATE"
 
-.PHONY: help run build picture install test check try quick edits plant fmt bench clean toolchain contrib-test contrib-daemons
+.PHONY: help run build picture install test check try quick edits plant fmt bench clean toolchain contrib-test contrib-daemons contrib-clocks
 
 help: ## lists these targets
 	@sed -n 's/^\([a-z-]*\):.*## \(.*\)/make \1|\2/p' Makefile | awk -F'|' '{ printf "%-21s %s\n", $$1, $$2 }'
@@ -91,9 +91,14 @@ bench: ## measures the program: speed, memory, and how often its answers are wro
 contrib-test: ## tests the scripts of contrib/ with build/tsbank: loggers in, fitted costs, the guard, what daemons are told
 	contrib/test-fit
 	contrib/test
+	contrib/test-live
 
 contrib-daemons: ## runs contrib/live beside chronyd, ntpd and gpsd, where they are installed: some minutes
 	contrib/daemons
+
+contrib-clocks: ## runs contrib/live on a hundred simulated machines whose clocks are set, slewed and worse: an hour
+	bench/clocks cases
+	bench/clocks hours
 
 clean: ## removes what was built and what checks kept (some gigabytes)
 	rm -rf crates/*/out build
