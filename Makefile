@@ -100,8 +100,9 @@ bench: ## measures the program: speed, memory, and how often its answers are wro
 	bench/terminal
 	bench/wrong-answers
 
-contrib-test: ## tests the scripts of contrib/ with build/tsbank: loggers in, texts read and drawn, the guard, what daemons are told
+contrib-test: ## tests the scripts of contrib/ with build/tsbank: loggers in, texts read and drawn, fitted costs, the guard, what daemons are told
 	contrib/test-texts
+	contrib/test-fit
 	contrib/test
 	contrib/test-live
 

@@ -22,6 +22,14 @@ def value(text, key, otherwise):
     return next(one for one in found.groups() if one is not None) if found else otherwise
 
 
+def bound_of(alone):
+    """What a second costs at the most the receiver of a configuration in which it stands alone, or None."""
+    # A table of its own is in place of the bank's, and leaves nothing to it.
+    table = alone.split("[receiver.table]", 1)[1].split("\n[", 1)[0] if "[receiver.table]" in alone else alone
+    bound = value(table, "second", None)
+    return int(value(alone, "weight", 1)) * int(bound) if bound else None
+
+
 def receivers_of(config):
     """The receivers of a configuration, each with a configuration in which it stands alone."""
     shared, parts, at = [], [], None

@@ -4,7 +4,10 @@ import os
 import shutil
 from pathlib import Path
 
+from .bank import bound_of, receivers_of
+
 HERE = Path(__file__).resolve().parent.parent
+MARGIN = 100               # the least margin where a second has no bound
 
 
 def find_program(name):
@@ -22,7 +25,7 @@ def add_guard(parser):
     parser.add_argument("--lag", type=float, default=3, help="seconds by which logs are behind: 3")
     parser.add_argument("--zero", type=int, help="the second of Unix time that is millisecond 0, of logs that don't say it")
     parser.add_argument("--cost", type=float, default=150, help="the most that a window costs a second: 150 for one receiver")
-    parser.add_argument("--margin", type=int, default=100, help="the least margin: 100")
+    parser.add_argument("--margin", type=int, help="the least margin: half of what a second costs a receiver at the most, or 100")
     parser.add_argument("--agree", type=float, default=1, help="seconds within which two windows agree: 1")
     parser.add_argument("--apart", type=float, default=3, help="milliseconds by which receivers may hear seconds begin apart: 3")
     parser.add_argument("--days", type=float, help="the most days from the machine's date")
@@ -52,7 +55,18 @@ def live_words(words, usage):
     return settled(asked)
 
 
+def least_margin(config):
+    """Half of what a second costs a receiver at the most, by the greatest of them; where one has no bound 100."""
+    try:
+        bounds = [bound_of(one.alone) for one in receivers_of(Path(config).read_text())]
+    except (OSError, UnicodeDecodeError):
+        return MARGIN      # tsbank refuses it
+    return max(bounds) // 2 if bounds and None not in bounds else MARGIN
+
+
 def settled(asked):
+    if asked.margin is None:
+        asked.margin = least_margin(asked.config)
     asked.tsbank = asked.tsbank or find_program("tsbank") or "tsbank"
     if "/" in asked.tsbank:
         asked.tsbank = os.path.abspath(asked.tsbank)
