@@ -393,7 +393,10 @@ const OWN_TABLES: [(&str, &str, &str, [u8; 6], Option<u16>); 5] = [
 ];
 
 // The configuration with this table of a receiver's own.
-fn text_with_own(alloc: Global, own: (&str, &str, &str)) -> Result<String, AllocError> {
+fn text_with_own<'a>(
+    alloc: Global,
+    own: (&'a str, &'a str, &'a str),
+) -> Result<String, AllocError> {
     let pieces = [
         (BANK_AND_OWN_TABLE, 1),
         (own.0, 1),
