@@ -331,42 +331,46 @@ fn table_key(place: usize) -> Key {
     }
 }
 
-// A list that is out of range, by the key of each.
-#[derive(Clone, Copy)]
-struct Lists<'a> {
+// One of those of a receiver, whose lines begin at this place, with these lists out of range.
+fn of_receiver<'a>(
+    number: usize,
+    at: usize,
+    receiver: u8,
     low: &'a str,
     high: &'a str,
-}
-
-impl<'a> Lists<'a> {
-    // That of the key.
-    fn of(self, is_low: bool) -> &'a str {
-        if is_low { self.low } else { self.high }
-    }
-}
-
-// One of those of a receiver, whose lines begin at this place.
-fn of_receiver<'a>(number: usize, at: usize, receiver: u8, lists: Lists<'a>) -> BadLine<'a> {
-    let Some((value, line, wrong)) = BAD_OF_RECEIVER.get(number) else {
+) -> BadLine<'a> {
+    if number >= OWN {
         return NOWHERE;
-    };
-    // An empty line stands for the list.
-    let line = if line.is_empty() {
-        lists.of(*value == OWN_LOW)
+    }
+    let rows = &BAD_OF_RECEIVER;
+    let (value, own, wrong) = rows[number];
+    let line = if !own.is_empty() {
+        own
+    } else if value == OWN_LOW {
+        low
     } else {
-        *line
+        high
     };
     BadLine {
-        place: at.saturating_add(*value),
+        place: at.saturating_add(value),
         line,
-        fault: fault_at(*wrong, key_of(*value, receiver)),
+        fault: fault_at(wrong, key_of(value, receiver)),
     }
 }
 
-// One of those of the bank's cost table.
-fn of_table<'a>(number: usize, lists: Lists<'a>) -> BadLine<'a> {
-    let Some((place, line, wrong)) = BAD_OF_TABLE.get(number) else {
+// One of those of the bank's cost table, with these lists out of range.
+fn of_table<'a>(number: usize, low: &'a str, high: &'a str) -> BadLine<'a> {
+    if number >= COSTS {
         return NOWHERE;
+    }
+    let rows = &BAD_OF_TABLE;
+    let (place, own, wrong) = rows[number];
+    let line = if !own.is_empty() {
+        own
+    } else if place == LOW {
+        low
+    } else {
+        high
     };
     // An empty line stands for the list.
     let line = if line.is_empty() {
@@ -375,9 +379,9 @@ fn of_table<'a>(number: usize, lists: Lists<'a>) -> BadLine<'a> {
         *line
     };
     BadLine {
-        place: *place,
+        place,
         line,
-        fault: fault_at(*wrong, table_key(*place)),
+        fault: fault_at(wrong, table_key(place)),
     }
 }
 
@@ -394,21 +398,21 @@ fn unknown(number: usize) -> BadLine<'static> {
 }
 
 // One of all of them, in the order in which they are judged.
-fn bad_line<'a>(number: usize, lists: Lists<'a>) -> BadLine<'a> {
+fn bad_line<'a>(number: usize, low: &'a str, high: &'a str) -> BadLine<'a> {
     if number < TOP {
         return at_the_top(number);
     }
     let number = number - TOP;
     if number < OWN {
-        return of_receiver(number, FIRST, 1, lists);
+        return of_receiver(number, FIRST, 1, low, high);
     }
     let number = number - OWN;
     if number < OWN {
-        return of_receiver(number, SECOND, 2, lists);
+        return of_receiver(number, SECOND, 2, low, high);
     }
     let number = number - OWN;
     if number < COSTS {
-        return of_table(number, lists);
+        return of_table(number, low, high);
     }
     unknown(number - COSTS)
 }
@@ -436,11 +440,11 @@ fn first_decides(rt: &(impl Abort + AllocGlobal), first: BadLine<'_>, second: Ba
 }
 
 // Each fault alone, and with each of those that are judged later.
-fn first_of_two_decides<'a>(rt: &(impl Abort + AllocGlobal), lists: Lists<'a>) {
+fn first_of_two_decides(rt: &(impl Abort + AllocGlobal), low: &str, high: &str) {
     for i in 0..BAD_LINES {
-        let first = bad_line(i, lists);
+        let first = bad_line(i, low, high);
         for k in i..BAD_LINES {
-            first_decides(rt, first, bad_line(k, lists));
+            first_decides(rt, first, bad_line(k, low, high));
         }
     }
 }
@@ -449,11 +453,7 @@ fn first_of_two_decides<'a>(rt: &(impl Abort + AllocGlobal), lists: Lists<'a>) {
 fn first_fault_decides(rt: HostRuntime) -> Result<(), Fail> {
     let low = text_of(rt.alloc(), &[("low = [", 1), ("1, ", 100), ("201]\n", 1)])?;
     let high = text_of(rt.alloc(), &[("high = [", 1), ("1, ", 100), ("201]\n", 1)])?;
-    let lists = Lists {
-        low: &low,
-        high: &high,
-    };
-    first_of_two_decides(&rt, lists);
+    first_of_two_decides(&rt, &low, &high);
     Ok(())
 }
 
