@@ -372,12 +372,6 @@ fn of_table<'a>(number: usize, low: &'a str, high: &'a str) -> BadLine<'a> {
     } else {
         high
     };
-    // An empty line stands for the list.
-    let line = if line.is_empty() {
-        lists.of(*place == LOW)
-    } else {
-        *line
-    };
     BadLine {
         place,
         line,
